@@ -69,42 +69,42 @@ fn living_of(number: Option<ChildNumber>, act: Option<Act>) -> Option<KnownChild
 
 /// The number of the child and the action that it was born with are there both, or neither is, and the starts never
 /// fall.
-fn is_whole(kept: &PlainRecord) -> bool
-    ensures { result ≡ is_whole kept.now }
+fn is_whole(plain: &PlainRecord) -> bool
+    ensures { result ≡ is_whole plain.now }
 {
-    kept.child.is_some() == kept.act.is_some() && never_fall(kept.starts.as_slice())
+    plain.child.is_some() == plain.act.is_some() && never_fall(plain.starts.as_slice())
 }
 
 /// The record is that of the entry, where there is one.
-fn is_for(entry: Option<&Entry>, kept: &PlainRecord) -> bool
-    ensures { result ≡ is_for (option_copied entry.entry) kept.now }
+fn is_for(entry: Option<&Entry>, plain: &PlainRecord) -> bool
+    ensures { result ≡ is_for (option_copied entry.entry) plain.now }
 {
     match entry {
         None => true,
-        Some(entry) => kept.id == entry.id,
+        Some(entry) => plain.id == entry.id,
     }
 }
 
 /// The record made anew, if it is whole, and that of the entry.
-fn record_read(entry: Option<&Entry>, kept: &PlainRecord) -> Option<Record>
-    ensures { result ≡ record_read (option_copied entry.entry) kept.now }
+fn record_read(entry: Option<&Entry>, plain: &PlainRecord) -> Option<Record>
+    ensures { result ≡ record_read (option_copied entry.entry) plain.now }
 {
-    if !is_for(entry, kept) || !is_whole(kept) {
+    if !is_for(entry, plain) || !is_whole(plain) {
         return None;
     }
     Some(Record::of(
-        kept.id,
+        plain.id,
         entry.map(|entry| entry.act),
-        living_of(kept.child, kept.act),
-        kept.order,
-        kept.stop,
-        kept.asked,
-        kept.called,
-        kept.look,
-        kept.missed,
-        kept.starts.as_slice(),
-        kept.held_until,
-        kept.last,
+        living_of(plain.child, plain.act),
+        plain.order,
+        plain.stop,
+        plain.asked,
+        plain.called,
+        plain.look,
+        plain.missed,
+        plain.starts.as_slice(),
+        plain.held_until,
+        plain.last,
     ))
 }
 

@@ -102,7 +102,7 @@ pub steps : (v : Version) (state : SavedState) (text more : List ℕ) → is_sta
     → body_text v state ++ more ≡ text → Steps v state text more
 unfolding fields_text
 steps v state text more is same =
-    let kept = state_parts v state is in
+    let plain = state_parts v state is in
     let after_prefix = fields_text state.fields ++ (table_text state.table ++ (records_text v state.records ++ more)) in
     let whole : text ≡ begun v after_prefix =
     sym same ∙ ap (λ t. t ++ more) (body_parts v state) ∙ append_assoc (version_line v ++ 10 ∷ [])
@@ -113,8 +113,9 @@ steps v state text more is same =
     record {
       begins = ap version_read whole ∙ version_front.back v after_prefix refl;
       fields =
-          fields_front.back state.fields (table_text state.table ++ (records_text v state.records ++ more)) kept.fields;
-      table = table_back v state.table (records_text v state.records ++ more) kept.table kept.holds;
+          fields_front.back state.fields
+          (table_text state.table ++ (records_text v state.records ++ more)) plain.fields;
+      table = table_back v state.table (records_text v state.records ++ more) plain.table plain.holds;
     }
 
 pub lost : {X : Type 0} (x : X) → ◌≡◌ {A = Option X} None (Some x) → ⊥

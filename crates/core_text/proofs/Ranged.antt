@@ -41,9 +41,9 @@ record LimiterFits (limiter : LimiterState) : Type 0 where
 
 limiter_fits : (now : ℕ) → now ≤ CLOCK_LIMIT → (limited : Bool) (limiter : LimiterState)
     → cond limited (is_limit_kept now limiter) (is_unused limiter) ≡ true → LimiterFits limiter
-limiter_fits now clock true limiter kept =
+limiter_fits now clock true limiter plain =
     let outer = and_parts (nat_le (length limiter.starts) STARTS && never_fall limiter.starts)
-    (is_hold_of now limiter limiter.held) kept in
+    (is_hold_of now limiter limiter.held) plain in
     record {
       held = by limiter.held outer.1;
       few = (and_parts (nat_le (length limiter.starts) STARTS) (never_fall limiter.starts) outer.0).0;
@@ -51,8 +51,8 @@ limiter_fits now clock true limiter kept =
   where
     by : (held : Option ℕ) → is_hold_of now limiter held ≡ true → passes is_time held ≡ true
     by held h = grind arith
-limiter_fits now clock false limiter kept =
-    let parts = and_parts (length limiter.starts == 0) (is_none limiter.held) kept in
+limiter_fits now clock false limiter plain =
+    let parts = and_parts (length limiter.starts == 0) (is_none limiter.held) plain in
     record {
       held = by limiter.held parts.1;
       few = le-leb (length limiter.starts) STARTS
@@ -101,11 +101,11 @@ records_ranged : (now : ℕ) → now ≤ CLOCK_LIMIT → (slots : List RecordSta
     → list_all has_ranged_words slots ≡ true → list_all (is_record V2) (map record_of slots) ≡ true
 records_ranged now clock [] limiters timely ids = refl
 records_ranged now clock (slot ∷ slots) limiters timely ids =
-    let kept = and_parts (is_limiter_kept now slot) (list_all (is_limiter_kept now) slots) limiters in
+    let plain = and_parts (is_limiter_kept now slot) (list_all (is_limiter_kept now) slots) limiters in
     let past = and_parts (is_timely now slot) (list_all (is_timely now) slots) timely in
     let own = and_parts (has_ranged_words slot) (list_all has_ranged_words slots) ids in
     and_from (is_record V2 (record_of slot)) (list_all (is_record V2) (map record_of slots))
-    (record_ranged now clock slot kept.0 past.0 own.0) (records_ranged now clock slots kept.1 past.1 own.1)
+    (record_ranged now clock slot plain.0 past.0 own.0) (records_ranged now clock slots plain.1 past.1 own.1)
 
 pub state_ranged : (c : CoreState) → IsFit c → 1 ≤ c.fields.generation → c.fields.generation < 2 ^ 64
     → c.fields.reexec ≡ false → has_short_seconds c ≡ true → is_table c.table ≡ true

@@ -95,18 +95,18 @@ abbrev pub table_line : ℕ → List ℕ
 table_line count = spaced (codes "table" ∷ decimal count ∷ [])
 
 abbrev pub slot_flags : PlainRecord → List Bool
-slot_flags kept = kept.asked ∷ kept.called ∷ kept.look ∷ kept.missed ∷ []
+slot_flags plain = plain.asked ∷ plain.called ∷ plain.look ∷ plain.missed ∷ []
 
 -- the words of a record; version 2 has how the last child ended behind them
 abbrev pub record_words : PlainRecord → List (List ℕ)
-record_words kept =
-    codes "slot" ∷ kept.id ∷ or_dash decimal kept.child ∷ or_dash word_of kept.act
-    ∷ or_dash order_word kept.order ∷ or_dash stop_word kept.stop ∷ bits (slot_flags kept)
-    ∷ or_dash decimal kept.held_until ∷ starts_word kept.starts.items ∷ []
+record_words plain =
+    codes "slot" ∷ plain.id ∷ or_dash decimal plain.child ∷ or_dash word_of plain.act
+    ∷ or_dash order_word plain.order ∷ or_dash stop_word plain.stop ∷ bits (slot_flags plain)
+    ∷ or_dash decimal plain.held_until ∷ starts_word plain.starts.items ∷ []
 
 abbrev pub slot_line : Version → PlainRecord → List ℕ
-slot_line V1 kept = spaced (record_words kept)
-slot_line V2 kept = spaced (record_words kept ++ or_dash status_word kept.last ∷ [])
+slot_line V1 plain = spaced (record_words plain)
+slot_line V2 plain = spaced (record_words plain ++ or_dash status_word plain.last ∷ [])
 
 abbrev pub end_line : ℕ → List ℕ
 end_line count = spaced (codes "end" ∷ decimal count ∷ [])

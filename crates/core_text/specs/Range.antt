@@ -56,9 +56,9 @@ is_last_status V1 last = is_none last
 is_last_status V2 last = passes is_status last
 
 abbrev pub is_record : Version → PlainRecord → Bool
-is_record version kept =
-    (is_id kept.id && holds_id version kept.id) && passes is_child kept.child && passes is_stop kept.stop
-    && passes is_time kept.held_until && (are_starts kept.starts.items && is_last_status version kept.last)
+is_record version plain =
+    (is_id plain.id && holds_id version plain.id) && passes is_child plain.child && passes is_stop plain.stop
+    && passes is_time plain.held_until && (are_starts plain.starts.items && is_last_status version plain.last)
 
 abbrev pub is_state : Version → SavedState → Bool
 is_state version state =

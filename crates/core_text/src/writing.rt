@@ -31,7 +31,7 @@ fn put_number<A: Allocator>(text: &mut Vec<u8, A>, number: u64) -> Result<(), Al
 }
 
 /// A byte and a number.
-fn put_behind<A: Allocator>(text: &mut Vec<u8, A>, mark: u8, number: u64) -> Result<(), AllocError>
+fn put_marked<A: Allocator>(text: &mut Vec<u8, A>, mark: u8, number: u64) -> Result<(), AllocError>
     ensures { OnOk result (text.new.items ≡ text.old.items ++ mark ∷ decimal number) }
 {
     text.push(mark)?;
@@ -48,7 +48,7 @@ fn put_number_line<A: Allocator>(
         ++ text_of_lines (spaced (name.now ∷ decimal number ∷ []) ∷ [])) }
 {
     put(text, name)?;
-    put_behind(text, b' ', number)?;
+    put_marked(text, b' ', number)?;
     text.push(b'\n')?;
     Ok(())
 }
@@ -73,7 +73,7 @@ fn put_level_and_seconds<A: Allocator>(
 {
     text.push(b' ')?;
     text.push(goal.level.code())?;
-    put_behind(text, mark, u64::from(goal.grace))
+    put_marked(text, mark, u64::from(goal.grace))
 }
 
 fn put_level_wish<A: Allocator>(text: &mut Vec<u8, A>, wish: Option<Goal>) -> Result<(), AllocError>
@@ -100,7 +100,7 @@ fn put_time<A: Allocator>(text: &mut Vec<u8, A>, time: Option<u64>) -> Result<()
     ensures { OnOk result (text.new.items ≡ text.old.items ++ 32 ∷ or_dash decimal time) }
 {
     match time {
-        Some(time) => put_behind(text, b' ', time),
+        Some(time) => put_marked(text, b' ', time),
         None => put(text, b" -"),
     }
 }
@@ -112,7 +112,7 @@ fn put_child<A: Allocator>(
     ensures { OnOk result (text.new.items ≡ text.old.items ++ 32 ∷ or_dash decimal child) }
 {
     match child {
-        Some(child) => put_behind(text, b' ', u64::from(child.0)),
+        Some(child) => put_marked(text, b' ', u64::from(child.0)),
         None => put(text, b" -"),
     }
 }
@@ -150,11 +150,11 @@ fn put_stop<A: Allocator>(text: &mut Vec<u8, A>, stop: Option<Stop>) -> Result<(
         Some(Stop::Due) => put(text, b" due"),
         Some(Stop::Termed(time)) => {
             put(text, b" term")?;
-            put_behind(text, b':', time)
+            put_marked(text, b':', time)
         }
         Some(Stop::Killed(time)) => {
             put(text, b" kill")?;
-            put_behind(text, b':', time)
+            put_marked(text, b':', time)
         }
     }
 }
@@ -165,7 +165,7 @@ fn put_more<A: Allocator>(text: &mut Vec<u8, A>, times: &[u64]) -> Result<(), Al
         ++ flat_map (λ time. 44 ∷ decimal time) times.now) }
 {
     for time in times {
-        put_behind(text, b',', *time)?;
+        put_marked(text, b',', *time)?;
     }
     Ok(())
 }
@@ -176,7 +176,7 @@ fn put_starts<A: Allocator>(text: &mut Vec<u8, A>, starts: &[u64]) -> Result<(),
     let [first, more @ ..] = starts else {
         return put(text, b" -");
     };
-    put_behind(text, b' ', *first)?;
+    put_marked(text, b' ', *first)?;
     put_more(text, more)?;
     Ok(())
 }
@@ -189,7 +189,7 @@ fn put_last<A: Allocator>(text: &mut Vec<u8, A>, last: Option<Status>) -> Result
         Some(Status::Killed) => put(text, b" killed"),
         Some(Status::Exit(code)) => {
             put(text, b" exit")?;
-            put_behind(text, b':', u64::from(code))
+            put_marked(text, b':', u64::from(code))
         }
     }
 }
@@ -201,7 +201,7 @@ fn put_places<A: Allocator>(text: &mut Vec<u8, A>, fields: &CoreFields) -> Resul
 {
     put(text, b"stage")?;
     put_stage(text, fields.stage)?;
-    put_behind(text, b' ', u64::from(fields.grace))?;
+    put_marked(text, b' ', u64::from(fields.grace))?;
     put(text, b"\ngoal")?;
     put_level_and_seconds(text, fields.goal, b' ')?;
     text.push(b'\n')?;

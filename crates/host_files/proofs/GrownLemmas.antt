@@ -8,42 +8,45 @@ use Rattle.std.proofs.lemmas.Bool.{eq-eqb, le-ltb}
 use Rattle.std.proofs.lemmas.List.{drop_at, length-take-le}
 use Rattle.std.proofs.lemmas.Bool.{true≢false}
 use Rattle.host_files.specs.declared.channel_files.FoundFile.{FoundFile}
-use Rattle.host_files.specs.declared.places.Place.{Place}
-use Rattle.host_files.specs.Channels.{ChannelCall, IsReadOn, begun, bytes_read, first_place, is_another, is_anew, moved}
-use Rattle.host_files.specs.Channels.{place_of}
-use Rattle.host_files.specs.Channels.{place_after, whole_length}
+use Rattle.host_files.specs.declared.channel_progress.Progress.{Progress}
+use Rattle.host_files.specs.Channels.{ChannelCall, IsReadOn, begun, bytes_read, first_offset, is_another, is_anew}
+use Rattle.host_files.specs.Channels.{moved}
+use Rattle.host_files.specs.Channels.{progress_of}
+use Rattle.host_files.specs.Channels.{progress_after, whole_length}
 use Rattle.host_files.specs.Channels.ChannelCall.{found, read}
 use Rattle.host_files.specs.Grown.{AreOfFile}
 
 -- the place stands in the text, behind a front of whole requests that was passed over and the bytes that were read
-record Stands (device number : ℕ) (text : List ℕ) (place : Place) (bytes : List ℕ) : Type 0 where
-  there : place.missing ≡ false
-  known : (place.file ≡ None) ⊎ (place.file ≡ Some (device, number))
+record Stands (device number : ℕ) (text : List ℕ) (progress : Progress) (bytes : List ℕ) : Type 0 where
+  there : progress.missing ≡ false
+  known : (progress.file ≡ None) ⊎ (progress.file ≡ Some (device, number))
   front : List ℕ
   behind : List ℕ
   parts : front ++ (bytes ++ behind) ≡ text
   whole : length front % 384 ≡ 0
-  heard : place.heard ≡ length front + length bytes
-  unbegun : place.begun ≡ false → bytes ≡ []
+  heard : progress.heard ≡ length front + length bytes
+  unbegun : progress.begun ≡ false → bytes ≡ []
 
-abbrev differs : Place → FoundFile → ℕ × ℕ → Bool
-differs place at known = place.missing || not (known.0 == at.device && known.1 == at.number)
+abbrev differs : Progress → FoundFile → ℕ × ℕ → Bool
+differs progress at known = progress.missing || not (known.0 == at.device && known.1 == at.number)
 
-is_same : (place : Place) (at : FoundFile) (device number : ℕ) → place.missing ≡ false
-    → (place.file ≡ None) ⊎ (place.file ≡ Some (device, number))
-    → at.device ≡ device → at.number ≡ number → is_another place at ≡ false
-is_same place at device number there (inl none) same is = ap (λ file. option_map_or (differs place at) file false) none
-is_same place at device number there (inr some) same is =
-    ap (λ file. option_map_or (differs place at) file false) some
+is_same : (progress : Progress) (at : FoundFile) (device number : ℕ) → progress.missing ≡ false
+    → (progress.file ≡ None) ⊎ (progress.file ≡ Some (device, number))
+    → at.device ≡ device → at.number ≡ number → is_another progress at ≡ false
+is_same progress at device number there (inl none) same is =
+    ap (λ file. option_map_or (differs progress at) file false) none
+is_same progress at device number there (inr some) same is =
+    ap (λ file. option_map_or (differs progress at) file false) some
     ∙ rw (there, eq-eqb device at.device (sym same), eq-eqb number at.number (sym is)) refl
 
 -- a look at which the file stands there leaves the place where it is
-still : (place : Place) (at : FoundFile) (device number : ℕ) (text bytes : List ℕ)
-    → Stands device number text place bytes → at.device ≡ device → at.number ≡ number → place.heard ≤ at.length
-    → Stands device number text (moved (Some at) place) bytes
-still place at device number text bytes stands same is below =
-    let anew : is_anew place at ≡ false =
-    rw (is_same place at device number stands.there stands.known same is, le-ltb at.length place.heard below) refl in
+still : (progress : Progress) (at : FoundFile) (device number : ℕ) (text bytes : List ℕ)
+    → Stands device number text progress bytes → at.device ≡ device → at.number ≡ number → progress.heard ≤ at.length
+    → Stands device number text (moved (Some at) progress) bytes
+still progress at device number text bytes stands same is below =
+    let anew : is_anew progress at ≡ false =
+    rw
+    (is_same progress at device number stands.there stands.known same is, le-ltb at.length progress.heard below) refl in
     record {
       there = refl;
       known = inr (ap (λ d. Some (d, at.number)) same ∙ ap (λ n. Some (device, n)) is);
@@ -51,32 +54,32 @@ still place at device number text bytes stands same is below =
       behind = stands.behind;
       parts = stands.parts;
       whole = stands.whole;
-      heard = ap (λ b. if b then 0 else place.heard) anew ∙ stands.heard;
+      heard = ap (λ b. if b then 0 else progress.heard) anew ∙ stands.heard;
       unbegun = stands.unbegun;
     }
 
-first_below : (fresh : Bool) (at : FoundFile) → first_place fresh (Some at) ≤ at.length
+first_below : (fresh : Bool) (at : FoundFile) → first_offset fresh (Some at) ≤ at.length
 first_below true at = omega (arith)
 first_below false at = omega (arith)
 
-first_whole : (fresh : Bool) (at : FoundFile) → first_place fresh (Some at) % 384 ≡ 0
+first_whole : (fresh : Bool) (at : FoundFile) → first_offset fresh (Some at) % 384 ≡ 0
 first_whole true at = omega (arith)
 first_whole false at = refl
 
 -- the first look, and each behind it
-looked : (fresh : Bool) (place : Place) (at : FoundFile) (device number : ℕ) (text bytes : List ℕ) (b : Bool)
-    → place.begun ≡ b → Stands device number text place bytes → at.device ≡ device → at.number ≡ number
-    → at.length ≤ length text → place.heard ≤ at.length
-    → Stands device number text (place_after fresh (Some at) place) bytes
-looked fresh place at device number text bytes true is stands same so within below =
-    let before : begun fresh (Some at) place ≡ place =
-    ap (λ b. if b then place else record place { begun = true; heard = first_place fresh (Some at) }) is in
-    subst (λ (p : Place). Stands device number text (moved (Some at) p) bytes) (sym before)
-    (still place at device number text bytes stands same so below)
-looked fresh place at device number text bytes false is stands same so within below =
-    let first = first_place fresh (Some at) in
-    let new : Place = record place { begun = true; heard = first } in
-    let before : begun fresh (Some at) place ≡ new = ap (λ b. if b then place else new) is in
+looked : (fresh : Bool) (progress : Progress) (at : FoundFile) (device number : ℕ) (text bytes : List ℕ) (b : Bool)
+    → progress.begun ≡ b → Stands device number text progress bytes → at.device ≡ device → at.number ≡ number
+    → at.length ≤ length text → progress.heard ≤ at.length
+    → Stands device number text (progress_after fresh (Some at) progress) bytes
+looked fresh progress at device number text bytes true is stands same so within below =
+    let before : begun fresh (Some at) progress ≡ progress =
+    ap (λ b. if b then progress else record progress { begun = true; heard = first_offset fresh (Some at) }) is in
+    subst (λ (p : Progress). Stands device number text (moved (Some at) p) bytes) (sym before)
+    (still progress at device number text bytes stands same so below)
+looked fresh progress at device number text bytes false is stands same so within below =
+    let first = first_offset fresh (Some at) in
+    let new : Progress = record progress { begun = true; heard = first } in
+    let before : begun fresh (Some at) progress ≡ new = ap (λ b. if b then progress else new) is in
     let most : first ≤ length text = omega (arith, first_below fresh at, within) in
     let long = length-take-le first text most in
     let begins : Stands device number text new [] = record {
@@ -89,16 +92,16 @@ looked fresh place at device number text bytes false is stands same so within be
       heard = omega (arith, long);
       unbegun = λ not_begun. absurd (true≢false not_begun);
     } in
-    subst (λ bs. Stands device number text (place_after fresh (Some at) place) bs) (sym (stands.unbegun is))
-    (subst (λ (p : Place). Stands device number text (moved (Some at) p) []) (sym before)
+    subst (λ bs. Stands device number text (progress_after fresh (Some at) progress) bs) (sym (stands.unbegun is))
+    (subst (λ (p : Progress). Stands device number text (moved (Some at) p) []) (sym before)
     (still new at device number text [] begins same so (first_below fresh at)))
 
 -- a request that is read
-gone_on : (place : Place) (device number position : ℕ) (text bytes block : List ℕ)
-    → Stands device number text place bytes → place.begun ≡ true → position ≡ place.heard
+gone_on : (progress : Progress) (device number position : ℕ) (text bytes block : List ℕ)
+    → Stands device number text progress bytes → progress.begun ≡ true → position ≡ progress.heard
     → block ≡ take 384 (drop position text) → length block ≡ 384
-    → Stands device number text (record place { heard = place.heard + 384 }) (bytes ++ block)
-gone_on place device number position text bytes block stands begun at same long =
+    → Stands device number text (record progress { heard = progress.heard + 384 }) (bytes ++ block)
+gone_on progress device number position text bytes block stands begun at same long =
     let ahead : drop position text ≡ stands.behind =
     ap (λ t. drop position t) (sym stands.parts ∙ sym (append_assoc stands.front bytes stands.behind))
     ∙ drop_at (stands.front ++ bytes) stands.behind position
@@ -118,7 +121,7 @@ gone_on place device number position text bytes block stands begun at same long 
     }
 
 stands : (device number : ℕ) (text : List ℕ) (fresh : Bool) (told : List ChannelCall) → IsReadOn fresh told
-    → AreOfFile device number text fresh told → Stands device number text (place_of fresh told) (bytes_read told)
+    → AreOfFile device number text fresh told → Stands device number text (progress_of fresh told) (bytes_read told)
 stands device number text fresh [] on of = record {
   there = refl;
   known = inl refl;
@@ -130,16 +133,16 @@ stands device number text fresh [] on of = record {
   unbegun = λ _. refl;
 }
 stands device number text fresh (found file ∷ told) on ((at, is, same, so, within, below), of) =
-    subst (λ f. Stands device number text (place_after fresh f (place_of fresh told)) (bytes_read told)) (sym is)
-    (looked fresh (place_of fresh told) at device number text (bytes_read told) (place_of fresh told).begun refl
+    subst (λ f. Stands device number text (progress_after fresh f (progress_of fresh told)) (bytes_read told)) (sym is)
+    (looked fresh (progress_of fresh told) at device number text (bytes_read told) (progress_of fresh told).begun refl
     (stands device number text fresh told on of) same so within below)
 stands device number text fresh (read position block ∷ told) (at, long, on) (begun, same, of) =
-    gone_on (place_of fresh told) device number position text (bytes_read told) block
+    gone_on (progress_of fresh told) device number position text (bytes_read told) block
     (stands device number text fresh told on of) begun at same long
 
 -- where all of the text was read, what was handed on is all that stands behind a front of whole requests
 pub all_read : (device number : ℕ) (text : List ℕ) (fresh : Bool) (told : List ChannelCall) → IsReadOn fresh told
-    → AreOfFile device number text fresh told → (place_of fresh told).heard ≡ length text
+    → AreOfFile device number text fresh told → (progress_of fresh told).heard ≡ length text
     → (front : List ℕ) × (front ++ bytes_read told ≡ text) × (length front % 384 ≡ 0)
 all_read device number text fresh told on of all =
     let all_stands = stands device number text fresh told on of in

@@ -2,26 +2,26 @@
 use Rattle.std.proofs.Common.{◌≡◌, sym, ◌∙◌, ap, subst, ◌≤◌, ℕ, ◌+◌, List, [], ◌∷◌, ◌++◌, length, drop, Bool}
 use Rattle.std.proofs.lemmas.List.{drop_all}
 use Rattle.program_io.specs.declared.channel_files.TheConstants.{REQUEST}
-use Rattle.host_files.specs.declared.places.Place.{Place}
+use Rattle.host_files.specs.declared.channel_progress.Progress.{Progress}
 use Rattle.host_files.specs.Channels.{ChannelCall, ChannelState, HasHanded, IsReadOn, bytes_read}
-use Rattle.host_files.specs.Channels.{place_of}
+use Rattle.host_files.specs.Channels.{progress_of}
 use Rattle.host_files.specs.Channels.ChannelCall.{read}
 
-abbrev pub Stands : Bool → Place → List ChannelCall → Type 0
-Stands fresh place told = IsReadOn fresh told × (place ≡ place_of fresh told)
+abbrev pub Stands : Bool → Progress → List ChannelCall → Type 0
+Stands fresh progress told = IsReadOn fresh told × (progress ≡ progress_of fresh told)
 
 -- a place that is heard up to this byte
-abbrev pub heard_to : Place → ℕ → Place
-heard_to place end = record { begun = place.begun; heard = end; missing = place.missing; file = place.file }
+abbrev pub heard_to : Progress → ℕ → Progress
+heard_to progress end = record { begun = progress.begun; heard = end; missing = progress.missing; file = progress.file }
 
 -- a whole request was read where the channel stands
-pub read_on : (fresh : Bool) (told new : List ChannelCall) (place : Place) (block : List ℕ) (end : ℕ)
-    → Stands fresh place told → new ≡ read place.heard block ∷ told → length block ≡ REQUEST
-    → end ≡ place.heard + REQUEST → Stands fresh (heard_to place end) new
-read_on fresh told new place block end (are, at) reads long adds =
-    subst (Stands fresh (heard_to place end)) (sym reads) (
-      (ap (λ (p : Place). p.heard) at, long, are),
-      ap (heard_to place) adds ∙ ap (λ (p : Place). heard_to p (p.heard + REQUEST)) at,
+pub read_on : (fresh : Bool) (told new : List ChannelCall) (progress : Progress) (block : List ℕ) (end : ℕ)
+    → Stands fresh progress told → new ≡ read progress.heard block ∷ told → length block ≡ REQUEST
+    → end ≡ progress.heard + REQUEST → Stands fresh (heard_to progress end) new
+read_on fresh told new progress block end (are, at) reads long adds =
+    subst (Stands fresh (heard_to progress end)) (sym reads) (
+      (ap (λ (p : Progress). p.heard) at, long, are),
+      ap (heard_to progress) adds ∙ ap (λ (p : Progress). heard_to p (p.heard + REQUEST)) at,
     )
 
 -- a reading failed, where nothing was left to hand on: whatever its buffer has

@@ -2,7 +2,7 @@
 use Rattle.std.specs.Prelude.{◌≡◌, ◌≤◌, ℕ, Bool, true, List, [], ◌∷◌, length, take, drop, Option, Some, ⊤}
 use Rattle.program_io.specs.declared.channel_files.TheConstants.{REQUEST}
 use Rattle.host_files.specs.declared.channel_files.FoundFile.{FoundFile}
-use Rattle.host_files.specs.Channels.{ChannelCall, place_of}
+use Rattle.host_files.specs.Channels.{ChannelCall, progress_of}
 use Rattle.host_files.specs.Channels.ChannelCall.{found, read}
 
 -- the answers are those of one file, of this device and number, that had this text in the end: it stood at the path at
@@ -11,7 +11,7 @@ abbrev pub AreOfFile : ℕ → ℕ → List ℕ → Bool → List ChannelCall �
 AreOfFile device number text fresh [] = ⊤
 AreOfFile device number text fresh (found file ∷ told) =
     ((at : FoundFile) × (file ≡ Some at) × (at.device ≡ device) × (at.number ≡ number) × (at.length ≤ length text)
-    × ((place_of fresh told).heard ≤ at.length)) × AreOfFile device number text fresh told
+    × ((progress_of fresh told).heard ≤ at.length)) × AreOfFile device number text fresh told
 AreOfFile device number text fresh (read position block ∷ told) =
-    ((place_of fresh told).begun ≡ true) × (block ≡ take REQUEST (drop position text))
+    ((progress_of fresh told).begun ≡ true) × (block ≡ take REQUEST (drop position text))
     × AreOfFile device number text fresh told

@@ -1,7 +1,7 @@
 //! What is noted of a channel to tell what is wrong with it.
 
 use crate::channel_files::FoundFile;
-use crate::places::Place;
+use crate::channel_progress::Progress;
 use host_lines::{Doing, HostLine, Power, Tells, Trouble};
 use initctl_frame::{Cause, HeardRequest, decode};
 use libc::geteuid;
@@ -73,7 +73,7 @@ impl ChannelNotes {
     }
 
     /// Notes that it is read on here, and was to be there.
-    pub fn note_place(&mut self, before: &Place, now: &Place) {
+    pub fn note_progress(&mut self, before: &Progress, now: &Progress) {
         if before.heard != now.heard {
             self.torn = 0;
             self.told_torn = false;
@@ -85,7 +85,7 @@ impl ChannelNotes {
         &mut self,
         rt: &R,
         path: &str,
-        before: &Place,
+        before: &Progress,
         found: &FoundFile,
     ) {
         if before.is_anew(found) {

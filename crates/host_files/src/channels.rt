@@ -10,7 +10,7 @@ use crate::bells::Bell;
 use crate::boxes::boxed;
 use crate::channel_files::{ChannelCallList, ChannelFile, found_at};
 use crate::channel_notes::{ChannelNotes, LOOK};
-use crate::places::Place;
+use crate::channel_progress::Progress;
 use host_lines::Tells;
 use program_io::{ChannelLock, Noted, REQUEST};
 use std::alloc::{AllocError, Allocator};
@@ -28,7 +28,7 @@ pub struct Channel<F: ChannelFile + Drop, A: Allocator> {
     /// What stands in it before its first reading is passed over.
     fresh: bool,
     file: F,
-    place: Place,
+    progress: Progress,
     /// The request that was read last, and how many of its bytes were handed on.
     request: [u8; REQUEST],
     handed: usize,
@@ -38,7 +38,7 @@ pub struct Channel<F: ChannelFile + Drop, A: Allocator> {
 
 impl<F: ChannelFile + Drop, A: Allocator> Model for Channel<F, A> {
     ghost use Rattle.std.specs.Prelude.{◌≡◌, drop};
-    ghost use Rattle.host_files.specs.Channels.{ChannelState, IsReadOn, place_of};
+    ghost use Rattle.host_files.specs.Channels.{ChannelState, IsReadOn, progress_of};
 
     ghost Value = { ChannelState };
 
@@ -49,7 +49,7 @@ impl<F: ChannelFile + Drop, A: Allocator> Model for Channel<F, A> {
     } };
 
     ghost invariant = { λ channel. IsReadOn channel.fresh (F.told channel.file)
-        × (channel.place ≡ place_of channel.fresh (F.told channel.file)) };
+        × (channel.progress ≡ progress_of channel.fresh (F.told channel.file)) };
 }
 
 impl<F: ChannelFile + Drop, A: Allocator + Copy> Channel<F, A> {
@@ -64,7 +64,7 @@ impl<F: ChannelFile + Drop, A: Allocator + Copy> Channel<F, A> {
             path: String::from_str(alloc, path)?,
             fresh,
             file: F::unread(),
-            place: Place::unread(),
+            progress: Progress::unread(),
             request: [0; REQUEST],
             handed: REQUEST,
             notes: ChannelNotes::new(),
@@ -119,14 +119,14 @@ impl<F: ChannelFile + Drop, A: Allocator + Copy> Channel<F, A> {
     /// at its path when it was read last, the length alone is asked for: that another file stands there now is seen when
     /// it is read again.
     pub fn has_news<R: Files>(&self, rt: &R) -> bool {
-        if !self.place.missing {
+        if !self.progress.missing {
             if let Some(length) = self.file.locked_length() {
-                return length < self.place.heard || self.place.is_request_behind(length);
+                return length < self.progress.heard || self.progress.is_request_behind(length);
             }
         }
         match found_at(rt, self.path.as_str()) {
             Ok(Some(found)) => {
-                self.place.is_anew(&found) || self.place.is_request_behind(found.length)
+                self.progress.is_anew(&found) || self.progress.is_request_behind(found.length)
             }
             _ => false,
         }
@@ -192,13 +192,13 @@ impl<F: ChannelFile + Drop, A: Allocator + Copy> Channel<F, A> {
         if !self.has_request(rt)? {
             return Ok(false);
         }
-        let Some(end) = self.place.heard.checked_add(REQUEST as u64) else {
+        let Some(end) = self.progress.heard.checked_add(REQUEST as u64) else {
             return Ok(false);
         };
         let path = self.path.as_str();
         self.file
-            .read_at(rt, path, self.place.heard, &mut self.request)?;
-        self.place.heard = end;
+            .read_at(rt, path, self.progress.heard, &mut self.request)?;
+        self.progress.heard = end;
         self.handed = 0;
         self.notes.tell_passed_over(rt, path, &self.request, end);
         Ok(true)
@@ -211,18 +211,18 @@ impl<F: ChannelFile + Drop, A: Allocator + Copy> Channel<F, A> {
         ensures unread { bytes_read self.new.told ≡ bytes_read self.old.told }
     {
         let found = self.file.find(rt, self.path.as_str())?;
-        let before = self.place;
-        self.place = before.after(self.fresh, found);
+        let before = self.progress;
+        self.progress = before.after(self.fresh, found);
         if !before.begun {
             ChannelNotes::tell_first(rt, self.path.as_str(), found, self.fresh);
         }
-        self.notes.note_place(&before, &self.place);
+        self.notes.note_progress(&before, &self.progress);
         let Some(found) = found else {
             return Ok(false);
         };
         self.notes
             .note_file(rt, self.path.as_str(), &before, &found);
-        let is_whole = self.place.is_request_behind(found.length);
+        let is_whole = self.progress.is_request_behind(found.length);
         if !is_whole {
             self.notes.note_end(rt, self.path.as_str(), &found);
         }

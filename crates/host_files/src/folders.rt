@@ -203,16 +203,17 @@ fn names_in<R: Files, A: Allocator + Copy, P: HearsPassed<R>>(
 pub fn with_folder<R: Files, A: Allocator + Copy, P: HearsPassed<R>>(
     rt: &R,
     alloc: A,
-    own: Part<A>,
+    main_part: Part<A>,
     folder: Option<&str>,
     passed: &mut P,
 ) -> Result<Vec<Part<A>, A>, FolderFault<A>>
-    ensures own { IfOk result (λ parts. (more : List NamedText) × (parts.items ≡ own ∷ more)) }
-    ensures alone { folder.entry ≡ None → IfOk result (λ parts. parts.items ≡ own ∷ []) }
+    ensures main_part { IfOk result
+        (λ parts. (more : List NamedText) × (parts.items ≡ main_part ∷ more)) }
+    ensures alone { folder.entry ≡ None → IfOk result (λ parts. parts.items ≡ main_part ∷ []) }
     ensures err { IfErr result (IsFolderFault (option_map (λ path. path.now) folder.entry)) }
 {
     let mut parts = Vec::new(alloc);
-    parts.push(own)?;
+    parts.push(main_part)?;
     if let Some(folder) = folder {
         for name in names_in(rt, alloc, folder, passed)? {
             parts.push(part_in(rt, alloc, folder, name)?)?;

@@ -81,13 +81,13 @@ impl<A: Allocator + Copy> InittabFiles<A> {
         text: io::Result<Vec<u8, B>>,
     ) -> io::Result<Vec<Part<B>, B>>
         ensures same { self.new ≡ self.old }
-        ensures own { IfOk result (λ parts. IsOwnFirst self.old (text_of text) parts.items) }
+        ensures main_part { IfOk result (λ parts. IsOwnFirst self.old (text_of text) parts.items) }
     {
         self.reading.tell(rt, self.path.as_str(), &text);
         let name = String::from_str(alloc, self.path.as_str())?;
-        let own = Part { name, bytes: text? };
+        let main_part = Part { name, bytes: text? };
         let folder = self.folder.as_ref().map(String::as_str);
-        match with_folder(rt, alloc, own, folder, &mut self.passed) {
+        match with_folder(rt, alloc, main_part, folder, &mut self.passed) {
             Ok(parts) => {
                 self.listing.tell_over(rt, folder.unwrap_or(""));
                 Ok(parts)

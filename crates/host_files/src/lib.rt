@@ -6,10 +6,10 @@ mod bells;
 mod boxes;
 mod channel_files;
 mod channel_notes;
+mod channel_progress;
 mod channels;
 mod folders;
 mod inittab_files;
-mod places;
 mod state_files;
 
 pub use boxes::boxed;

@@ -43,12 +43,12 @@ number_of id held = lookup (same_id id) held
 
 -- the process of the number was waited for, once, and that was said; where there is no number nothing was asked
 abbrev pub AsksWait : Option ℕ → Waited → List SystemCall → List SystemCall → Type 0
-AsksWait (Some number) said old new = new ≡ try_wait number said ∷ old
-AsksWait None said old new = (new ≡ old) × (said ≡ None)
+AsksWait (Some number) outcome old new = new ≡ try_wait number outcome ∷ old
+AsksWait None outcome old new = (new ≡ old) × (outcome ≡ None)
 
 -- A look at the child of the number: what the wait said is answered.
 abbrev pub AsksLook : Option ℕ → Answer → List SystemCall → List SystemCall → Type 0
-AsksLook child answer old new = (said : Waited) × AsksWait child said old new × (answer ≡ look_answer said)
+AsksLook child answer old new = (outcome : Waited) × AsksWait child outcome old new × (answer ≡ look_answer outcome)
 
 -- the process of the number, or its group, was sent the signal, once, and was reached or not
 abbrev pub AsksSend : Bool → Option ℕ → SignalKind → Bool → List SystemCall → List SystemCall → Type 0

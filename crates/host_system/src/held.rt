@@ -78,12 +78,12 @@ impl<S: System> HeldChild<S> {
         ensures asked { S.told system.new
             ≡ try_wait self.old (waited result) ∷ S.told system.old }
     {
-        let said = system.try_wait(&mut self.process);
-        match &said {
+        let outcome = system.try_wait(&mut self.process);
+        match &outcome {
             Ok(_) => self.tell_waited(rt, id),
             Err(error) => self.tell_unwaited(rt, id, error, is_settled),
         }
-        said
+        outcome
     }
 
     fn tell_waited(&mut self, rt: &impl Tells, id: &Id)

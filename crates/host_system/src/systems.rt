@@ -163,9 +163,9 @@ impl<R: Processes + Clock + Files + Drop> System for OsSystem<R> {
     }
 
     fn try_wait(&mut self, process: &mut Process<R::Started>) -> io::Result<Option<ExitStatus>> {
-        let said = process.child.try_wait();
-        self.told = noted::<_, Waited>(&self.told, (process.number, &said));
-        said
+        let outcome = process.child.try_wait();
+        self.told = noted::<_, Waited>(&self.told, (process.number, &outcome));
+        outcome
     }
 
     fn kill(&mut self, process: &mut Process<R::Started>) -> io::Result<()> {

@@ -1,7 +1,7 @@
 -- What a run left, where its writer was only flushed since.
 use Rattle.initd_command.proofs.Words.{◌≡◌, sym, subst, Result, Ok, Err, IfErr, OnOk, ◌⊎◌, inl, inr, List, ℕ, true}
 use Rattle.initd_command.proofs.Words.{Option, Keeps, KnownTexts, Appends-kept, Keeps-trans, Done, Ends, Scenario}
-use Rattle.initd_command.proofs.Words.{past_text, HasInittab, IsInittab, TakesParts, is_taken, told_of, RunSaid}
+use Rattle.initd_command.proofs.Words.{past_text, HasInittab, IsInittab, TakesParts, is_taken, told_of, RunArguments}
 use Rattle.std.specs.Result.{IsErrAnd}
 use Rattle.simulator.specs.declared.running.SimFault.{SimFault}
 use Rattle.simulator.specs.declared.running.SimFault.TheVariants as fault
@@ -36,7 +36,7 @@ either_kept s old mid new (inl whole) kept = inl (done_kept s old mid new whole 
 either_kept s old mid new (inr (f, ends)) kept = inr (f, ends_kept s f old mid new ends kept)
 
 -- an inittab that was read, and that the run takes
-pub read_taken : (text_at : KnownTexts) (service : RunSaid) (read : Inittab) → IsInittab text_at service read
+pub read_taken : (text_at : KnownTexts) (service : RunArguments) (read : Inittab) → IsInittab text_at service read
     → HasInittab text_at service (TakesParts service)
 read_taken text_at service read (parts, are, (readable, told, table), taken) = (
   parts,

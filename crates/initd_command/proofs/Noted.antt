@@ -2,7 +2,8 @@
 use Rattle.initd_command.proofs.Words.{◌≡◌, refl, sym, ◌∙◌, ap, subst, ℕ, Bool, true, false, not, ◌&&◌, if◌then◌else◌}
 use Rattle.initd_command.proofs.Words.{List, [], ◌++◌, reverse, Option, Some, None, is_some, append-nil, reverse-append}
 use Rattle.initd_command.proofs.Words.{reverse-reverse, Entry, Event, LogState, HostCall, IsRunning, Notes, NotesOf}
-use Rattle.initd_command.proofs.Words.{is_wanted, Served, waiting_text, IsOpening, opening_point, RunSaid, Judgement}
+use Rattle.initd_command.proofs.Words.{is_wanted, Served, waiting_text, IsOpening, opening_point, RunArguments}
+use Rattle.initd_command.proofs.Words.{Judgement}
 use Rattle.initd_command.proofs.Words.{Finds, IsNoted, IsServed, LogEnds, TurnsFrom, judgement_for, noted_of}
 use Rattle.std.proofs.Common.{IfSome}
 use Rattle.std.specs.Bool.{then_some}
@@ -18,7 +19,7 @@ use Rattle.init_turns.proofs.Opened.{from_opening, opening_short}
 use Rattle.inittab_text.specs.Tables.{is_distinct}
 
 -- where a run is to be judged, what was found counts
-found_for : (service : RunSaid) (found : Judgement) (past : List Event) → Finds found past
+found_for : (service : RunArguments) (found : Judgement) (past : List Event) → Finds found past
     → IfSome (judgement_for service found) (λ judgement. Finds judgement past)
 found_for service found past finds = by service.judge
   where
@@ -26,14 +27,14 @@ found_for service found past finds = by service.judge
     by true = finds
     by false = tt
 
-judged_for : (service : RunSaid) (found : Judgement) → is_some (judgement_for service found) ≡ service.judge
+judged_for : (service : RunArguments) (found : Judgement) → is_some (judgement_for service found) ≡ service.judge
 judged_for service found = by service.judge
   where
     by : (asked : Bool) → is_some (then_some asked found) ≡ asked
     by true = refl
     by false = refl
 
-pub judged_still : (service : RunSaid) (found : Judgement) (judgement : Option Judgement)
+pub judged_still : (service : RunArguments) (found : Judgement) (judgement : Option Judgement)
     → judgement ≡ judgement_for service found → is_some judgement ≡ service.judge
 judged_still service found judgement is = subst (λ j. is_some j ≡ service.judge) (sym is) (judged_for service found)
 
@@ -63,8 +64,8 @@ pub served_still : (P : ℕ → Bool → Type 0) (served ended : Served) (logged
     → ended ≡ record served { logged = logged } → P served.turns served.drained → P ended.turns ended.drained
 served_still P served ended logged is so = subst (λ (s : Served). P s.turns s.drained) (sym is) so
 
-pub is_served : (service : RunSaid) (served ended : Served) (logged : Bool) → ended ≡ record served { logged = logged }
-    → IsServed service served → IsServed service ended
+pub is_served : (service : RunArguments) (served ended : Served) (logged : Bool)
+    → ended ≡ record served { logged = logged } → IsServed service served → IsServed service ended
 is_served service served ended logged is limits = subst (IsServed service) (sym is) limits
 
 -- a log that took of a trace what it had not missed has ended so
@@ -97,7 +98,7 @@ led_fits level table core old new calls distinct leads allowed carried =
 -- turns over a log that had taken nothing, which was ended behind them
 pub noted_over : (has_ended : Bool → List Event → Type 0) (notes : Notes) (found : Judgement) (whole : Bool)
     (core : CoreState) (old now : LogState)
-    (service : RunSaid) (level : Option Level) (table : List Entry) (served ended : Served)
+    (service : RunArguments) (level : Option Level) (table : List Entry) (served ended : Served)
     (judgement : Option Judgement) (calls : List HostCall)
     → ended ≡ record served { logged = served.logged && whole } → judgement ≡ judgement_for service found
     → old.taken [] → old.noted ≡ service.result → notes.wanted ≡ now.noted → served.logged ≡ not now.failed

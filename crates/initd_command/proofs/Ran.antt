@@ -1,9 +1,11 @@
 -- Which calls a run made, by how it ended: none but where it came to its turns.
 use Rattle.initd_command.proofs.Words.{◌≡◌, refl, sym, subst, ℕ, Bool, true, false, is_some, List, [], ◌∷◌, ◌++◌}
 use Rattle.initd_command.proofs.Words.{Option, Some, None, ⊤, Entry, KnownTexts, Event, LogState, HostCall}
-use Rattle.initd_command.proofs.Words.{Since, InitdSaid, judges, runs, simulates, version, RunSaid, IsOpeningOf}
+use Rattle.initd_command.proofs.Words.{Since, InitdArguments, judges, runs, simulates, version, RunArguments}
+use Rattle.initd_command.proofs.Words.{IsOpeningOf}
 use Rattle.initd_command.proofs.Words.{OpeningState, Spoken, refused, turned, End, HasInittab, TakesParts, has_no_level}
-use Rattle.initd_command.proofs.Words.{table_in, told_of, AsksSaid, MakesLogged, MakesTraced, LogEnds, RanBy, RunTold}
+use Rattle.initd_command.proofs.Words.{table_in, told_of, AsksArguments, MakesLogged, MakesTraced, LogEnds, RanBy}
+use Rattle.initd_command.proofs.Words.{RunTold}
 use Rattle.initd_command.proofs.Words.{HasSettings, HostSettings}
 use Rattle.std.proofs.Common.{true≢false, ◌∙◌}
 use Rattle.std.proofs.lemmas.Option.{none-some}
@@ -57,7 +59,7 @@ some_none : {A : Type 0} (given : Option A) → is_some given ≡ true → given
 some_none None some none = true≢false (sym some)
 some_none (Some x) some none = none-some x (sym none)
 
-module _ {L fresh : Type 0} (state : L → LogState) (has_ended : Bool → List Event → Type 0) (service : RunSaid)
+module _ {L fresh : Type 0} (state : L → LogState) (has_ended : Bool → List Event → Type 0) (service : RunArguments)
     (table : List Entry) (end : End) (is : fresh) where
   -- turns over a log that was fresh
   abbrev made_now : (calls : List HostCall) → MakesTurns fresh service table end calls
@@ -92,7 +94,7 @@ module _ {L fresh : Type 0} (state : L → LogState) (has_ended : Bool → List 
       (made_now calls made, λ _. refl, λ some. absurd (true≢false (sym some ∙ none)))
 
 -- what a run makes over each table that its opening is of, it makes over the inittab at its paths
-pub ran_to : (text_at : KnownTexts) (service : RunSaid) (own : Option HostSettings → Type 0)
+pub ran_to : (text_at : KnownTexts) (service : RunArguments) (conforms : Option HostSettings → Type 0)
     (opening : OpeningState) (spoken : Spoken) (end : End) (bytes : List ℕ) (old new : RunTold)
     → HasInittab text_at service (λ parts. TakesParts service parts
     × (spoken.unled ≡ has_no_level service.level (table_in parts)) × IsOpeningOf service.level (table_in parts) opening
@@ -101,18 +103,18 @@ pub ran_to : (text_at : KnownTexts) (service : RunSaid) (own : Option HostSettin
     → new.trace ≡ old.trace ++ bytes
     → ((table : List Entry) → IsOpeningOf service.level table opening
     → Since old.calls new.calls (MakesTraced service table end bytes))
-    → (known : Option HostSettings) × HasSettings service known × own known
-    → RanBy text_at service own (turned spoken end) old new
-ran_to text_at service own opening spoken end bytes old new (parts, are, read, (taken, led, opens, (served, told)))
+    → (known : Option HostSettings) × HasSettings service known × conforms known
+    → RanBy text_at service conforms (turned spoken end) old new
+ran_to text_at service conforms opening spoken end bytes old new (parts, are, read, (taken, led, opens, (served, told)))
     by grown made (known, has, is) =
     ((parts, are, read, (taken, led, bytes, grown, made (table_in parts) opens, told)), by, known, has, is)
 
 -- where memory ran out nothing is asked, whatever the arguments say
-pub none_asked : (text_at : KnownTexts) (options : Option InitdSaid) (own : Option HostSettings → Type 0)
+pub none_asked : (text_at : KnownTexts) (options : Option InitdArguments) (conforms : Option HostSettings → Type 0)
     (now : RunTold)
-    → AsksSaid text_at options own (refused Memory) now now
-none_asked text_at None own now = (refl, refl)
-none_asked text_at (Some version) own now = (refl, refl)
-none_asked text_at (Some (simulates run)) own now = (refl, refl)
-none_asked text_at (Some (judges path)) own now = (refl, refl)
-none_asked text_at (Some (runs service)) own now = (refl, refl)
+    → AsksArguments text_at options conforms (refused Memory) now now
+none_asked text_at None conforms now = (refl, refl)
+none_asked text_at (Some version) conforms now = (refl, refl)
+none_asked text_at (Some (simulates run)) conforms now = (refl, refl)
+none_asked text_at (Some (judges path)) conforms now = (refl, refl)
+none_asked text_at (Some (runs service)) conforms now = (refl, refl)

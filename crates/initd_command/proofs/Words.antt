@@ -15,7 +15,7 @@ pub use Rattle.initd_command.specs.Services.{HasInittab, IsInittab, TakesParts, 
 pub use Rattle.initd_command.specs.Services.{LogEnds, TurnsFrom, judgement_for, noted_of, has_no_level, table_in}
 pub use Rattle.initd_command.specs.Services.{end_of}
 pub use Rattle.initd_command.specs.Services.{Writes, IsInWay, AreFiles, StandBy, own_paths}
-pub use Rattle.initd_options.specs.Options.{RunSaid, run_of}
+pub use Rattle.initd_options.specs.Options.{RunArguments, run_of}
 pub use Rattle.std.proofs.lemmas.List.{append-nil, reverse-append, reverse-reverse, length-drop}
 pub use Rattle.init_words.specs.declared.entries.Entry.{Entry}
 pub use Rattle.trace_events.specs.Event.{Event}
@@ -29,11 +29,12 @@ pub use Rattle.init_turns.specs.Opening.{IsOpening, opening_point, IsOpeningOf, 
 pub use Rattle.trace_log_wrappers.specs.declared.judgements.Judgement.{Judgement}
 pub use Rattle.trace_log_wrappers.specs.Judgements.{Finds}
 pub use Rattle.host_calls.specs.Record.{Since}
-pub use Rattle.initd_options.specs.CommandLine.{InitdSaid, judges, runs, simulates, version, CheckSaid, check_of}
+pub use Rattle.initd_options.specs.CommandLine.{InitdArguments, judges, runs, simulates, version, CheckArguments}
+pub use Rattle.initd_options.specs.CommandLine.{check_of}
 pub use Rattle.initd_options.specs.CommandLine.{initd_read_of, simulation_of}
 pub use Rattle.initd_command.specs.Turned.{End, ReportsText, listed_after}
 pub use Rattle.host_calls.specs.Settings.{HostSettings}
-pub use Rattle.initd_command.specs.Ran.{AsksSaid, MakesLogged, MakesTraced, RanBy, RunTold, AsksBy, HasSettings}
+pub use Rattle.initd_command.specs.Ran.{AsksArguments, MakesLogged, MakesTraced, RanBy, RunTold, AsksBy, HasSettings}
 pub use Rattle.program_io.specs.Reports.{HasReported, ReportList}
 pub use Rattle.program_io.specs.Writing.{AppendsPrefix}
 pub use Rattle.initd_command.specs.Verdicts.{cut_at, within_of, breach_message, unlawful_text, EndsFound, judged_of}

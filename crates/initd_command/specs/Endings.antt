@@ -23,7 +23,7 @@ use Rattle.command_words.specs.Faults.{usage_report}
 -- if at any; and how many are
 pub record Judged : Type 0 where
   pub within : Option (List ℕ)
-  pub left : Option ℕ
+  pub open_line : Option ℕ
   pub count : ℕ
 
 -- what is said of a run that comes to its turns: that nothing names its level, or something does; that words name no
@@ -146,9 +146,9 @@ ReportsWhere true text old new = HasReported old new text
 ReportsWhere false text old new = new ≡ old
 
 -- what is told of a happening that isn't finished
-abbrev pub ReportsLeft : Option ℕ → ReportList → ReportList → Type 0
-ReportsLeft None old new = new ≡ old
-ReportsLeft (Some line) old new = ReportsText (left_message line) old new
+abbrev pub ReportsOpenLine : Option ℕ → ReportList → ReportList → Type 0
+ReportsOpenLine None old new = new ≡ old
+ReportsOpenLine (Some line) old new = ReportsText (left_message line) old new
 
 -- what is told of a trace that begins within a run
 abbrev pub ReportsWithin : Option (List ℕ) → ReportList → ReportList → Type 0
@@ -162,7 +162,7 @@ count_message count = codes "initd: " ++ decimal count ++ codes " happenings\n"
 abbrev pub ReportsJudged : Judged → ReportList → ReportList → Type 0
 ReportsJudged judged old new =
     (first : ReportList) × ReportsWithin judged.within old first
-    × (mid : ReportList) × ReportsText (count_message judged.count) first mid × ReportsLeft judged.left mid new
+    × (mid : ReportList) × ReportsText (count_message judged.count) first mid × ReportsOpenLine judged.open_line mid new
 
 -- what could not be done with a file is reported, and why
 abbrev pub ReportsCannot : List ℕ → List ℕ → ReportList → ReportList → Type 0

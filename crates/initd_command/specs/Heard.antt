@@ -11,9 +11,9 @@ use Rattle.host_trace.specs.Requests.{bytes_of, requests_in}
 -- block, bring the requests that stood behind that front, and this one behind them. The front is what init passed over,
 -- as with --fresh; or nothing.
 abbrev pub BringsNext : List ℕ → HeardRequest → List ℕ → Type 0
-BringsNext stood request bytes = (front behind : List ℕ) (calls : List HostCall) (p : Point)
-    → stood ≡ front ++ behind → length front % BLOCK ≡ 0 → p.over ≡ [] → front ++ bytes_of calls ≡ bytes
-    → requests_in (point_after calls p).past ≡ requests_in p.past ++ (gots_of behind ++ request ∷ [])
+BringsNext stood request bytes = (front later : List ℕ) (calls : List HostCall) (p : Point)
+    → stood ≡ front ++ later → length front % BLOCK ≡ 0 → p.over ≡ [] → front ++ bytes_of calls ≡ bytes
+    → requests_in (point_after calls p).past ≡ requests_in p.past ++ (gots_of later ++ request ∷ [])
 
 -- of the channel that words name, whose bytes were known, the request that they ask for is the next behind those that
 -- stood there

@@ -7,13 +7,13 @@ use Rattle.host_system.specs.Asking.{AreAsked}
 use Rattle.host_system.specs.Hearing.{IsHeard}
 use Rattle.host_system.specs.Hosts.{HostState}
 use Rattle.host_system.specs.Systems.{SystemCall}
-use Rattle.initd_command.specs.Words.{HostCall, RunSaid}
+use Rattle.initd_command.specs.Words.{HostCall, RunArguments}
 
 -- one that reads their inittab, is strict, tells of its children and passes over the requests from before where the
 -- words say so, with its logs and groups where they say; none of its calls failed, it read nothing of its channel, and
 -- it holds no child; what its system was asked the words don't say
-abbrev pub host_said : List SystemCall → RunSaid → HostState
-host_said asked service = record {
+abbrev pub host_with : List SystemCall → RunArguments → HostState
+host_with asked service = record {
   faults = 0;
   strict = service.strict;
   verbose = service.verbose;

@@ -1,7 +1,8 @@
 -- Which calls a run of init makes of its host.
 use Rattle.std.specs.Prelude.{◌≡◌, ℕ, Bool, true, false, List, [], ◌∷◌, ◌++◌, reverse, Option, Some, None, is_some, ⊤}
 use Rattle.std.specs.Prelude.{IfSome}
-use Rattle.initd_command.specs.Words.{Entry, KnownTexts, InitdSaid, initd_read_of, runs, RunSaid, Event, LogState}
+use Rattle.initd_command.specs.Words.{Entry, KnownTexts, InitdArguments, initd_read_of, runs, RunArguments, Event}
+use Rattle.initd_command.specs.Words.{LogState}
 use Rattle.initd_command.specs.Words.{HostCall, Since, UpTo, WentWell, Level, CoreState, opening_goal, is_drained}
 use Rattle.initd_command.specs.Words.{FitsAll, ServesTurns, IsOpening, Served}
 use Rattle.host_calls.specs.Settings.{HostSettings}
@@ -24,7 +25,7 @@ EndsDrained level table calls = TurnsFrom level table calls (λ past.
 -- where it ended drained, in which a level is settled where the system does its part; up to each call all went well as
 -- far as the answers until then were possible; the turns ended so; and where their log was fresh, and took all of their
 -- trace, what is noted of the run is noted of that.
-pub record MakesTurns (fresh : Type 0) (service : RunSaid) (table : List Entry) (end : End) (calls : List HostCall)
+pub record MakesTurns (fresh : Type 0) (service : RunArguments) (table : List Entry) (end : End) (calls : List HostCall)
     : Type 0 where
   pub served : Served
   pub noted : Noted
@@ -37,8 +38,8 @@ pub record MakesTurns (fresh : Type 0) (service : RunSaid) (table : List Entry) 
   pub ends : end ≡ end_of service noted served
 
 -- such turns; and if their log was fresh, how it ended, and that at each call it had taken what came until then
-abbrev pub MakesLogged : {L : Type 0} → (L → LogState) → Type 0 → (Bool → List Event → Type 0) → RunSaid → List Entry
-    → End → List HostCall → Type 0
+abbrev pub MakesLogged : {L : Type 0} → (L → LogState) → Type 0 → (Bool → List Event → Type 0) → RunArguments
+    → List Entry → End → List HostCall → Type 0
 MakesLogged state fresh has_ended service table end calls = (made : MakesTurns fresh service table end calls)
     × (fresh → TurnsFrom service.level table calls (λ past. LogEnds has_ended made.served.logged (reverse past)))
     × (fresh → HadAll state (IsOpening service.level table) calls)
@@ -51,7 +52,7 @@ IsWritten true bytes whole trace = EndsBrief (λ all written. KnowsEnd all writt
 
 -- Such turns, of whose trace these bytes came into files: where the run is to write one, they are what is written of
 -- the trace of the calls, whole if the turns ended with their log whole; and else none.
-abbrev pub MakesTraced : RunSaid → List Entry → End → List ℕ → List HostCall → Type 0
+abbrev pub MakesTraced : RunArguments → List Entry → End → List ℕ → List HostCall → Type 0
 MakesTraced service table end bytes calls = (made : MakesTurns ⊤ service table end calls)
     × (service.trace ≡ None → bytes ≡ [])
     × (is_some service.trace ≡ true → TurnsFrom service.level table calls (λ past.
@@ -60,14 +61,14 @@ MakesTraced service table end bytes calls = (made : MakesTurns ⊤ service table
 -- what is told of a run: the arguments by which its hosts were opened, the calls that these were asked, the bytes that
 -- files of traces took, and what it wrote
 pub record RunTold : Type 0 where
-  pub opened : Option (List RunSaid)
+  pub opened : Option (List RunArguments)
   pub calls : Option (List HostCall)
   pub trace : List ℕ
   pub out : Option (List ℕ)
 
 -- the settings of a host that arguments of a run name
-abbrev pub settings_said : RunSaid → HostSettings
-settings_said service = record {
+abbrev pub settings_of : RunArguments → HostSettings
+settings_of service = record {
   inittab = service.inittab;
   logs = service.logs;
   groups = service.groups;
@@ -75,34 +76,34 @@ settings_said service = record {
 }
 
 -- where they are known, they are these
-abbrev pub HasSettings : RunSaid → Option HostSettings → Type 0
-HasSettings service known = IfSome known (λ settings. settings ≡ settings_said service)
+abbrev pub HasSettings : RunArguments → Option HostSettings → Type 0
+HasSettings service known = IfSome known (λ settings. settings ≡ settings_of service)
 
 -- no host was asked anything, and no file of a trace took a byte
 abbrev pub AsksNothing : RunTold → RunTold → Type 0
 AsksNothing old new = (new.calls ≡ old.calls) × (new.trace ≡ old.trace)
 
 -- A run that comes to its turns makes them over the inittab at its paths, which it takes, whose faults it tells, and of
--- which it says whether it names the level, by a host that is opened by its arguments, of which `own` is so then, with
--- the settings that they say. The files of its trace take the text of that, behind what was told before. Any other asks
--- nothing of a host, and writes no trace.
-abbrev pub RanBy : KnownTexts → RunSaid → (Option HostSettings → Type 0) → Ending → RunTold → RunTold → Type 0
-RanBy text_at service own (turned spoken end) old new =
+-- which it says whether it names the level, by a host that is opened by its arguments, of which `conforms` is so then,
+-- with the settings that they say. The files of its trace take the text of that, behind what was told before. Any other
+-- asks nothing of a host, and writes no trace.
+abbrev pub RanBy : KnownTexts → RunArguments → (Option HostSettings → Type 0) → Ending → RunTold → RunTold → Type 0
+RanBy text_at service conforms (turned spoken end) old new =
     HasInittab text_at service (λ parts. TakesParts service parts
     × (spoken.unled ≡ has_no_level service.level (table_in parts))
     × (bytes : List ℕ) × (new.trace ≡ old.trace ++ bytes)
     × Since old.calls new.calls (MakesTraced service (table_in parts) end bytes)
     × Writes spoken.told (told_of parts) old.out new.out)
     × Since old.opened new.opened (λ saids. saids ≡ service ∷ [])
-    × (known : Option HostSettings) × HasSettings service known × own known
-RanBy text_at service own _ old new = AsksNothing old new
+    × (known : Option HostSettings) × HasSettings service known × conforms known
+RanBy text_at service conforms _ old new = AsksNothing old new
 
 -- what arguments ask of hosts, and write of a trace: those of a run what the run does, any others nothing
-abbrev pub AsksSaid : KnownTexts → Option InitdSaid → (Option HostSettings → Type 0) → Ending → RunTold → RunTold
-    → Type 0
-AsksSaid text_at (Some (runs service)) own ending old new = RanBy text_at service own ending old new
-AsksSaid text_at _ own ending old new = AsksNothing old new
+abbrev pub AsksArguments : KnownTexts → Option InitdArguments → (Option HostSettings → Type 0) → Ending → RunTold
+    → RunTold → Type 0
+AsksArguments text_at (Some (runs service)) conforms ending old new = RanBy text_at service conforms ending old new
+AsksArguments text_at _ conforms ending old new = AsksNothing old new
 
 abbrev pub AsksBy : KnownTexts → List (List ℕ) → (Option HostSettings → Type 0) → Ending → RunTold → RunTold
     → Type 0
-AsksBy text_at words own ending old new = AsksSaid text_at (initd_read_of words) own ending old new
+AsksBy text_at words conforms ending old new = AsksArguments text_at (initd_read_of words) conforms ending old new

@@ -3,7 +3,8 @@
 use Rattle.std.specs.Prelude.{◌≡◌, ◌⊎◌, ℕ, if◌then◌else◌, List, codes, Option, Some, None}
 use Rattle.std.specs.Io.KnownBytes.{Appends, Keeps}
 use Rattle.initd_command.specs.Words.{AppendsPrefix, IsTextAt, KnownTexts, SimFault, Done, Ends, Scenario, scenario}
-use Rattle.initd_command.specs.Words.{CheckSaid, SimulateSaid, InitdSaid, judges, initd_read_of, simulates, runs}
+use Rattle.initd_command.specs.Words.{CheckArguments, SimulateArguments, InitdArguments, judges, initd_read_of}
+use Rattle.initd_command.specs.Words.{simulates, runs}
 use Rattle.initd_command.specs.Words.{version}
 use Rattle.command_words.specs.VersionLine.{version_line}
 use Rattle.initd_command.specs.declared.run.Obstacle.TheVariants.{Memory}
@@ -20,7 +21,7 @@ EndsSimulation s unflushed old new = Done s old new ⊎ ((f : SimFault) × Ends 
 EndsSimulation s _ old new = ⊥
 
 -- how a run ends of files: one is not read, or the run ends over what was read
-abbrev pub EndsSimulate : KnownTexts → SimulateSaid → Ending → Option (List ℕ) → Option (List ℕ) → Type 0
+abbrev pub EndsSimulate : KnownTexts → SimulateArguments → Ending → Option (List ℕ) → Option (List ℕ) → Type 0
 EndsSimulate text_at run ending old new =
     (EndsUnread run.table ending old new ⊎ EndsUnread run.script ending old new)
     ⊎ ((inittab script : List ℕ) × IsTextAt text_at run.table inittab × IsTextAt text_at run.script script
@@ -34,22 +35,22 @@ EndsVersion _ old new = ⊥
 
 -- the texts at the paths of traces that are judged: nothing is known of one with the pieces that were put away before
 -- it
-abbrev pub judged_at : KnownTexts → CheckSaid → KnownTexts
+abbrev pub judged_at : KnownTexts → CheckArguments → KnownTexts
 judged_at text_at options = if options.pieces then (λ _. None) else text_at
 
 -- how a command line ends that was read
-abbrev pub EndsSaid : KnownTexts → InitdSaid → Ending → Option (List ℕ) → Option (List ℕ) → Type 0
-EndsSaid text_at version ending old new = EndsVersion ending old new
-EndsSaid text_at (simulates run) ending old new = EndsSimulate text_at run ending old new
-EndsSaid text_at (judges check) ending old new = EndsCheck (judged_at text_at check) check ending old new
-EndsSaid text_at (runs service) ending old new = EndsRun text_at service ending old new
+abbrev pub EndsArguments : KnownTexts → InitdArguments → Ending → Option (List ℕ) → Option (List ℕ) → Type 0
+EndsArguments text_at version ending old new = EndsVersion ending old new
+EndsArguments text_at (simulates run) ending old new = EndsSimulate text_at run ending old new
+EndsArguments text_at (judges check) ending old new = EndsCheck (judged_at text_at check) check ending old new
+EndsArguments text_at (runs service) ending old new = EndsRun text_at service ending old new
 
 -- how words end that are no command line, and how they end by what they say
-abbrev pub EndsRead : KnownTexts → List (List ℕ) → Option InitdSaid → Ending → Option (List ℕ) → Option (List ℕ)
+abbrev pub EndsRead : KnownTexts → List (List ℕ) → Option InitdArguments → Ending → Option (List ℕ) → Option (List ℕ)
     → Type 0
 EndsRead text_at words None ending old new =
     (reason : List ℕ) × (ending ≡ usage (usage_named words) reason) × Keeps old new
-EndsRead text_at words (Some options) ending old new = EndsSaid text_at options ending old new
+EndsRead text_at words (Some options) ending old new = EndsArguments text_at options ending old new
 
 -- how words end: so, or memory ran out to read them
 abbrev pub EndsBy : KnownTexts → List (List ℕ) → Ending → Option (List ℕ) → Option (List ℕ) → Type 0

@@ -8,7 +8,7 @@ use Rattle.std.specs.Bool.{then_some}
 use Rattle.std.specs.Io.KnownBytes.{Appends, Keeps}
 use Rattle.initd_command.specs.Words.{AppendsPrefix, IsTextAt, KnownTexts, NamedText, texts_of, Entry, Level, Judgement}
 use Rattle.initd_command.specs.Words.{Status, Event, CoreState, opening_goal, FitsAll, waiting_text, HostCall}
-use Rattle.initd_command.specs.Words.{are_carried, is_allowed, point_after, Served, opening_point, RunSaid}
+use Rattle.initd_command.specs.Words.{are_carried, is_allowed, point_after, Served, opening_point, RunArguments}
 use Rattle.inittab_text.specs.Parts.{AreTooLong, AreTooMany, are_readable, faults_of_parts, table_of_texts}
 use Rattle.inittab_text.specs.Tables.{default_level_of, entry_of}
 use Rattle.trace_log_wrappers.specs.Judgements.{Finds}
@@ -29,7 +29,7 @@ has_no_level (Some level) table = false
 has_no_level None table = is_none (default_level_of table)
 
 -- a run that takes no faulty line has lines that tell faults
-abbrev pub is_flawed : RunSaid → List ℕ → Bool
+abbrev pub is_flawed : RunArguments → List ℕ → Bool
 is_flawed service told = service.strict && not (length told == 0)
 
 -- the table has an entry of the id whose result a run is to have, if it is to have one
@@ -38,7 +38,7 @@ has_result table None = true
 has_result table (Some id) = is_some (entry_of id table)
 
 -- a run takes an inittab of this table, whose faults these lines tell
-abbrev pub is_taken : RunSaid → List ℕ → List Entry → Bool
+abbrev pub is_taken : RunArguments → List ℕ → List Entry → Bool
 is_taken service told table = not (is_flawed service told) && has_result table service.result
 
 -- what is noted of a run: how the last child of the entry that has its result ended, if one did; the children that go
@@ -59,7 +59,7 @@ noted_of notes waiting judgement = record {
 }
 
 -- what was found counts where the run was to be judged
-abbrev pub judgement_for : RunSaid → Judgement → Option Judgement
+abbrev pub judgement_for : RunArguments → Judgement → Option Judgement
 judgement_for service judgement = then_some service.judge judgement
 
 -- the end of an entry, where the run has an entry's result
@@ -67,12 +67,12 @@ abbrev pub entry_end : Option Status → Option (List ℕ) → Option EntryEnd
 entry_end last entry = option_map (λ id. record { id = id; last = last }) entry
 
 -- how turns end: the trace was written whole or not, and the run was to end where it is drained, and is
-abbrev pub turns_at : RunSaid → Noted → Bool → Bool → TurnsEnd
+abbrev pub turns_at : RunArguments → Noted → Bool → Bool → TurnsEnd
 turns_at service noted false ends = unlogged (not ends) noted.waiting
 turns_at service noted true true = drained (entry_end noted.last service.result)
 turns_at service noted true false = limited noted.running noted.waiting
 
-abbrev pub end_of : RunSaid → Noted → Served → End
+abbrev pub end_of : RunArguments → Noted → Served → End
 end_of service noted served = record {
   turns = turns_at service noted served.logged (service.drain && served.drained);
   whole = served.logged;
@@ -80,17 +80,17 @@ end_of service noted served = record {
 }
 
 -- it made no more turns than were asked for, and fewer only where it was to end drained, and is
-abbrev pub IsServed : RunSaid → Served → Type 0
+abbrev pub IsServed : RunArguments → Served → Type 0
 IsServed service served =
     (served.turns ≤ service.turns)
     × (served.turns < service.turns → (service.drain ≡ true) × (served.drained ≡ true))
 
 -- something was found of the run just where it was to be judged
-abbrev pub IsJudged : RunSaid → Noted → Type 0
+abbrev pub IsJudged : RunArguments → Noted → Type 0
 IsJudged service noted = is_some noted.judgement ≡ service.judge
 
 -- turns were made that ended so
-abbrev pub EndsServed : RunSaid → End → Type 0
+abbrev pub EndsServed : RunArguments → End → Type 0
 EndsServed service end =
     (served : Served) × (noted : Noted) × (end ≡ end_of service noted served) × IsServed service served
     × IsJudged service noted
@@ -118,13 +118,13 @@ TurnsFrom level table calls So =
 
 -- they are the files of a run's inittab: its own, which is not known to have another text, and others only where it
 -- has a folder
-abbrev pub AreFiles : KnownTexts → RunSaid → List NamedText → Type 0
+abbrev pub AreFiles : KnownTexts → RunArguments → List NamedText → Type 0
 AreFiles text_at service parts =
     (inittab : List ℕ) × (more : List NamedText) × IsTextAt text_at service.inittab inittab
     × (parts ≡ record { name = service.inittab; bytes = inittab } ∷ more) × (service.inittab_dir ≡ None → more ≡ [])
 
 -- so of the files, which are neither too many nor too long
-abbrev pub HasInittab : KnownTexts → RunSaid → (List NamedText → Type 0) → Type 0
+abbrev pub HasInittab : KnownTexts → RunArguments → (List NamedText → Type 0) → Type 0
 HasInittab text_at service So =
     (parts : List NamedText) × AreFiles text_at service parts × (are_readable (texts_of parts) ≡ true) × So parts
 
@@ -136,17 +136,17 @@ abbrev pub told_of : List NamedText → List ℕ
 told_of parts = faults_text parts (faults_of_parts (texts_of parts))
 
 -- the run takes the inittab of these files
-abbrev pub TakesParts : RunSaid → List NamedText → Type 0
+abbrev pub TakesParts : RunArguments → List NamedText → Type 0
 TakesParts service parts = is_taken service (told_of parts) (table_in parts) ≡ true
 
 -- the paths of a run's inittab, channel, state and trace
-abbrev pub own_paths : RunSaid → List (List ℕ)
+abbrev pub own_paths : RunArguments → List (List ℕ)
 own_paths service = service.inittab ∷ service.initctl ∷ service.state ∷ unwrap_or service.trace [] ∷ []
 
 -- a path, and another one behind it
 abbrev pub StandBy : List ℕ → List ℕ → List (List ℕ) → Type 0
 StandBy one other paths =
-    (before between behind : List (List ℕ)) × (paths ≡ before ++ one ∷ (between ++ other ∷ behind))
+    (before between after : List (List ℕ)) × (paths ≡ before ++ one ∷ (between ++ other ∷ after))
 
 -- no two of them are the same
 abbrev pub AreApart : List (List ℕ) → Type 0
@@ -154,7 +154,7 @@ AreApart [] = ⊤
 AreApart (path ∷ paths) = AllByRecursion (λ other. path ≢ other) paths × AreApart paths
 
 -- what is in the way of a run; of signals nothing is known
-abbrev pub IsInWay : KnownTexts → RunSaid → Obstacle → Type 0
+abbrev pub IsInWay : KnownTexts → RunArguments → Obstacle → Type 0
 IsInWay text_at service (why.Unread path error) = (string_bytes path ≡ service.inittab)
     ⊎ ((folder : List ℕ) × (service.inittab_dir ≡ Some folder) × IsWithin folder (string_bytes path))
 IsInWay text_at service why.Memory = ⊤
@@ -180,12 +180,12 @@ Writes true text old new = Appends old new text
 Writes false text old new = AppendsPrefix old new text
 
 -- turns were made, of which this is said, that ended so: the faults of the inittab were written before them, or a part
-abbrev pub EndsTold : RunSaid → List ℕ → Bool → End → Option (List ℕ) → Option (List ℕ) → Type 0
+abbrev pub EndsTold : RunArguments → List ℕ → Bool → End → Option (List ℕ) → Option (List ℕ) → Type 0
 EndsTold service told written end old new = EndsServed service end × Writes written told old new
 
 -- how a run ends: something is in its way, and nothing is written, or its paths are apart, it takes the inittab that
 -- stands there, whose faults it tells, and makes turns, of which it says whether anything names their end
-abbrev pub EndsRun : KnownTexts → RunSaid → Ending → Option (List ℕ) → Option (List ℕ) → Type 0
+abbrev pub EndsRun : KnownTexts → RunArguments → Ending → Option (List ℕ) → Option (List ℕ) → Type 0
 EndsRun text_at service ending old new =
     ((obstacle : Obstacle) × (ending ≡ refused obstacle) × IsInWay text_at service obstacle × Keeps old new)
     ⊎ AreApart (own_paths service) × HasInittab text_at service (λ parts. TakesParts service parts
@@ -200,6 +200,6 @@ IsReadOf parts read =
     (are_readable (texts_of parts) ≡ true) × (read.faults.items ≡ told_of parts) × (read.table ≡ table_in parts)
 
 -- the files are there, and this was read of them, which the run takes
-abbrev pub IsInittab : KnownTexts → RunSaid → Inittab → Type 0
+abbrev pub IsInittab : KnownTexts → RunArguments → Inittab → Type 0
 IsInittab text_at service read = (parts : List NamedText) × AreFiles text_at service parts × IsReadOf parts read
     × (is_taken service read.faults.items read.table ≡ true)

@@ -2,7 +2,7 @@
 use Rattle.std.specs.Prelude.{◌≡◌, ◌⊎◌, ◌==◌, ◌&&◌, if◌then◌else◌, not, nat_lt, ℕ, Bool, true, false, List, [], ◌++◌}
 use Rattle.std.specs.Prelude.{codes, decimal, Option, Some, None, option_map, slice_get}
 use Rattle.std.specs.Io.KnownBytes.{Appends, Keeps}
-use Rattle.initd_command.specs.Words.{AppendsPrefix, IsTextAt, KnownTexts, law_number, law_words, CheckSaid}
+use Rattle.initd_command.specs.Words.{AppendsPrefix, IsTextAt, KnownTexts, law_number, law_words, CheckArguments}
 use Rattle.trace_verdict.specs.declared.findings.Finding.{Finding}
 use Rattle.trace_verdict.specs.declared.findings.Finding.TheVariants.{Lawful, Breach, Torn}
 use Rattle.trace_verdict.specs.Answers.{Named, Answers}
@@ -16,7 +16,7 @@ use Rattle.initd_command.specs.Endings.{unwritten}
 abbrev pub judged_of : JudgedTrace → Judged
 judged_of told = record {
   within = option_map (λ path. path.now) told.within;
-  left = told.left;
+  open_line = told.open_line;
   count = told.count;
 }
 
@@ -78,8 +78,8 @@ EndsFound (Torn number) judged ending old new = EndsTorn number ending old new
 
 -- the line at which a text isn't finished, where that counts: one that is growing is judged up to it
 abbrev pub cut_at : Bool → Option ℕ → Option ℕ
-cut_at true left = None
-cut_at false left = left
+cut_at true open_line = None
+cut_at false open_line = open_line
 
 -- how a text ends that isn't finished at this line: it is no trace, and what is found up to it is told
 abbrev pub EndsUnfinished : ℕ → Finding Named → Ending → Option (List ℕ) → Option (List ℕ) → Type 0
@@ -92,16 +92,16 @@ EndsTold None finding judged ending old new = EndsFound finding judged ending ol
 EndsTold (Some line) finding judged ending old new = EndsUnfinished line finding ending old new
 
 -- how a text ends: by the answer on it
-abbrev pub EndsTrace : CheckSaid → List ℕ → Ending → Option (List ℕ) → Option (List ℕ) → Type 0
-EndsTrace options text ending old new = (finding : Finding Named) × (left : Option ℕ) × (count : ℕ)
-    × Answers text finding left count
-    × EndsTold (cut_at options.growing left) finding (record {
+abbrev pub EndsTrace : CheckArguments → List ℕ → Ending → Option (List ℕ) → Option (List ℕ) → Type 0
+EndsTrace options text ending old new = (finding : Finding Named) × (open_line : Option ℕ) × (count : ℕ)
+    × Answers text finding open_line count
+    × EndsTold (cut_at options.growing open_line) finding (record {
       within = within_of options.trace (slice_get text 0) count;
-      left = left;
+      open_line = open_line;
       count = count;
     }) ending old new
 
 -- how the text at a path ends: it is not read, or it ends so
-abbrev pub EndsCheck : KnownTexts → CheckSaid → Ending → Option (List ℕ) → Option (List ℕ) → Type 0
+abbrev pub EndsCheck : KnownTexts → CheckArguments → Ending → Option (List ℕ) → Option (List ℕ) → Type 0
 EndsCheck text_at options ending old new = EndsUnread options.trace ending old new
     ⊎ ((text : List ℕ) × IsTextAt text_at options.trace text × EndsTrace options text ending old new)

@@ -6,10 +6,11 @@ pub use Rattle.simulator.specs.declared.running.SimFault.{SimFault}
 pub use Rattle.host_calls.specs.Calls.{HostCall}
 pub use Rattle.host_trace.specs.Point.{Point, point_after}
 pub use Rattle.telinit_command.specs.Channels.{IsAsked, KnownBytes, Asks}
-pub use Rattle.initd_options.specs.Options.{RunSaid, run_of}
+pub use Rattle.initd_options.specs.Options.{RunArguments, run_of}
 pub use Rattle.init_words.specs.declared.entries.Entry.{Entry}
 pub use Rattle.program_io.specs.Known.{KnownTexts, IsTextAt}
-pub use Rattle.initd_options.specs.CommandLine.{InitdSaid, initd_read_of, runs, CheckSaid, SimulateSaid, judges}
+pub use Rattle.initd_options.specs.CommandLine.{InitdArguments, initd_read_of, runs, CheckArguments, SimulateArguments}
+pub use Rattle.initd_options.specs.CommandLine.{judges}
 pub use Rattle.initd_options.specs.CommandLine.{simulates, version, check_of, simulation_of}
 pub use Rattle.trace_events.specs.Event.{Event}
 pub use Rattle.trace_log.specs.Logs.{LogState}

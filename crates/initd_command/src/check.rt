@@ -2,7 +2,7 @@
 
 ghost use Rattle.std.specs.Prelude.{◌≡◌, [], option_map, string_bytes, IfOk};
 ghost use Rattle.initd_command.specs.Words.{check_of};
-ghost use Rattle.initd_command.specs.Endings.{Ending, Reports, ReportsJudged, ReportsLeft, ReportsWithin, status_of, left_message, torn_message, unfinished_message, within_message};
+ghost use Rattle.initd_command.specs.Endings.{Ending, Reports, ReportsJudged, ReportsOpenLine, ReportsWithin, status_of, left_message, torn_message, unfinished_message, within_message};
 ghost use Rattle.initd_command.specs.Runs.{judged_at};
 ghost use Rattle.initd_command.specs.Turned.{ReportsText};
 ghost use Rattle.initd_command.specs.Verdicts.{EndsBreach, EndsCheck, EndsFound, EndsLawful, EndsTold, IsJudge, breach_message, cut_at, judged_of, verdict_of, verdict_text, within_of};
@@ -26,7 +26,7 @@ use trace_verdict::{Breach, Finding, TextJudge};
 #[derive(Clone, Copy)]
 struct JudgedTrace<'a> {
     within: Option<&'a str>,
-    left: Option<u64>,
+    open_line: Option<u64>,
     count: u64,
 }
 
@@ -152,11 +152,11 @@ fn judge_text<R: Eprint, T: Texts, W: Write, E: Reporter>(
     let path = options.trace.as_str();
     match texts.read_pieces(path, file) {
         Ok(()) => {
-            let (finding, left, count) = file.judge.answer();
+            let (finding, open_line, count) = file.judge.answer();
             let within = within_of(path, file.first, count);
             let judged = JudgedTrace {
                 within,
-                left,
+                open_line,
                 count,
             };
             tell_text(alloc, options.growing, finding, judged, out, err)
@@ -176,10 +176,10 @@ fn within_of(path: &str, first: Option<u8>, count: u64) -> Option<&str>
 }
 
 /// The line at which a text isn't finished, where that counts: it isn't growing.
-fn cut_at(growing: bool, left: Option<u64>) -> Option<u64>
-    ensures { result ≡ cut_at growing left }
+fn cut_at(growing: bool, open_line: Option<u64>) -> Option<u64>
+    ensures { result ≡ cut_at growing open_line }
 {
-    if growing { None } else { left }
+    if growing { None } else { open_line }
 }
 
 /// Tells what is found of a text, or that it isn't finished.
@@ -192,11 +192,12 @@ fn tell_text<W: Write, E: Reporter>(
     err: &mut E,
 ) -> u8
     ensures { (ending : Ending) × (result ≡ status_of ending)
-        × EndsTold (cut_at growing judged.entry.left) finding.now (judged_of judged.entry) ending
+        × EndsTold (cut_at growing judged.entry.open_line) finding.now
+        (judged_of judged.entry) ending
         (W.contents out.old) (W.contents out.new)
         × Reports ending (E.reports err.old) (E.reports err.new) }
 {
-    match cut_at(growing, judged.left) {
+    match cut_at(growing, judged.open_line) {
         Some(line) => report_unfinished(alloc, line, finding, err),
         None => tell_finding(alloc, finding, judged, out, err),
     }
@@ -314,7 +315,7 @@ fn report_judged<E: Reporter>(alloc: Global, judged: JudgedTrace, err: &mut E)
     report_within(alloc, judged.within, err);
     let count = judged.count;
     report_made(format!(in alloc; "initd: {count} happenings\n"), err);
-    report_left(alloc, judged.left, err);
+    report_open_line(alloc, judged.open_line, err);
 }
 
 /// Tells that the trace of a path begins within a run.
@@ -336,10 +337,10 @@ fn within_text(alloc: Global, path: &str) -> Result<String, AllocError>
 }
 
 /// Tells the line at which the last happening of a trace isn't finished.
-fn report_left<E: Reporter>(alloc: Global, left: Option<u64>, err: &mut E)
-    ensures { ReportsLeft left (E.reports err.old) (E.reports err.new) }
+fn report_open_line<E: Reporter>(alloc: Global, open_line: Option<u64>, err: &mut E)
+    ensures { ReportsOpenLine open_line (E.reports err.old) (E.reports err.new) }
 {
-    if let Some(line) = left {
+    if let Some(line) = open_line {
         report_made(left_text(alloc, line), err);
     }
 }

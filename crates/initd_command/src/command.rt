@@ -130,7 +130,7 @@ where
         × EndsBy (T.text_at texts.now) (map string_bytes words.items) ending
         (W.contents out.old) (W.contents out.new)
         × Reports ending (E.reports err.old) (E.reports err.new)
-        × AsksBy (T.text_at texts.now) (map string_bytes words.items) (S.own hosts.new) ending
+        × AsksBy (T.text_at texts.now) (map string_bytes words.items) (S.conforms hosts.new) ending
         (record {
           opened = S.opened hosts.old;
           calls = S.told hosts.old;

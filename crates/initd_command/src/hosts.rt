@@ -3,7 +3,7 @@
 ghost use Rattle.std.specs.Prelude.{◌≡◌, ◌∷◌, [], List, Option, IfOk, OnErr, OnOk};
 ghost use Rattle.host_calls.specs.Settings.{HostSettings};
 ghost use Rattle.initd_command.specs.Ran.{HasSettings};
-ghost use Rattle.initd_command.specs.Words.{HostCall, Since, RunSaid, run_of};
+ghost use Rattle.initd_command.specs.Words.{HostCall, Since, RunArguments, run_of};
 
 use host_calls::Host;
 use init_words::Memory;
@@ -20,11 +20,11 @@ pub trait Hosts<H: Host> {
     ghost told: { Self → Option (List HostCall) };
 
     /// The arguments by which its hosts were opened, the newest first. None from the first opening that isn't told.
-    ghost opened: { Self → Option (List RunSaid) };
+    ghost opened: { Self → Option (List RunArguments) };
 
     /// What is so of the calls that its hosts were asked, of these settings where they are known, and of what these asked
     /// the system for them.
-    ghost own: { Self → Option HostSettings → Type 0 };
+    ghost conforms: { Self → Option HostSettings → Type 0 };
 
     /// The host that the arguments of a run name, under the lock of its channel. It tells what was told before.
     fn open(&mut self, alloc: Global, options: &RunWords, lock: ChannelLock) -> Result<H, Memory>
@@ -41,5 +41,5 @@ pub trait Hosts<H: Host> {
         // it tells what the host told, and what is so of hosts with the settings of this one is so
         ensures told { told self.new ≡ H.told host }
         ensures opened { opened self.new ≡ opened self.old }
-        ensures own { own self.new (H.settings host) };
+        ensures conforms { conforms self.new (H.settings host) };
 }

@@ -1,7 +1,7 @@
 //! What a run inherits of whoever started it, as far as it is told: the signals that it ignores, and so its children.
 
 ghost use Rattle.std.specs.Prelude.{IfErr};
-ghost use Rattle.initd_command.specs.Words.{KnownTexts, RunSaid};
+ghost use Rattle.initd_command.specs.Words.{KnownTexts, RunArguments};
 ghost use Rattle.initd_command.specs.Services.{IsInWay};
 
 use crate::run::Obstacle;
@@ -21,7 +21,8 @@ const TERM: u64 = 0x4000;
 
 /// Refuses a run that can wait for no child, since CHLD is ignored and the system reaps each by itself (wait(2)).
 pub(crate) fn refuse_unwaited<R: Files + Processes>(rt: &R, alloc: Global) -> Result<(), Obstacle>
-    ensures { (text_at : KnownTexts) (service : RunSaid) → IfErr result (IsInWay text_at service) }
+    ensures { (text_at : KnownTexts) (service : RunArguments)
+        → IfErr result (IsInWay text_at service) }
 {
     if ignores_children(rt, alloc) {
         return Err(Obstacle::Unwaited);

@@ -1,7 +1,7 @@
 //! Laws of the channel: what init hears of a file that grew, and what telinit asks in it.
 
 ghost use Rattle.std.specs.Prelude.{◌≡◌, ◌++◌, ◌%◌, [], ℕ, List, length};
-ghost use Rattle.host_files.specs.Channels.{ChannelState, place_of};
+ghost use Rattle.host_files.specs.Channels.{ChannelState, progress_of};
 ghost use Rattle.host_files.specs.Grown.{AreOfFile};
 ghost use Rattle.host_system.specs.Hearing.{IsHeard};
 ghost use Rattle.host_trace.specs.Requests.{bytes_of};
@@ -24,6 +24,6 @@ pub fn law_of_a_channel()
     ensures { (calls : List HostCall) (channel : ChannelState) (device number : ℕ) (text : List ℕ)
         → IsHeard calls channel → channel.rest ≡ []
         → AreOfFile device number text channel.fresh channel.told
-        → (place_of channel.fresh channel.told).heard ≡ length text
+        → (progress_of channel.fresh channel.told).heard ≡ length text
         → (front : List ℕ) × (front ++ bytes_of calls ≡ text) × (length front % BLOCK ≡ 0) }
 {}

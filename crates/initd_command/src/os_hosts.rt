@@ -2,7 +2,7 @@
 
 ghost use Rattle.std.specs.Prelude.{◌≡◌, [], IfOk};
 ghost use Rattle.initd_command.specs.Words.{run_of};
-ghost use Rattle.initd_command.specs.Hosts.{host_said};
+ghost use Rattle.initd_command.specs.Hosts.{host_with};
 
 use crate::hosts::Hosts;
 use crate::run::{folder_of, trace_of};
@@ -71,13 +71,13 @@ impl<R: Processes + Files<File = File> + Clock + Print + Eprint + Clone + Drop> 
     for OsHosts<R> {
     ghost use Rattle.std.specs.Prelude.{◌≡◌, Some, None, IfOk};
     ghost use Rattle.initd_command.specs.Words.{run_of};
-    ghost use Rattle.initd_command.specs.Hosts.{IsOfSystem, host_said};
+    ghost use Rattle.initd_command.specs.Hosts.{IsOfSystem, host_with};
 
     ghost told = { λ hosts. Some hosts.calls };
 
     ghost opened = { λ _. None };
 
-    ghost own = { IsOfSystem };
+    ghost conforms = { IsOfSystem };
 
     fn open(
         &mut self,
@@ -87,7 +87,7 @@ impl<R: Processes + Files<File = File> + Clock + Print + Eprint + Clone + Drop> 
     ) -> Result<RunHost<R>, Memory>
         ensures told { IfOk result (λ host. Some host.calls ≡ Some self.old.calls) }
         ensures err { self.new ≡ self.old }
-        ensures words { IfOk result (λ host. host ≡ host_said host.asked (run_of run_options.now)) }
+        ensures words { IfOk result (λ host. host ≡ host_with host.asked (run_of run_options.now)) }
     {
         let Some(rt) = self.rt.take() else {
             return Err(Memory);
@@ -108,7 +108,7 @@ impl<R: Processes + Files<File = File> + Clock + Print + Eprint + Clone + Drop> 
 fn host_of<R>(rt: R, alloc: Global, run_options: &RunWords) -> Result<RunHost<R>, Memory>
 where
     R: Processes + Files<File = File> + Clock + Print + Eprint + Clone + Drop,
-    ensures { IfOk result (λ host. host ≡ host_said host.asked (run_of run_options.now)) }
+    ensures { IfOk result (λ host. host ≡ host_with host.asked (run_of run_options.now)) }
 {
     let pace = Pace::UpTo {
         hundredths: run_options.pause,

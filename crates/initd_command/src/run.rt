@@ -1,7 +1,7 @@
 //! `initd run`: what it stands on, and its turns.
 
 ghost use Rattle.std.specs.Prelude.{not, ◌≡◌, ◌≢◌, ◌∷◌, ◌++◌, ◌&&◌, if◌then◌else◌, ℕ, true, List, None, Some, [], is_some, option_map, unwrap_or, IfErr, IfOk, IfSome, OnErr, OnOk};
-ghost use Rattle.initd_command.specs.Words.{KnownTexts, NamedText, Entry, Since, IsOpeningOf, RunSaid, run_of};
+ghost use Rattle.initd_command.specs.Words.{KnownTexts, NamedText, Entry, Since, IsOpeningOf, RunArguments, run_of};
 ghost use Rattle.initd_command.specs.Endings.{Ending, Reports, ReportsObstacle, Spoken, obstacle_status, status_of, turned};
 ghost use Rattle.initd_command.specs.Ran.{HasSettings, MakesLogged, MakesTraced, RanBy};
 ghost use Rattle.initd_command.specs.Turned.{End, ReportsEnd, end_status};
@@ -134,7 +134,7 @@ where
         × EndsRun (T.text_at texts.now) (run_of options.now) ending
         (W.contents out.old) (W.contents out.new)
         × Reports ending (E.reports err.old) (E.reports err.new)
-        × RanBy (T.text_at texts.now) (run_of options.now) (S.own hosts.new) ending
+        × RanBy (T.text_at texts.now) (run_of options.now) (S.conforms hosts.new) ending
         (record {
           opened = S.opened hosts.old;
           calls = S.told hosts.old;
@@ -277,7 +277,7 @@ fn refuse_shared<R: Files>(rt: &R, alloc: Global, options: &RunWords) -> Result<
 
 /// Refuses two paths that lead to one file.
 fn refuse_pair<R: Files>(rt: &R, alloc: Global, one: &str, other: &str) -> Result<(), Obstacle>
-    ensures refused { (text_at : KnownTexts) (service : RunSaid)
+    ensures refused { (text_at : KnownTexts) (service : RunArguments)
         → StandBy one.now other.now (own_paths service)
         → IfErr result (IsInWay text_at service) }
     ensures apart { OnOk result (one.now ≢ other.now) }
@@ -333,11 +333,11 @@ fn files_of<R: Files + Eprint, T: Texts>(
         )),
     };
     let name = String::from_str(alloc, options.inittab.as_str())?;
-    let own = Part { name, bytes };
+    let main_part = Part { name, bytes };
     let mut passed = PassedFiles {
         is_told: options.verbose,
     };
-    match with_folder(rt, alloc, own, folder_of(options), &mut passed) {
+    match with_folder(rt, alloc, main_part, folder_of(options), &mut passed) {
         Ok(parts) => Ok(parts),
         Err(FolderFault::Unread(path, error)) => Err(Obstacle::Unread(path, error)),
         Err(FolderFault::Memory) => Err(Obstacle::Memory),
@@ -379,7 +379,8 @@ fn taken(options: &RunWords, inittab: Inittab) -> Result<Inittab, Obstacle>
 /// The table of the files of an inittab, and the lines that tell their faults.
 fn inittab_of(alloc: Global, parts: &[Part]) -> Result<Inittab, Obstacle>
     ensures ok { IfOk result (IsReadOf parts.now) }
-    ensures err { (text_at : KnownTexts) (service : RunSaid) → AreFiles text_at service parts.now
+    ensures err { (text_at : KnownTexts) (service : RunArguments)
+        → AreFiles text_at service parts.now
         → IfErr result (IsInWay text_at service) }
 {
     match read_parts(alloc, parts) {
@@ -504,7 +505,7 @@ where
         × ((table : List Entry) → IsOpeningOf (run_of options.now).level table run.opening
         → Since (H.told run.host) (S.told hosts.new)
         (MakesTraced (run_of options.now) table end bytes)) }
-    ensures own { S.own hosts.new (H.settings run.host) }
+    ensures conforms { S.conforms hosts.new (H.settings run.host) }
     ensures opened { S.opened hosts.new ≡ S.opened hosts.old }
 {
     let Run {
@@ -660,11 +661,11 @@ pub fn make_turns<R: Files + Eprint, H: Host, L: EndedLog, E: Reporter>(
     edge.law_of_calls();
     let (host, watched) = edge.into_parts();
     let (log, notes, found) = watched.into_parts();
-    let (left, whole) = log.end();
+    let (log_end, whole) = log.end();
     let served = ended_with(served, whole);
     let judgement = options.judge.then_some(found);
     let status = report_end(alloc, options, &served, &notes, &core, judgement, err);
-    (status, host, left)
+    (status, host, log_end)
 }
 
 /// Turns whose log was ended, with all that it took or not.

@@ -6,7 +6,7 @@ use Rattle.std.specs.Str.{bytes_eq}
 use Rattle.clap.specs.Words.{App, Row, Text}
 use Rattle.command_words.specs.CommandLines.{asks_version, given_by, is_set, line_of, value_said, written}
 use Rattle.init_words.specs.declared.levels.Level.{Level}
-use Rattle.initd_options.specs.Options.{RunSaid, level_said, run_of, run_said}
+use Rattle.initd_options.specs.Options.{RunArguments, level_option, run_of, run_arguments}
 use Rattle.initd_options.specs.declared.command.TheConstants.{CHECK, SIMULATE}
 use Rattle.initd_options.specs.declared.options.TheConstants.{OPTIONS}
 use Rattle.initd_options.specs.declared.command.CheckWords.{CheckWords}
@@ -24,77 +24,77 @@ abbrev pub run_line : App
 run_line = line_of (codes "run") (written OPTIONS.now)
 
 -- the level to go to, if one is given, and the paths of the inittab and the script
-pub record SimulateSaid : Type 0 where
+pub record SimulateArguments : Type 0 where
   pub level : Option Level
   pub table : Text
   pub script : Text
 
 -- whether the trace may be unfinished, whether it is read with the pieces before it, and its path
-pub record CheckSaid : Type 0 where
+pub record CheckArguments : Type 0 where
   pub growing : Bool
   pub pieces : Bool
   pub trace : Text
 
 -- the version, a simulated run of init, a trace that is judged, or a run over the operating system
-pub data InitdSaid : Type 0 where
-  version : InitdSaid
-  simulates : SimulateSaid → InitdSaid
-  judges : CheckSaid → InitdSaid
-  runs : RunSaid → InitdSaid
+pub data InitdArguments : Type 0 where
+  version : InitdArguments
+  simulates : SimulateArguments → InitdArguments
+  judges : CheckArguments → InitdArguments
+  runs : RunArguments → InitdArguments
 
-abbrev pub simulation_of : SimulateWords → SimulateSaid
+abbrev pub simulation_of : SimulateWords → SimulateArguments
 simulation_of words =
     record { level = words.level; table = string_bytes words.table; script = string_bytes words.script }
 
-abbrev pub check_of : CheckWords → CheckSaid
+abbrev pub check_of : CheckWords → CheckArguments
 check_of words = record { growing = words.growing; pieces = words.pieces; trace = string_bytes words.trace }
 
-abbrev pub said_of : Words → InitdSaid
-said_of Version = version
-said_of (Simulate words) = simulates (simulation_of words)
-said_of (Check words) = judges (check_of words)
-said_of (Serve said) = runs (run_of said)
+abbrev pub arguments_of : Words → InitdArguments
+arguments_of Version = version
+arguments_of (Simulate words) = simulates (simulation_of words)
+arguments_of (Check words) = judges (check_of words)
+arguments_of (Serve arguments) = runs (run_of arguments)
 
 -- what the words after `simulate` say
-abbrev pub simulation_said : List Row → Option SimulateSaid
-simulation_said rows =
+abbrev pub simulation_arguments : List Row → Option SimulateArguments
+simulation_arguments rows =
     option_map (λ level. record {
       level = level;
       table = value_said (codes "TABLE") rows;
       script = value_said (codes "SCRIPT") rows;
     })
-    (level_said rows)
+    (level_option rows)
 
-abbrev pub simulation_read_of : List Text → Option SimulateSaid
-simulation_read_of words = option_and_then simulation_said (given_by simulate_line words)
+abbrev pub simulation_read_of : List Text → Option SimulateArguments
+simulation_read_of words = option_and_then simulation_arguments (given_by simulate_line words)
 
 -- what the words after `check` say
-abbrev pub check_said : List Row → CheckSaid
-check_said rows = record {
+abbrev pub check_arguments : List Row → CheckArguments
+check_arguments rows = record {
   growing = is_set (codes "--growing") rows;
   pieces = is_set (codes "--pieces") rows;
   trace = value_said (codes "TRACE") rows;
 }
 
-abbrev pub check_read_of : List Text → Option CheckSaid
-check_read_of words = option_map check_said (given_by check_line words)
+abbrev pub check_read_of : List Text → Option CheckArguments
+check_read_of words = option_map check_arguments (given_by check_line words)
 
 -- what the words after `run` say
-abbrev pub run_read_of : List Text → Option RunSaid
-run_read_of words = option_and_then run_said (given_by run_line words)
+abbrev pub run_read_of : List Text → Option RunArguments
+run_read_of words = option_and_then run_arguments (given_by run_line words)
 
 -- what a command says by the words behind it; where it is none, or they are none of its, nothing
-abbrev pub command_said : Text → List Text → Option InitdSaid
-command_said command words =
+abbrev pub command_arguments : Text → List Text → Option InitdArguments
+command_arguments command words =
     if bytes_eq command (codes "simulate") then option_map simulates (simulation_read_of words)
     else if bytes_eq command (codes "check") then option_map judges (check_read_of words)
     else if bytes_eq command (codes "run") then option_map runs (run_read_of words)
     else None
 
-abbrev pub line_said : List Text → Option InitdSaid
-line_said [] = None
-line_said (command ∷ words) = command_said command words
+abbrev pub line_arguments : List Text → Option InitdArguments
+line_arguments [] = None
+line_arguments (command ∷ words) = command_arguments command words
 
 -- what words say
-abbrev pub initd_read_of : List Text → Option InitdSaid
-initd_read_of words = if asks_version words then Some version else line_said words
+abbrev pub initd_read_of : List Text → Option InitdArguments
+initd_read_of words = if asks_version words then Some version else line_arguments words

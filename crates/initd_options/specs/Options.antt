@@ -26,8 +26,8 @@ abbrev pub level_in : Option Text → Option (Option Level)
 level_in None = Some None
 level_in (Some word) = option_map Some (level_word_read word)
 
-abbrev pub level_said : List Row → Option (Option Level)
-level_said rows = level_in (first_of (codes "--level") rows)
+abbrev pub level_option : List Row → Option (Option Level)
+level_option rows = level_in (first_of (codes "--level") rows)
 
 -- a word without the zeros in front of it
 abbrev pub without_zeros : Text → Text
@@ -47,8 +47,8 @@ turns_in false (Some word) = turns_read word
 turns_in true None = Some FOREVER
 turns_in true (Some word) = None
 
-abbrev pub turns_said : List Row → Option ℕ
-turns_said rows = turns_in (is_set (codes "--forever") rows) (first_of (codes "--turns") rows)
+abbrev pub turns_option : List Row → Option ℕ
+turns_option rows = turns_in (is_set (codes "--forever") rows) (first_of (codes "--turns") rows)
 
 -- the end of a run is named: by a number of turns, as none, or as where nothing is left to do
 abbrev pub names_end : List Row → Bool
@@ -85,24 +85,24 @@ abbrev pub pause_read : Text → Option ℕ
 pause_read word = option_and_then
     (λ length. if nat_lt 0 length && nat_le length PAUSE_LIMIT then Some length else None) (hundredths_read word)
 
-abbrev pub pause_said : List Row → Option ℕ
-pause_said rows = pause_read (value_said (codes "--pause") rows)
+abbrev pub pause_option : List Row → Option ℕ
+pause_option rows = pause_read (value_said (codes "--pause") rows)
 
 -- the entry whose last status is the run's, if one is given; nothing where it is no id
 abbrev pub result_in : Option Text → Option (Option (List ℕ))
 result_in None = Some None
 result_in (Some word) = option_map Some (id_read word)
 
-abbrev pub result_said : List Row → Option (Option (List ℕ))
-result_said rows = result_in (first_of (codes "--result") rows)
+abbrev pub result_option : List Row → Option (Option (List ℕ))
+result_option rows = result_in (first_of (codes "--result") rows)
 
 -- whether the trace is brief, which is said of a trace alone
 abbrev pub brief_in : Bool → Option Text → Option Bool
 brief_in true None = None
 brief_in brief trace = Some brief
 
-abbrev pub brief_said : List Row → Option Bool
-brief_said rows = brief_in (is_set (codes "--brief") rows) (first_of (codes "--trace") rows)
+abbrev pub brief_option : List Row → Option Bool
+brief_option rows = brief_in (is_set (codes "--brief") rows) (first_of (codes "--trace") rows)
 
 -- the bytes of so many units, of which the word has the number and behind it the letter
 abbrev pub in_units : ℕ → Option (List ℕ × List ℕ) → Option ℕ
@@ -154,7 +154,7 @@ keep_given rows = keep_in (first_of (codes "--trace-keep") rows) (first_of (code
 -- whether each start and end is told; the folder of the children's output, if it is given; whether signals go to the
 -- groups of children; whether an inittab with a faulty line is not taken; whether lines have the time in front; and
 -- whether the channel's bell is made.
-pub record RunSaid : Type 0 where
+pub record RunArguments : Type 0 where
   pub inittab : Text
   pub inittab_dir : Option Text
   pub initctl : Text
@@ -178,35 +178,35 @@ pub record RunSaid : Type 0 where
   pub stamp : Bool
   pub bell : Bool
 
-abbrev pub run_of : RunWords → RunSaid
-run_of said = record {
-  inittab = string_bytes said.inittab;
-  inittab_dir = option_map (λ (path : _). string_bytes path) said.inittab_dir;
-  initctl = string_bytes said.initctl;
-  fresh = said.fresh;
-  state = string_bytes said.state;
-  trace = option_map (λ (path : _). string_bytes path) said.trace;
-  brief = said.brief;
-  trace_size = said.trace_size;
-  trace_keep = said.trace_keep;
-  judge = said.judge;
-  level = said.level;
-  turns = said.turns;
-  drain = said.drain;
-  names_end = said.names_end;
-  pause = said.pause;
-  result = said.result;
-  verbose = said.verbose;
-  logs = option_map (λ (path : _). string_bytes path) said.logs;
-  groups = said.groups;
-  strict = said.strict;
-  stamp = said.stamp;
-  bell = said.bell;
+abbrev pub run_of : RunWords → RunArguments
+run_of arguments = record {
+  inittab = string_bytes arguments.inittab;
+  inittab_dir = option_map (λ (path : _). string_bytes path) arguments.inittab_dir;
+  initctl = string_bytes arguments.initctl;
+  fresh = arguments.fresh;
+  state = string_bytes arguments.state;
+  trace = option_map (λ (path : _). string_bytes path) arguments.trace;
+  brief = arguments.brief;
+  trace_size = arguments.trace_size;
+  trace_keep = arguments.trace_keep;
+  judge = arguments.judge;
+  level = arguments.level;
+  turns = arguments.turns;
+  drain = arguments.drain;
+  names_end = arguments.names_end;
+  pause = arguments.pause;
+  result = arguments.result;
+  verbose = arguments.verbose;
+  logs = option_map (λ (path : _). string_bytes path) arguments.logs;
+  groups = arguments.groups;
+  strict = arguments.strict;
+  stamp = arguments.stamp;
+  bell = arguments.bell;
 }
 
 -- what the words say, with these values of the options that may be refused
 abbrev pub service_with
-    : List Row → Option Level → ℕ → ℕ → Option (List ℕ) → Bool → Option ℕ → Option ℕ → RunSaid
+    : List Row → Option Level → ℕ → ℕ → Option (List ℕ) → Bool → Option ℕ → Option ℕ → RunArguments
 service_with rows level turns pause result brief size keep = record {
   inittab = value_said (codes "--inittab") rows;
   inittab_dir = first_of (codes "--inittab-dir") rows;
@@ -234,8 +234,8 @@ service_with rows level turns pause result brief size keep = record {
 
 -- what the words after `run` say; nothing where the level, the turns, the pause, the entry, the length or the number of
 -- files are none, or a trace that is brief or put away is
-abbrev pub run_said : List Row → Option RunSaid
-run_said rows =
+abbrev pub run_arguments : List Row → Option RunArguments
+run_arguments rows =
     option_and_then
     (λ level. option_and_then
     (λ turns. option_and_then
@@ -244,8 +244,8 @@ run_said rows =
     (λ brief. option_and_then
     (λ size. option_map (λ keep. service_with rows level turns pause result brief size keep) (keep_given rows))
     (size_given rows))
-    (brief_said rows))
-    (result_said rows))
-    (pause_said rows))
-    (turns_said rows))
-    (level_said rows)
+    (brief_option rows))
+    (result_option rows))
+    (pause_option rows))
+    (turns_option rows))
+    (level_option rows)

@@ -2,7 +2,7 @@
 
 ghost use Rattle.std.specs.Prelude.{◌≡◌, map, string_bytes, IfErr, IfOk, IsSome, None, Some};
 ghost use Rattle.command_words.specs.Faults.{reason_of};
-ghost use Rattle.initd_options.specs.CommandLine.{check_of, check_read_of, command_said, initd_read_of, run_read_of, said_of, simulation_of, simulation_read_of};
+ghost use Rattle.initd_options.specs.CommandLine.{check_of, check_read_of, command_arguments, initd_read_of, run_read_of, arguments_of, simulation_of, simulation_read_of};
 ghost use Rattle.initd_options.specs.Options.{run_of};
 
 use crate::options::{OPTIONS, RunWords, read_level_option, read_matches};
@@ -60,8 +60,8 @@ const CHECK: &[Row] = &[
 
 /// Reads a command line, without the program's name in front. `Usage` says why it is none.
 pub fn read_words(alloc: Global, words: &[String]) -> Result<Words, WordFault>
-    ensures ok { IfOk result (λ said.
-        initd_read_of (map string_bytes words.now) ≡ Some (said_of said)) }
+    ensures ok { IfOk result (λ arguments.
+        initd_read_of (map string_bytes words.now) ≡ Some (arguments_of arguments)) }
     ensures usage { IfErr result (λ fault. IsSome (reason_of fault)
         → initd_read_of (map string_bytes words.now) ≡ None) }
 {
@@ -76,10 +76,11 @@ pub fn read_words(alloc: Global, words: &[String]) -> Result<Words, WordFault>
 
 /// Reads the words behind a command.
 fn read_command(alloc: Global, command: &str, words: &[String]) -> Result<Words, WordFault>
-    ensures ok { IfOk result (λ said.
-        command_said command.now (map string_bytes words.now) ≡ Some (said_of said)) }
+    ensures ok { IfOk result (λ arguments.
+        command_arguments command.now (map string_bytes words.now)
+        ≡ Some (arguments_of arguments)) }
     ensures usage { IfErr result (λ fault. IsSome (reason_of fault)
-        → command_said command.now (map string_bytes words.now) ≡ None) }
+        → command_arguments command.now (map string_bytes words.now) ≡ None) }
 {
     match command {
         "simulate" => Ok(Words::Simulate(read_simulate(alloc, words)?)),
@@ -101,8 +102,8 @@ fn unknown_command(alloc: Global, word: &str) -> Result<String, AllocError> {
 
 #[tactic(auto, using(crate::proofs::FreeLines::is_free_simulate))]
 fn read_simulate(alloc: Global, words: &[String]) -> Result<SimulateWords, WordFault>
-    ensures ok { IfOk result (λ said.
-        simulation_read_of (map string_bytes words.now) ≡ Some (simulation_of said)) }
+    ensures ok { IfOk result (λ arguments.
+        simulation_read_of (map string_bytes words.now) ≡ Some (simulation_of arguments)) }
     ensures usage { IfErr result (λ fault. IsSome (reason_of fault)
         → simulation_read_of (map string_bytes words.now) ≡ None) }
 {
@@ -117,8 +118,8 @@ fn read_simulate(alloc: Global, words: &[String]) -> Result<SimulateWords, WordF
 
 #[tactic(auto, using(crate::proofs::FreeLines::is_free_check))]
 fn read_check(alloc: Global, words: &[String]) -> Result<CheckWords, WordFault>
-    ensures ok { IfOk result (λ said.
-        check_read_of (map string_bytes words.now) ≡ Some (check_of said)) }
+    ensures ok { IfOk result (λ arguments.
+        check_read_of (map string_bytes words.now) ≡ Some (check_of arguments)) }
     ensures usage { IfErr result (λ fault. IsSome (reason_of fault)
         → check_read_of (map string_bytes words.now) ≡ None) }
 {
@@ -131,8 +132,8 @@ fn read_check(alloc: Global, words: &[String]) -> Result<CheckWords, WordFault>
 }
 
 fn read_run(alloc: Global, words: &[String]) -> Result<RunWords, WordFault>
-    ensures ok { IfOk result (λ said.
-        run_read_of (map string_bytes words.now) ≡ Some (run_of said)) }
+    ensures ok { IfOk result (λ arguments.
+        run_read_of (map string_bytes words.now) ≡ Some (run_of arguments)) }
     ensures usage { IfErr result (λ fault. IsSome (reason_of fault)
         → run_read_of (map string_bytes words.now) ≡ None) }
 {

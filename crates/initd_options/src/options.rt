@@ -3,7 +3,7 @@
 ghost use Rattle.std.specs.Prelude.{◌≡◌, ◌<◌, ◌≤◌, IfErr, IfOk, IfSome, IsSome, None, Some};
 ghost use Rattle.clap.specs.Words.{found_of, rows_of};
 ghost use Rattle.command_words.specs.Faults.{reason_of};
-ghost use Rattle.initd_options.specs.Options.{brief_said, digit_read, hundredths_read, level_said, level_word_read, names_end, part_read, pause_read, pause_said, result_said, run_of, run_said, keep_given, keep_read, size_given, size_read, turns_read, turns_said, units_read, whole_read, without_zeros};
+ghost use Rattle.initd_options.specs.Options.{brief_option, digit_read, hundredths_read, level_option, level_word_read, names_end, part_read, pause_read, pause_option, result_option, run_of, run_arguments, keep_given, keep_read, size_given, size_read, turns_read, turns_option, units_read, whole_read, without_zeros};
 
 use clap::ArgMatches;
 use command_words::{Row, WordFault, checked, is_set, read_path, refused, value_of, word_of};
@@ -115,10 +115,10 @@ pub(crate) const OPTIONS: &[Row] = &[
 
 /// What the words after `run` say.
 pub(crate) fn read_matches(alloc: Global, matches: &ArgMatches) -> Result<RunWords, WordFault>
-    ensures ok { IfOk result (λ said.
-        run_said (rows_of (found_of matches.now)) ≡ Some (run_of said)) }
+    ensures ok { IfOk result (λ arguments.
+        run_arguments (rows_of (found_of matches.now)) ≡ Some (run_of arguments)) }
     ensures usage { IfErr result (λ fault. IsSome (reason_of fault)
-        → run_said (rows_of (found_of matches.now)) ≡ None) }
+        → run_arguments (rows_of (found_of matches.now)) ≡ None) }
 {
     let level = read_level_option(alloc, matches)?;
     let turns = read_turns_option(alloc, matches)?;
@@ -159,9 +159,9 @@ pub(crate) fn read_level_option(
     matches: &ArgMatches,
 ) -> Result<Option<Level>, WordFault>
     ensures ok { IfOk result (λ level.
-        level_said (rows_of (found_of matches.now)) ≡ Some level) }
+        level_option (rows_of (found_of matches.now)) ≡ Some level) }
     ensures usage { IfErr result (λ fault. IsSome (reason_of fault)
-        → level_said (rows_of (found_of matches.now)) ≡ None) }
+        → level_option (rows_of (found_of matches.now)) ≡ None) }
 {
     let Some(word) = word_of(matches, "--level") else {
         return Ok(None);
@@ -180,9 +180,9 @@ fn read_level(word: &str) -> Option<Level>
 /// The greatest number of turns, by `--turns` or `--forever`, of which one may be given.
 fn read_turns_option(alloc: Global, matches: &ArgMatches) -> Result<u64, WordFault>
     ensures ok { IfOk result (λ turns.
-        turns_said (rows_of (found_of matches.now)) ≡ Some turns) }
+        turns_option (rows_of (found_of matches.now)) ≡ Some turns) }
     ensures usage { IfErr result (λ fault. IsSome (reason_of fault)
-        → turns_said (rows_of (found_of matches.now)) ≡ None) }
+        → turns_option (rows_of (found_of matches.now)) ≡ None) }
 {
     let forever = is_set(matches, "--forever");
     match word_of(matches, "--turns") {
@@ -229,9 +229,9 @@ fn read_turns(word: &str) -> Option<u64>
 /// The longest pause, in hundredths of a second.
 fn read_pause_option(alloc: Global, matches: &ArgMatches) -> Result<u64, WordFault>
     ensures ok { IfOk result (λ pause.
-        pause_said (rows_of (found_of matches.now)) ≡ Some pause) }
+        pause_option (rows_of (found_of matches.now)) ≡ Some pause) }
     ensures usage { IfErr result (λ fault. IsSome (reason_of fault)
-        → pause_said (rows_of (found_of matches.now)) ≡ None) }
+        → pause_option (rows_of (found_of matches.now)) ≡ None) }
 {
     let word = value_of(matches, "--pause");
     checked(
@@ -304,9 +304,9 @@ fn read_digit(byte: u8) -> Option<u64>
 /// The trace is brief, where one is to be written.
 fn read_brief(alloc: Global, matches: &ArgMatches) -> Result<bool, WordFault>
     ensures ok { IfOk result (λ brief.
-        brief_said (rows_of (found_of matches.now)) ≡ Some brief) }
+        brief_option (rows_of (found_of matches.now)) ≡ Some brief) }
     ensures usage { IfErr result (λ fault. IsSome (reason_of fault)
-        → brief_said (rows_of (found_of matches.now)) ≡ None) }
+        → brief_option (rows_of (found_of matches.now)) ≡ None) }
 {
     let brief = is_set(matches, "--brief");
     if brief && word_of(matches, "--trace").is_none() {
@@ -402,9 +402,9 @@ fn read_units(word: &[u8], letter: u8, unit: u64) -> Option<u64>
 /// The entry whose last status is the run's, where one is given.
 fn read_result(alloc: Global, matches: &ArgMatches) -> Result<Option<Id>, WordFault>
     ensures ok { IfOk result (λ entry.
-        result_said (rows_of (found_of matches.now)) ≡ Some entry) }
+        result_option (rows_of (found_of matches.now)) ≡ Some entry) }
     ensures usage { IfErr result (λ fault. IsSome (reason_of fault)
-        → result_said (rows_of (found_of matches.now)) ≡ None) }
+        → result_option (rows_of (found_of matches.now)) ≡ None) }
 {
     let Some(word) = word_of(matches, "--result") else {
         return Ok(None);

@@ -5,25 +5,27 @@ use Rattle.initview_lines.proofs.CommonWords.{TextState, ViewGoesOn, IsAt, seen_
 use Rattle.initview_lines.proofs.CommonWords.{IsSaying, HasSaid, SaysOn}
 use Rattle.std.proofs.Common.{append_assoc}
 
-pub some_said : (next : Option Event) (h : Event) (old new : TextState) (said before after : List Line) (text : List ℕ)
+pub some_said : (next : Option Event) (h : Event) (old new : TextState) (past_lines before after : List Line)
+    (text : List ℕ)
     → next ≡ Some h → ((trace : List Event) → ViewGoesOn next old new trace text)
     → ((past : List Event) → Viewed new.viewing (h ∷ past) → after ≡ before ++ happening_lines h past)
-    → IsSaying old (said ++ before) text → IsSaying new (said ++ after) text
-some_said next h old new said before after text is goes lines at =
+    → IsSaying old (past_lines ++ before) text → IsSaying new (past_lines ++ after) text
+some_said next h old new past_lines before after text is goes lines at =
     let P : Option Event → Type 0 = λ n. ViewGoesOn n old new at.0 text in
     let on : IsAt new (at.0 ++ h ∷ []) text = subst P is (goes at.0) at.1 in (
       at.0 ++ h ∷ [],
       on,
-      ap (λ l. said ++ l) (lines (reverse at.0)
+      ap (λ l. past_lines ++ l) (lines (reverse at.0)
           (subst (λ past. Viewed new.viewing past) (past_push at.0 h) (seen_at new.stop new (at.0 ++ h ∷ []) text on)))
-          ∙ sym (append_assoc said before (happening_lines h (reverse at.0)))
+          ∙ sym (append_assoc past_lines before (happening_lines h (reverse at.0)))
           ∙ ap (λ l. l ++ happening_lines h (reverse at.0)) at.2
           ∙ sym (ap follow_in (past_push at.0 h)),
     )
 
-pub none_said : (next : Option Event) (old new : TextState) (said : List Line) (text : List ℕ) → next ≡ None
-    → ((trace : List Event) → ViewGoesOn next old new trace text) → IsSaying old said text → HasSaid new said text
-none_said next old new said text is goes at =
+pub none_said : (next : Option Event) (old new : TextState) (past_lines : List Line) (text : List ℕ) → next ≡ None
+    → ((trace : List Event) → ViewGoesOn next old new trace text) → IsSaying old past_lines text
+    → HasSaid new past_lines text
+none_said next old new past_lines text is goes at =
     let P : Option Event → Type 0 = λ n. ViewGoesOn n old new at.0 text in
     (at.0, subst P is (goes at.0) at.1, at.2)
 

@@ -54,37 +54,39 @@ read_next reading new trace text h small next read = record {
   pushed : newlines (trace_text (trace ++ h ∷ [])) ≡ newlines (trace_text trace) + line_count h
   pushed = lines_push trace h next.0
 
-pub one_told : (old : PartState) (new : Reading) (time : ℕ) (said before after : List Line) (text : List ℕ) (h : Event)
+pub one_told : (old : PartState) (new : Reading) (time : ℕ) (past_lines before after : List Line) (text : List ℕ)
+    (h : Event)
     → old.stop ≡ None → length text < 2 ^ 64 → ReadsNext old.reading new (Some h) → ((past : List Event) → old.time
     ≡ time_of past → time ≡ time_of (h ∷ past)) → after ≡ before ++ line_at time (news_of h []) → IsTelling old
-    (said ++ before) text → IsTelling (record { reading = new; time = time; stop = old.stop }) (said ++ after) text
-one_told old new time said before after text h went small next later is at =
+    (past_lines ++ before) text
+    → IsTelling (record { reading = new; time = time; stop = old.stop }) (past_lines ++ after) text
+one_told old new time past_lines before after text h went small next later is at =
     let now : time ≡ time_of (h ∷ reverse at.0) = later (reverse at.0) at.2 in (
       at.0 ++ h ∷ [],
       at_read old.stop new (at.0 ++ h ∷ []) text went
           (read_next old.reading new at.0 text h small next (read_at old.stop old.reading at.0 text went at.1)),
       now ∙ sym (ap time_of (past_push at.0 h)),
-      ap (λ l. said ++ l) is
-          ∙ sym (append_assoc said before (line_at time (news_of h [])))
+      ap (λ l. past_lines ++ l) is
+          ∙ sym (append_assoc past_lines before (line_at time (news_of h [])))
           ∙ ap (λ l. l ++ line_at time (news_of h [])) at.3
           ∙ ap (λ t. part_in (reverse at.0) ++ line_at t (news_of h [])) now
           ∙ sym (ap part_in (past_push at.0 h)),
     )
 
 -- no happening more: none is whole, or none begins
-pub none_told : (old : PartState) (said : List Line) (text : List ℕ) → old.stop ≡ None → is_open old.reading.over ≡ true
-    → IsTelling old said text → HasTold old said text
-none_told old said text went waits at = (
+pub none_told : (old : PartState) (past_lines : List Line) (text : List ℕ) → old.stop ≡ None
+    → is_open old.reading.over ≡ true → IsTelling old past_lines text → HasTold old past_lines text
+none_told old past_lines text went waits at = (
   at.0,
   at_taken old.stop old.reading at.0 text went (read_at old.stop old.reading at.0 text went at.1) waits,
   at.2,
   at.3,
 )
 
-pub torn_told : (old : PartState) (said : List Line) (text : List ℕ) (number : ℕ) → old.stop ≡ None → length text
-    < 2 ^ 64 → number ≡ capped (old.reading.lines + 1) → BeginsNever old.reading.over → IsTelling old said text
-    → HasTold (record { reading = old.reading; time = old.time; stop = Some (Torn number) }) said text
-torn_told old said text number went small is none at =
+pub torn_told : (old : PartState) (past_lines : List Line) (text : List ℕ) (number : ℕ) → old.stop ≡ None → length text
+    < 2 ^ 64 → number ≡ capped (old.reading.lines + 1) → BeginsNever old.reading.over → IsTelling old past_lines text
+    → HasTold (record { reading = old.reading; time = old.time; stop = Some (Torn number) }) past_lines text
+torn_told old past_lines text number went small is none at =
     let read : IsReadOf old.reading at.0 text = read_at old.stop old.reading at.0 text went at.1 in (
       at.0,
       (
@@ -108,9 +110,9 @@ still : (stop : Option ViewEnd) (why : ViewEnd) (reading : Reading) (trace : Lis
 still (Some stop) why reading trace text is read = read
 still None why reading trace text is read = absurd (cc)
 
-pub still_told : (old : PartState) (why : ViewEnd) (said : List Line) (text : List ℕ) → old.stop ≡ Some why
-    → IsTelling old said text → HasTold old said text
-still_told old why said text is at = (at.0, still old.stop why old.reading at.0 text is at.1, at.2, at.3)
+pub still_told : (old : PartState) (why : ViewEnd) (past_lines : List Line) (text : List ℕ) → old.stop ≡ Some why
+    → IsTelling old past_lines text → HasTold old past_lines text
+still_told old why past_lines text is at = (at.0, still old.stop why old.reading at.0 text is at.1, at.2, at.3)
 
 -- a piece more
 more_stopped : (stop : Option ViewEnd) (why : ViewEnd) (reading : Reading) (trace : List Event) (text piece : List ℕ)
@@ -118,9 +120,9 @@ more_stopped : (stop : Option ViewEnd) (why : ViewEnd) (reading : Reading) (trac
 more_stopped (Some stop) why reading trace text piece is taken = stops_more stop trace text piece taken
 more_stopped None why reading trace text piece is taken = absurd (cc)
 
-pub fed_stopped : (old : PartState) (why : ViewEnd) (said : List Line) (text piece : List ℕ) → old.stop ≡ Some why
-    → HasTold old said text → IsTelling old said (text ++ piece)
-fed_stopped old why said text piece is told =
+pub fed_stopped : (old : PartState) (why : ViewEnd) (past_lines : List Line) (text piece : List ℕ) → old.stop ≡ Some why
+    → HasTold old past_lines text → IsTelling old past_lines (text ++ piece)
+fed_stopped old why past_lines text piece is told =
     (told.0, more_stopped old.stop why old.reading told.0 text piece is told.1, told.2, told.3)
 
 more_read : (stop : Option ViewEnd) (reading new : Reading) (trace : List Event) (text piece : List ℕ) → stop ≡ None
@@ -133,10 +135,10 @@ more_read None reading new trace text piece none is taken = rw is (record {
 })
 more_read (Some stop) reading new trace text piece none is taken = absurd (cc)
 
-pub fed_more : (old : PartState) (new : Reading) (said : List Line) (text piece : List ℕ) → old.stop ≡ None
-    → new ≡ record old.reading { over = old.reading.over ++ piece } → HasTold old said text
-    → IsTelling (record { reading = new; time = old.time; stop = old.stop }) said (text ++ piece)
-fed_more old new said text piece none is told =
+pub fed_more : (old : PartState) (new : Reading) (past_lines : List Line) (text piece : List ℕ) → old.stop ≡ None
+    → new ≡ record old.reading { over = old.reading.over ++ piece } → HasTold old past_lines text
+    → IsTelling (record { reading = new; time = old.time; stop = old.stop }) past_lines (text ++ piece)
+fed_more old new past_lines text piece none is told =
     (told.0, more_read old.stop old.reading new told.0 text piece none is told.1, told.2, told.3)
 
 -- by whether one more was told
@@ -158,20 +160,21 @@ left_is reading trace text [] small read is = refl
 left_is reading trace text (byte ∷ over) small read is =
     ap Some (line_next reading trace text small read (omega (arith, ap length is)))
 
-shown_by : (stop : Option ViewEnd) (reading : Reading) (trace : List Event) (text : List ℕ) (left : Option ℕ)
+shown_by : (stop : Option ViewEnd) (reading : Reading) (trace : List Event) (text : List ℕ) (open_line : Option ℕ)
     → length text < 2 ^ 64 → TakenBy stop reading trace text
-    → left ≡ left_of stop (option_map capped (line_left reading.lines reading.over)) → ShownBy stop left trace text
-shown_by None reading trace text left small taken is = record {
+    → open_line ≡ left_of stop (option_map capped (line_left reading.lines reading.over))
+    → ShownBy stop open_line trace text
+shown_by None reading trace text open_line small taken is = record {
   over = reading.over;
   are = taken.0.are;
   whole = taken.0.whole;
   unfinished = taken.1;
   at = is ∙ left_is reading trace text reading.over small taken.0 refl;
 }
-shown_by (Some stop) reading trace text left small taken is = (taken, is)
+shown_by (Some stop) reading trace text open_line small taken is = (taken, is)
 
-pub told_of : (state : PartState) (said : List Line) (text : List ℕ) (left : Option ℕ) → length text < 2 ^ 64
-    → left ≡ left_of state.stop (option_map capped (line_left state.reading.lines state.reading.over))
-    → HasTold state said text → IsToldOf text state.stop left said
-told_of state said text left small is told =
-    (told.0, shown_by state.stop state.reading told.0 text left small told.1 is, told.3)
+pub told_of : (state : PartState) (past_lines : List Line) (text : List ℕ) (open_line : Option ℕ) → length text < 2 ^ 64
+    → open_line ≡ left_of state.stop (option_map capped (line_left state.reading.lines state.reading.over))
+    → HasTold state past_lines text → IsToldOf text state.stop open_line past_lines
+told_of state past_lines text open_line small is told =
+    (told.0, shown_by state.stop state.reading told.0 text open_line small told.1 is, told.3)

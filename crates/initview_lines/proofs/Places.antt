@@ -4,8 +4,8 @@ use Rattle.std.proofs.Common.{zero, suc, ◌-◌, slice_get}
 use Rattle.std.proofs.lemmas.Option.{option_and_then_some, same_Some}
 use Rattle.text_lines.specs.Lines.{after_lines, cut}
 use Rattle.init_words.specs.Parts.{NamedText}
-use Rattle.initview_lines.specs.declared.lint.Place.{Place}
-use Rattle.initview_lines.specs.Lint.{IsPlace, text_of}
+use Rattle.initview_lines.specs.declared.lint.Cursor.{Cursor}
+use Rattle.initview_lines.specs.Lint.{IsCursor, text_of}
 use Rattle.initview_lines.proofs.CommonWords.{◌≡◌, ℕ, ◌≤◌, List, Some, sym, ap, ◌∙◌, arith}
 
 -- behind lines that were passed the same lines stand
@@ -23,8 +23,8 @@ after_lines-from (suc n) (suc count) text rest is within =
     ∙ ap (λ k. after_lines k rest) (sym less))
 
 -- so from a place in the file that is no later
-pub from_near : (parts : List NamedText) (near : Place) (part before : ℕ) → near.part ≡ part → near.before ≤ before
-    → IsPlace parts near
+pub from_near : (parts : List NamedText) (near : Cursor) (part before : ℕ) → near.part ≡ part → near.before ≤ before
+    → IsCursor parts near
     → after_lines before (text_of (slice_get parts part)) ≡ after_lines (before - near.before) near.rest.now
 from_near parts near part before same within is =
     after_lines-from near.before before (text_of (slice_get parts part)) near.rest.now

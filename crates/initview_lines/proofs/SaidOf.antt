@@ -4,19 +4,22 @@ use Rattle.initview_lines.proofs.CommonWords.{None, option_map, Event, line_left
 use Rattle.initview_lines.proofs.CommonWords.{left_of, shown, stops_more, Line, HasSaid, IsSaidOf}
 
 -- the lines of a view that has taken the text are said of it
-pub said_of : (state : TextState) (said : List Line) (text : List ℕ) → length text < 2 ^ 64 → HasSaid state said text
-    → (stop : Option ViewEnd) × (left : Option ℕ) × IsSaidOf text stop left said
-said_of state said text small has =
-    let left : Option ℕ = left_of state.stop (option_map capped (line_left state.reading.lines state.reading.over)) in
-    let so = shown state.stop state has.0 text left small has.1 refl in
-    (state.stop, left, (has.0, so.0, so.1.judged.lawful, has.2))
+pub said_of : (state : TextState) (past_lines : List Line) (text : List ℕ) → length text < 2 ^ 64
+    → HasSaid state past_lines text
+    → (stop : Option ViewEnd) × (open_line : Option ℕ) × IsSaidOf text stop open_line past_lines
+said_of state past_lines text small has =
+    let open_line : Option ℕ =
+    left_of state.stop (option_map capped (line_left state.reading.lines state.reading.over)) in
+    let so = shown state.stop state has.0 text open_line small has.1 refl in
+    (state.stop, open_line, (has.0, so.0, so.1.judged.lawful, has.2))
 
-shown_more : (text more : List ℕ) (stop : Option ViewEnd) (left : Option ℕ) (trace : List Event) → is_some stop ≡ true
-    → IsShown text stop left trace → IsShown (text ++ more) stop left trace
-shown_more text more None left trace is so = absurd (cc)
-shown_more text more (Some stop) left trace is so = (so.0, (stops_more stop trace text more so.1.0, so.1.1))
+shown_more : (text more : List ℕ) (stop : Option ViewEnd) (open_line : Option ℕ) (trace : List Event)
+    → is_some stop ≡ true → IsShown text stop open_line trace → IsShown (text ++ more) stop open_line trace
+shown_more text more None open_line trace is so = absurd (cc)
+shown_more text more (Some stop) open_line trace is so = (so.0, (stops_more stop trace text more so.1.0, so.1.1))
 
 -- behind the line at which a view stopped, the text may go on
-pub said_more : (text more : List ℕ) (stop : Option ViewEnd) (left : Option ℕ) (said : List Line) → is_some stop ≡ true
-    → IsSaidOf text stop left said → IsSaidOf (text ++ more) stop left said
-said_more text more stop left said is so = (so.0, shown_more text more stop left so.0 is so.1, so.2, so.3)
+pub said_more : (text more : List ℕ) (stop : Option ViewEnd) (open_line : Option ℕ) (past_lines : List Line)
+    → is_some stop ≡ true → IsSaidOf text stop open_line past_lines → IsSaidOf (text ++ more) stop open_line past_lines
+said_more text more stop open_line past_lines is so =
+    (so.0, shown_more text more stop open_line so.0 is so.1, so.2, so.3)

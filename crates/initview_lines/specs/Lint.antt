@@ -24,7 +24,7 @@ use Rattle.initview_lines.specs.declared.lines.Line.{Line}
 use Rattle.initview_lines.specs.declared.lines.Line.TheVariants.{File}
 use Rattle.initview_lines.specs.declared.lint.Findings.{Findings}
 use Rattle.initview_lines.specs.declared.lint.Findings.TheVariants as found
-use Rattle.initview_lines.specs.declared.lint.Place.{Place}
+use Rattle.initview_lines.specs.declared.lint.Cursor.{Cursor}
 
 -- the name and the text of the file of a number
 abbrev pub name_of : Option NamedText → List ℕ
@@ -47,8 +47,8 @@ abbrev pub line_at : ℕ → List ℕ → List ℕ
 line_at number text = line_begun (after_lines (number - 1) text)
 
 -- a place in the files: what stands there is what stands behind so many lines
-abbrev pub IsPlace : List NamedText → Place → Type 0
-IsPlace parts place = after_lines place.before (text_of (slice_get parts place.part)) ≡ Some place.rest.now
+abbrev pub IsCursor : List NamedText → Cursor → Type 0
+IsCursor parts cursor = after_lines cursor.before (text_of (slice_get parts cursor.part)) ≡ Some cursor.rest.now
 
 -- the id or the action of a line, where a check of it fails, and the action that was probably meant
 abbrev pub field_of : LineKind → FieldBytes → List ℕ

@@ -16,8 +16,8 @@ part_in (happening ∷ past) = part_in past ++ line_at (time_of (happening ∷ p
 
 -- these are the lines of all happenings of the text, as far as it has any
 abbrev pub IsToldOf : List ℕ → Option ViewEnd → Option ℕ → List Line → Type 0
-IsToldOf text stop left said =
-    (trace : List Event) × ShownBy stop left trace text × (said ≡ part_in (reverse trace))
+IsToldOf text stop open_line past_lines =
+    (trace : List Event) × ShownBy stop open_line trace text × (past_lines ≡ part_in (reverse trace))
 
 -- what is not read of a text that comes in pieces, and how many lines are; the time; and why it goes no further
 pub record PartState : Type 0 where
@@ -42,14 +42,14 @@ TakenBy (Some stop) reading trace text = StopsAt stop trace text
 
 -- the text is being read, or was taken: these are the lines of the trace that was read of it
 abbrev pub IsTelling : PartState → List Line → List ℕ → Type 0
-IsTelling state said text =
+IsTelling state past_lines text =
     (trace : List Event) × ReadBy state.stop state.reading trace text × (state.time ≡ time_of (reverse trace))
-    × (said ≡ part_in (reverse trace))
+    × (past_lines ≡ part_in (reverse trace))
 
 abbrev pub HasTold : PartState → List Line → List ℕ → Type 0
-HasTold state said text =
+HasTold state past_lines text =
     (trace : List Event) × TakenBy state.stop state.reading trace text × (state.time ≡ time_of (reverse trace))
-    × (said ≡ part_in (reverse trace))
+    × (past_lines ≡ part_in (reverse trace))
 
 -- one happening more is told, or the text is taken
 abbrev pub TellsOn : Bool → PartState → List Line → PartState → List Line → List ℕ → Type 0

@@ -10,7 +10,7 @@ ghost use Rattle.inittab_text.specs.Lines.{fields_of};
 ghost use Rattle.inittab_text.specs.Parts.{AreTooLong, AreTooMany};
 ghost use Rattle.inittab_lint.specs.Warnings.{warnings_of};
 ghost use Rattle.initview_lines.specs.declared.lines.Line.TheVariants.{File};
-ghost use Rattle.initview_lines.specs.Lint.{IsPlace, fault_line, fault_line_of, field_in, found_by, has_nameless, is_nameless, lacks_id, line_at, lint_in, lint_lines, meant_for, name_of, note_if, serves, text_of, told_of, up_to, warning_line};
+ghost use Rattle.initview_lines.specs.Lint.{IsCursor, fault_line, fault_line_of, field_in, found_by, has_nameless, is_nameless, lacks_id, line_at, lint_in, lint_lines, meant_for, name_of, note_if, serves, text_of, told_of, up_to, warning_line};
 
 use crate::lines::{FileLine, Line};
 use crate::texts::Bytes;
@@ -172,22 +172,22 @@ fn lacks_id(line: &[u8]) -> bool
 
 /// A place in the files: behind how many lines of which, and what stands there.
 #[derive(Clone, Copy)]
-struct Place<'a> {
+struct Cursor<'a> {
     part: usize,
     before: usize,
     rest: &'a [u8],
 }
 
 /// Where to walk from to the place behind so many lines of a file: a place in it that is no later, or else its top.
-fn nearest<'a>(parts: &'a [Part], from: Place<'a>, part: usize, before: usize) -> Place<'a>
+fn nearest<'a>(parts: &'a [Part], from: Cursor<'a>, part: usize, before: usize) -> Cursor<'a>
     ensures part { result.part ≡ part }
     ensures before { result.before ≤ before }
-    ensures place { IsPlace parts.now from.entry → IsPlace parts.now result }
+    ensures cursor { IsCursor parts.now from.entry → IsCursor parts.now result }
 {
     if from.part == part && from.before <= before {
         from
     } else {
-        Place {
+        Cursor {
             part,
             before: 0,
             rest: text_of(part_at(parts, part)),
@@ -196,31 +196,31 @@ fn nearest<'a>(parts: &'a [Part], from: Place<'a>, part: usize, before: usize) -
 }
 
 /// The place behind so many lines of a file.
-fn place_behind<'a>(
+fn cursor_after<'a>(
     parts: &'a [Part],
-    from: Place<'a>,
+    from: Cursor<'a>,
     part: usize,
     before: usize,
-) -> Option<Place<'a>>
-    ensures rest { IsPlace parts.now from.entry → option_map (λ place. place.rest.now) result
+) -> Option<Cursor<'a>>
+    ensures rest { IsCursor parts.now from.entry → option_map (λ cursor. cursor.rest.now) result
         ≡ after_lines before (text_of (slice_get parts.now part)) }
-    ensures place { IsPlace parts.now from.entry
-        → IfSome result (λ place. IsPlace parts.now place) }
+    ensures cursor { IsCursor parts.now from.entry
+        → IfSome result (λ cursor. IsCursor parts.now cursor) }
 {
     let near = nearest(parts, from, part, before);
     let rest = after_lines(before - near.before, near.rest)?;
-    Some(Place { part, before, rest })
+    Some(Cursor { part, before, rest })
 }
 
 /// The line of a fault, and the place from which the next one is looked for.
-fn line_of<'a>(parts: &'a [Part], from: Place<'a>, fault: &PartFault) -> (&'a [u8], Place<'a>)
-    ensures line { IsPlace parts.now from.entry → result.0.now
+fn line_of<'a>(parts: &'a [Part], from: Cursor<'a>, fault: &PartFault) -> (&'a [u8], Cursor<'a>)
+    ensures line { IsCursor parts.now from.entry → result.0.now
         ≡ line_at fault.now.line (text_of (slice_get parts.now fault.now.part)) }
-    ensures place { IsPlace parts.now from.entry → IsPlace parts.now result.1 }
+    ensures cursor { IsCursor parts.now from.entry → IsCursor parts.now result.1 }
 {
     let before = fault.line.saturating_sub(1) as usize;
-    match place_behind(parts, from, fault.part as usize, before) {
-        Some(place) => (first_of(place.rest), place),
+    match cursor_after(parts, from, fault.part as usize, before) {
+        Some(cursor) => (first_of(cursor.rest), cursor),
         None => (b"", from),
     }
 }
@@ -237,21 +237,21 @@ fn fault_lines(
 {
     let mut lines = Vec::new(alloc);
     let mut nameless = false;
-    let mut place = Place {
+    let mut cursor = Cursor {
         part: 0,
         before: 0,
         rest: text_of(part_at(parts, 0)),
     };
     let mut rest = faults;
     while let Some((fault, others)) = rest.split_first() {
-        let (line, behind) = line_of(parts, place, fault);
+        let (line, next) = line_of(parts, cursor, fault);
         if lacks_id(line) {
             nameless = true;
         } else {
             let part = part_at(parts, fault.part as usize);
             lines.push(told_of(alloc, part, fault, line)?)?;
         }
-        place = behind;
+        cursor = next;
         rest = others;
     }
     Ok((lines, nameless))

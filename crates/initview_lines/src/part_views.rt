@@ -76,9 +76,9 @@ impl PartView {
 
     /// Adds the line of the next happening, if one is whole.
     fn tell_next(&mut self, lines: &mut Vec<Line>) -> Result<bool, Memory>
-        ensures goes { IfOk result (λ more. (said : List Line) (text : List ℕ)
-            → length text < 2 ^ 64 → TellsOn more self.old (said ++ lines.old.items)
-            self.new (said ++ lines.new.items) text) }
+        ensures goes { IfOk result (λ more. (past_lines : List Line) (text : List ℕ)
+            → length text < 2 ^ 64 → TellsOn more self.old (past_lines ++ lines.old.items)
+            self.new (past_lines ++ lines.new.items) text) }
         ensures shorter { IfOk result (λ more. more ≡ true
             → length self.new.reading.over < length self.old.reading.over) }
     {
@@ -102,8 +102,9 @@ impl PartView {
     }
 
     fn feed(&mut self, piece: &[u8]) -> Result<(), Memory>
-        ensures { OnOk result ((said : List Line) (text : List ℕ) → HasTold self.old said text
-            → IsTelling self.new said (text ++ piece.now)) }
+        ensures { OnOk result
+            ((past_lines : List Line) (text : List ℕ) → HasTold self.old past_lines text
+            → IsTelling self.new past_lines (text ++ piece.now)) }
     {
         if let Some(_) = self.stop {
             return Ok(());
@@ -115,10 +116,10 @@ impl PartView {
     /// Takes the next piece of the text, cut anywhere, and adds the lines of all that is whole of it. Where memory runs out
     /// it is of no more use.
     pub fn take(&mut self, piece: &[u8], lines: &mut Vec<Line>) -> Result<(), Memory>
-        ensures { OnOk result ((said : List Line) (text : List ℕ)
+        ensures { OnOk result ((past_lines : List Line) (text : List ℕ)
             → length (text ++ piece.now) < 2 ^ 64
-            → HasTold self.old (said ++ lines.old.items) text
-            → HasTold self.new (said ++ lines.new.items) (text ++ piece.now)) }
+            → HasTold self.old (past_lines ++ lines.old.items) text
+            → HasTold self.new (past_lines ++ lines.new.items) (text ++ piece.now)) }
     {
         self.feed(piece)?;
         while self.tell_next(lines)? {}
@@ -126,23 +127,23 @@ impl PartView {
     }
 
     /// The number of the line, from 1, at which the last happening begins where that isn't finished.
-    fn left(&self) -> Option<u64>
+    fn open_line(&self) -> Option<u64>
         ensures { result ≡ left_of self.now.stop
             (option_map capped (line_left self.now.reading.lines self.now.reading.over)) }
     {
         match self.stop {
             Some(_) => None,
-            None => self.reader.left(),
+            None => self.reader.open_line(),
         }
     }
 
     /// Why it goes no further, and the number of the line, from 1, at which the last happening begins where that isn't
     /// finished.
     pub fn end(&self) -> (Option<ViewEnd>, Option<u64>)
-        ensures { (said : List Line) (text : List ℕ) → length text < 2 ^ 64
-            → HasTold self.now said text → IsToldOf text result.0 result.1 said }
+        ensures { (past_lines : List Line) (text : List ℕ) → length text < 2 ^ 64
+            → HasTold self.now past_lines text → IsToldOf text result.0 result.1 past_lines }
     {
-        let left = self.left();
-        (self.stop, left)
+        let open_line = self.open_line();
+        (self.stop, open_line)
     }
 }

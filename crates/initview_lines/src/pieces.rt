@@ -11,8 +11,10 @@ use trace_view::TextView;
 
 /// Adds the line of the next happening, if one is whole.
 fn next_line(view: &mut TextView, lines: &mut Vec<Line>) -> Result<bool, Memory>
-    ensures goes { IfOk result (λ more. (said : List Line) (text : List ℕ) → length text < 2 ^ 64
-        → SaysOn more view.old (said ++ lines.old.items) view.new (said ++ lines.new.items) text) }
+    ensures goes { IfOk result
+        (λ more. (past_lines : List Line) (text : List ℕ) → length text < 2 ^ 64
+        → SaysOn more view.old (past_lines ++ lines.old.items) view.new
+        (past_lines ++ lines.new.items) text) }
     ensures shorter { IfOk result (λ more. more ≡ true
         → length view.new.reading.over < length view.old.reading.over) }
 {
@@ -28,9 +30,10 @@ fn next_line(view: &mut TextView, lines: &mut Vec<Line>) -> Result<bool, Memory>
 /// Shows a view the next piece of its text, cut anywhere, and adds the lines of all that is whole of it. Where memory runs
 /// out the view is of no more use.
 pub fn take_lines(view: &mut TextView, piece: &[u8], lines: &mut Vec<Line>) -> Result<(), Memory>
-    ensures { OnOk result ((said : List Line) (text : List ℕ) → length (text ++ piece.now) < 2 ^ 64
-        → HasSaid view.old (said ++ lines.old.items) text
-        → HasSaid view.new (said ++ lines.new.items) (text ++ piece.now)) }
+    ensures { OnOk result
+        ((past_lines : List Line) (text : List ℕ) → length (text ++ piece.now) < 2 ^ 64
+        → HasSaid view.old (past_lines ++ lines.old.items) text
+        → HasSaid view.new (past_lines ++ lines.new.items) (text ++ piece.now)) }
 {
     view.feed(piece)?;
     while next_line(view, lines)? {}

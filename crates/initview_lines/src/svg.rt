@@ -169,10 +169,10 @@ fn tick_time(zone: Zone, frame: Frame, number: u64) -> u64 {
     } else {
         shown.div_ceil(step.max(1)).saturating_mul(step)
     };
-    let behind = first.saturating_sub(shown);
+    let offset = first.saturating_sub(shown);
     frame
         .start
-        .saturating_add(behind)
+        .saturating_add(offset)
         .saturating_add(number.saturating_mul(step))
 }
 

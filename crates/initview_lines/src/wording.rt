@@ -483,7 +483,7 @@ fn add_start(text: &mut Vec<u8>, id: &Id, act: Act, waits: bool) -> Result<(), A
 }
 
 /// The id for whose end is waited.
-fn behind(before: &Option<Id>) -> Value<'_> {
+fn id_or_nothing(before: &Option<Id>) -> Value<'_> {
     match before {
         Some(id) => Value::Id(*id),
         None => Value::Text(b"nothing"),
@@ -497,14 +497,14 @@ fn add_on_path(
     before: &Option<Id>,
 ) -> Result<(), AllocError> {
     add_columns(text, id, Some(act))?;
-    fill(text, b"waits for @\n", &[behind(before)])
+    fill(text, b"waits for @\n", &[id_or_nothing(before)])
 }
 
 fn add_reached(text: &mut Vec<u8>, level: Level, before: &Option<Id>) -> Result<(), AllocError> {
     fill(
         text,
         b"@                waits for @\n",
-        &[Value::Level(level), behind(before)],
+        &[Value::Level(level), id_or_nothing(before)],
     )
 }
 

@@ -11,8 +11,8 @@ use Rattle.initview_timeline.specs.Lives.{marks_for}
 use Rattle.initview_timeline.specs.Rows.{Scene}
 
 -- what happened to an id
-abbrev pub own : Scene → List ℕ → List TimelineMark
-own s id = marks_for (Some id) s.marks
+abbrev pub id_marks : Scene → List ℕ → List TimelineMark
+id_marks s id = marks_for (Some id) s.marks
 
 -- the child of a birth, and when it was born
 abbrev pub birth_at : ℕ → Shown → List (ℕ × ℕ)

@@ -148,7 +148,7 @@ abbrev pub state_by : Bool → Bool → State → State
 state_by held due s = if held then state.Held else if due && not (is_up s) then state.Due else s
 
 abbrev pub state_of : Scene → List ℕ → List TimelineMark → State
-state_of s id own = state_by (is_held s.end (Some id) s.marks) (waits s id) (state_from own)
+state_of s id id_marks = state_by (is_held s.end (Some id) s.marks) (waits s id) (state_from id_marks)
 
 -- what is drawn of an id: that it is due, since the stage in force was entered; its lives and its holds; and upon
 -- them what went wrong

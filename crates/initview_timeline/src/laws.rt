@@ -4,7 +4,7 @@ ghost use Rattle.std.specs.Prelude.{◌≡◌, ◌≤◌, ◌<◌, ◌+◌, ◌*
 ghost use Rattle.initview_timeline.specs.declared.frames.Frame.{Frame};
 ghost use Rattle.initview_timeline.specs.declared.frames.TheConstants.{BAR_LEAST};
 ghost use Rattle.initview_timeline.specs.Frames.{left_of, place_of, span_of, width_of};
-ghost use Rattle.initview_timeline.specs.Laws.{births, is_fault, lives_drawn, own};
+ghost use Rattle.initview_timeline.specs.Laws.{births, is_fault, lives_drawn, id_marks};
 ghost use Rattle.initview_timeline.specs.Lives.{lives_of};
 ghost use Rattle.initview_timeline.specs.Pieces.{has_failed};
 ghost use Rattle.initview_timeline.specs.Rows.{Scene, row_of};
@@ -13,10 +13,11 @@ ghost use Rattle.initview_timeline.specs.Rows.{Scene, row_of};
 pub fn law_of_rows()
     // the lives of a row are the births of its id, in their order, each from its birth on
     ensures lives { (s : Scene) (id : List ℕ)
-        → lives_drawn (row_of s id).pieces.bars ≡ births (own s id) }
+        → lives_drawn (row_of s id).pieces.bars ≡ births (id_marks s id) }
     // its red signs are as many as its failed lives, the KILLs that were sent, and the starts that failed
     ensures faults { (s : Scene) (id : List ℕ) → length (row_of s id).pieces.signs
-        ≡ length (filter has_failed (lives_of (own s id))) + length (filter is_fault (own s id)) }
+        ≡ length (filter has_failed (lives_of (id_marks s id))) + length
+        (filter is_fault (id_marks s id)) }
     // what is later stands at no earlier place
     ensures order { (f : Frame) (time later : ℕ)
         → time ≤ later → place_of f time ≤ place_of f later }

@@ -227,13 +227,13 @@ fn state_of(
     common: &Common,
     id: Id,
     marks: &[TimelineMark],
-    own: &[TimelineMark],
+    id_marks: &[TimelineMark],
 ) -> State
     requires common { IsCommon common.now (scene_of seen.now) }
     requires shown { shown_to id marks.now ≡ shown_to id (scene_of seen.now).marks }
-    ensures { result ≡ state_of (scene_of seen.now) id own.now }
+    ensures { result ≡ state_of (scene_of seen.now) id id_marks.now }
 {
-    let state = state_from(own);
+    let state = state_from(id_marks);
     if is_held(seen.end, &Some(id), marks) {
         State::Held
     } else if waits(seen, common, id) && !is_up(state) {
@@ -275,9 +275,9 @@ fn row_of(
     requires shown { shown_to id marks.now ≡ shown_to id (scene_of seen.now).marks }
     ensures { IfOk result (λ row. row ≡ row_of (scene_of seen.now) id) }
 {
-    let own = marks_for(alloc, &Some(id), marks)?;
-    let lives = lives_of(alloc, own.as_slice())?;
-    let state = state_of(seen, common, id, marks, own.as_slice());
+    let id_marks = marks_for(alloc, &Some(id), marks)?;
+    let lives = lives_of(alloc, id_marks.as_slice())?;
+    let state = state_of(seen, common, id, marks, id_marks.as_slice());
     let mut pieces = Pieces::new(alloc);
     add_due(&mut pieces, seen, common, state)?;
     pieces.add_lives(seen.end, common.waited.contains(&id), lives.as_slice())?;

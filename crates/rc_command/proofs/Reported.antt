@@ -1,9 +1,9 @@
 -- A run of all scripts reports them, and no answer to one is missing before it.
 use Rattle.rc_command.proofs.CommonWords.{◌≡◌, ◌≢◌, ◌⊎◌, ◌∙◌, inl, inr, refl, sym, arith, ℕ, ◌-◌, Bool, true, false}
 use Rattle.rc_command.proofs.CommonWords.{cond, ◌||◌, List, [], ◌∷◌, length, Option, ap, subst, true≢false, Asked}
-use Rattle.rc_command.proofs.CommonWords.{RcSaid, entering, said_at, RunOptions, AreNames, AsksFor, IsBefore}
+use Rattle.rc_command.proofs.CommonWords.{RcArguments, entering, arguments_at, RunOptions, AreNames, AsksFor, IsBefore}
 use Rattle.rc_command.proofs.CommonWords.{IsStatusOf, IsWhole, Reports, ReportsFirst, ReportsNames, RunsAsked}
-use Rattle.rc_command.proofs.CommonWords.{RunsNames, RunsSaid, RunsScripts, ReportsEnd, rc_of, status_of, written}
+use Rattle.rc_command.proofs.CommonWords.{RunsNames, RunsArguments, RunsScripts, ReportsEnd, rc_of, status_of, written}
 use Rattle.rc_command.proofs.CommonWords.{LinkRun, RcState, is_failure, writes_ends}
 use Rattle.std.specs.Io.KnownBytes.{Appends}
 use Rattle.program_io.specs.Reports.{ReportList}
@@ -32,23 +32,23 @@ done_is_not_waiting true = λ is. cc
 done_is_not_waiting false = λ is. cc
 
 runs_on : (way : ScriptOptions) (dir : List ℕ) (pauses : ℕ) (failed : Bool) (scripts : List LinkRun) (before : Output)
-    (ended : RunEnd) (left : List LinkRun) (after : Output) (calls : List HostCall)
-    → RunsFrom way dir pauses failed scripts before ended left after calls → ended ≢ run_end.Waiting
-runs_on way dir pauses failed [] before ended left after calls (is, none, same, no_calls) =
+    (ended : RunEnd) (remaining : List LinkRun) (after : Output) (calls : List HostCall)
+    → RunsFrom way dir pauses failed scripts before ended remaining after calls → ended ≢ run_end.Waiting
+runs_on way dir pauses failed [] before ended remaining after calls (is, none, same, no_calls) =
     λ waiting. done_is_not_waiting failed (sym is ∙ waiting)
-runs_on way dir pauses failed (s ∷ scripts) before ended left after calls (inl (at, behind)) =
+runs_on way dir pauses failed (s ∷ scripts) before ended remaining after calls (inl (at, behind)) =
     λ waiting. subst (λ e. ScriptsEndAt way dir pauses s before e after calls) waiting at
-runs_on way dir pauses failed (s ∷ scripts) before ended left after calls
+runs_on way dir pauses failed (s ∷ scripts) before ended remaining after calls
     (inr (given, first, later, between, is, ran, line, rest)) =
     runs_on way dir (pauses - count_pauses first)
-    (failed || is_failure given) scripts between ended left after later rest
+    (failed || is_failure given) scripts between ended remaining after later rest
 
 pub not_waiting : (old now : Option (List HostCall)) (way : ScriptOptions) (dir : List ℕ) (pauses : ℕ) (failed : Bool)
     (rc new : RcState) (before after : Output) (ended : RunEnd)
     → rc.waits ≡ false → Since old now (RunsLinks way dir pauses failed rc before ended new after)
     → ended ≢ run_end.Waiting
 not_waiting old now way dir pauses failed rc new before after ended ready (calls, told, runs) =
-    runs_on way dir pauses failed rc.left before ended new.left after calls (runs.runs ready)
+    runs_on way dir pauses failed rc.remaining before ended new.remaining after calls (runs.runs ready)
 
 -- a run, with what is reported of it
 pub runs_scripts : (options : RunOptions) (old now : Option (List HostCall)) (dir : List ℕ) (rc new : RcState)
@@ -112,18 +112,18 @@ if_false false x y is = refl
 -- what is written of scripts that were run
 run_text : (options : RunOptions) (path : List ℕ) (previous names : List (List ℕ)) (rc : RcState)
     (answers : List RcAnswer) → rc ≡ rc_of options.way.levels previous names
-    → options.dry ≡ false → report options.way rc.left answers ≡ written options path previous names answers
+    → options.dry ≡ false → report options.way rc.remaining answers ≡ written options path previous names answers
 run_text options path previous names rc answers is wet =
-    ap (λ (r : RcState). report options.way r.left answers) is
+    ap (λ (r : RcState). report options.way r.remaining answers) is
     ∙ sym (if_false options.dry (command_lines options.way path (scripts_by options.way.levels previous names))
     (report options.way (scripts_by options.way.levels previous names) answers) wet)
 
 -- what is written where they are printed
 dry_text : (options : RunOptions) (path : List ℕ) (previous names : List (List ℕ)) (rc : RcState)
     (answers : List RcAnswer) → rc ≡ rc_of options.way.levels previous names
-    → options.dry ≡ true → command_lines options.way path rc.left ≡ written options path previous names answers
+    → options.dry ≡ true → command_lines options.way path rc.remaining ≡ written options path previous names answers
 dry_text options path previous names rc answers is dry =
-    ap (λ (r : RcState). command_lines options.way path r.left) is
+    ap (λ (r : RcState). command_lines options.way path r.remaining) is
     ∙ sym (if_true options.dry (command_lines options.way path (scripts_by options.way.levels previous names))
     (report options.way (scripts_by options.way.levels previous names) answers) dry)
 
@@ -142,7 +142,7 @@ run_reports options path previous names old now rc before after told tells statu
       went.answers,
       (
         (λ dry. absurd (true≢false (sym dry ∙ wet))),
-        (λ _. (all.1 ∙ ap (λ (r : RcState). length r.left) is, of ∙ ap (status_of options.strict) all.0)),
+        (λ _. (all.1 ∙ ap (λ (r : RcState). length r.remaining) is, of ∙ ap (status_of options.strict) all.0)),
       ),
       subst (Appends before after) (run_text options path previous names rc went.answers is wet) all.2,
     )
@@ -174,7 +174,7 @@ run_names options path previous names old now rc before after told tells status 
 pub dry_reports : (options : RunOptions) (path : List ℕ) (previous names : List (List ℕ)) (rc : RcState)
     (before after : Option (List ℕ)) (status : ℕ) → rc ≡ rc_of options.way.levels previous names
     → options.dry ≡ true → (status ≡ DONE) ⊎ (status ≡ DEVICE_FAULT)
-    → (status ≡ DONE → Appends before after (command_lines options.way path rc.left))
+    → (status ≡ DONE → Appends before after (command_lines options.way path rc.remaining))
     → IsWhole status → ReportsNames options path previous names before status after
 dry_reports options path previous names rc before after status is dry (inl done) text whole = (
   [],
@@ -186,7 +186,7 @@ dry_reports options path previous names rc before after status is dry (inr fault
 
 pub dry_part : (options : RunOptions) (path : List ℕ) (previous names : List (List ℕ)) (rc : RcState)
     (before after : Option (List ℕ)) → rc ≡ rc_of options.way.levels previous names
-    → options.dry ≡ true → AppendsPrefix before after (command_lines options.way path rc.left)
+    → options.dry ≡ true → AppendsPrefix before after (command_lines options.way path rc.remaining)
     → ReportsFirst options path previous names before after
 dry_part options path previous names rc before after is dry part =
     ([], subst (AppendsPrefix before after) (dry_text options path previous names rc [] is dry) part)
@@ -228,57 +228,61 @@ print_known way path rc new before after ended status ready of prints =
 pub print_done : (way : ScriptOptions) (path : List ℕ) (rc new : RcState) (before after : Option (List ℕ))
     (ended : RunEnd) (status : ℕ) → rc.waits ≡ false
     → status ≡ status_of false ended → PrintsLinks way path rc before ended new after → status ≡ DONE
-    → Appends before after (command_lines way path rc.left)
+    → Appends before after (command_lines way path rc.remaining)
 print_done way path rc new before after ended status ready of prints done =
     by (print_ends way path rc new before after ended ready prints)
   where
     by : (ended ≡ run_end.Done) ⊎ (ended ≡ run_end.Write) ⊎ (ended ≡ run_end.Memory)
-        → Appends before after (command_lines way path rc.left)
+        → Appends before after (command_lines way path rc.remaining)
     by (inl is) = let whole = prints.whole is in whole.0
     by (inr (inl is)) = absurd (not_whole_fault status (of ∙ ap (status_of false) is) (inl done))
     by (inr (inr is)) = absurd (not_whole_fault status (of ∙ ap (status_of false) is) (inl done))
 
 -- names that were listed are those of the folders that a command line names
-pub are_names : (names_at : KnownNames) (said : RcSaid) (dir path : List ℕ) (previous names : List (List ℕ))
-    → dir ≡ said.dir → path ≡ folder_of dir said.new
-    → ArePrevious names_at dir said.previous previous → AreNamesAt names_at path names
-    → AreNames names_at said previous names
-are_names names_at said dir path previous names same at before here = (
-  subst (λ d. ArePrevious names_at d said.previous previous) same before,
-  subst (λ p. AreNamesAt names_at p names) (at ∙ ap (λ d. folder_of d said.new) same) here,
+pub are_names : (names_at : KnownNames) (arguments : RcArguments) (dir path : List ℕ) (previous names : List (List ℕ))
+    → dir ≡ arguments.dir → path ≡ folder_of dir arguments.new
+    → ArePrevious names_at dir arguments.previous previous → AreNamesAt names_at path names
+    → AreNames names_at arguments previous names
+are_names names_at arguments dir path previous names same at before here = (
+  subst (λ d. ArePrevious names_at d arguments.previous previous) same before,
+  subst (λ p. AreNamesAt names_at p names) (at ∙ ap (λ d. folder_of d arguments.new) same) here,
 )
 
 -- a run of the folders that a command line names
-folder_is : (said : RcSaid) (dir path : List ℕ) → dir ≡ said.dir → path ≡ folder_of dir said.new
-    → path ≡ folder_of said.dir said.new
-folder_is said dir path same at = at ∙ ap (λ d. folder_of d said.new) same
+folder_is : (arguments : RcArguments) (dir path : List ℕ) → dir ≡ arguments.dir → path ≡ folder_of dir arguments.new
+    → path ≡ folder_of arguments.dir arguments.new
+folder_is arguments dir path same at = at ∙ ap (λ d. folder_of d arguments.new) same
 
-pub said_reports : (names_at : KnownNames) (said : RcSaid) (dir path listed : List ℕ) (previous names : List (List ℕ))
+pub said_reports : (names_at : KnownNames) (arguments : RcArguments) (dir path listed : List ℕ)
+    (previous names : List (List ℕ))
     (before after : Option (List ℕ)) (status : ℕ)
-    → dir ≡ said.dir → path ≡ folder_of dir said.new → listed ≡ folder_of dir said.new
-    → ArePrevious names_at dir said.previous previous → AreNamesAt names_at listed names
-    → ReportsNames said.options path previous names before status after → Reports names_at said before status after
-said_reports names_at said dir path listed previous names before after status same at there first here all = (
+    → dir ≡ arguments.dir → path ≡ folder_of dir arguments.new → listed ≡ folder_of dir arguments.new
+    → ArePrevious names_at dir arguments.previous previous → AreNamesAt names_at listed names
+    → ReportsNames arguments.options path previous names before status after
+    → Reports names_at arguments before status after
+said_reports names_at arguments dir path listed previous names before after status same at there first here all = (
   previous,
   names,
-  are_names names_at said dir listed previous names same there first here,
-  subst (λ p. ReportsNames said.options p previous names before status after) (folder_is said dir path same at) all,
+  are_names names_at arguments dir listed previous names same there first here,
+  subst (λ p. ReportsNames arguments.options p previous names before status after)
+      (folder_is arguments dir path same at) all,
 )
 
-pub said_runs : (names_at : KnownNames) (said : RcSaid) (dir path listed : List ℕ) (previous names : List (List ℕ))
+pub said_runs : (names_at : KnownNames) (arguments : RcArguments) (dir path listed : List ℕ)
+    (previous names : List (List ℕ))
     (old new : Option (List HostCall)) (before : Option (List ℕ)) (told : ReportList) (after : Option (List ℕ))
     (tells : ReportList) (status : ℕ)
-    → dir ≡ said.dir → path ≡ folder_of dir said.new → listed ≡ folder_of dir said.new
-    → ArePrevious names_at dir said.previous previous → AreNamesAt names_at listed names
-    → Since old new (RunsNames said.options path previous names before told status after tells)
-    → RunsSaid names_at said old new before told status after tells
-said_runs names_at said dir path listed previous names old new before told after tells status same
+    → dir ≡ arguments.dir → path ≡ folder_of dir arguments.new → listed ≡ folder_of dir arguments.new
+    → ArePrevious names_at dir arguments.previous previous → AreNamesAt names_at listed names
+    → Since old new (RunsNames arguments.options path previous names before told status after tells)
+    → RunsArguments names_at arguments old new before told status after tells
+said_runs names_at arguments dir path listed previous names old new before told after tells status same
     at there first here runs = (
       previous,
       names,
-      are_names names_at said dir listed previous names same there first here,
-      subst (λ p. Since old new (RunsNames said.options p previous names before told status after tells))
-          (folder_is said dir path same at) runs,
+      are_names names_at arguments dir listed previous names same there first here,
+      subst (λ p. Since old new (RunsNames arguments.options p previous names before told status after tells))
+          (folder_is arguments dir path same at) runs,
     )
 
 -- a status of a run that is whole is that of the run
@@ -301,15 +305,15 @@ known_of file inner told status tells (inr (named, fault, was)) known = inr (inr
 
 -- what is so of the folder, the change and the options that are run is so of what is asked for
 pub asks_for : (file_at : KnownFiles) (asked : Asked) (before : Option Level) (dir : List ℕ) (options : RunOptions)
-    (P : RcSaid → Type 0)
+    (P : RcArguments → Type 0)
     → IsBefore file_at asked before → dir ≡ asked.dir
     → options ≡ entering asked.sysv (record { before = before; new = asked.new }) asked.options
-    → P (said_at dir (record { before = before; new = asked.new }) options) → AsksFor file_at asked P
+    → P (arguments_at dir (record { before = before; new = asked.new }) options) → AsksFor file_at asked P
 asks_for file_at asked before dir options P is same so holds = (
   before,
   is,
-  subst (λ o. P (said_at asked.dir (record { before = before; new = asked.new }) o)) so
-      (subst (λ d. P (said_at d (record { before = before; new = asked.new }) options)) same holds),
+  subst (λ o. P (arguments_at asked.dir (record { before = before; new = asked.new }) o)) so
+      (subst (λ d. P (arguments_at d (record { before = before; new = asked.new }) options)) same holds),
 )
 
 -- where that is whole, what is so of the lines of a run is so of those that are asked for
@@ -320,13 +324,13 @@ pub reports_asked : (file_at : KnownFiles) (names_at : KnownNames) (asked : Aske
     → options ≡ entering asked.sysv (record { before = before; new = asked.new }) asked.options
     → IsStatusOf asked.file inner told status tells
     → (IsWhole inner
-    → Reports names_at (said_at dir (record { before = before; new = asked.new }) options) out inner after)
-    → IsWhole status → AsksFor file_at asked (λ said. Reports names_at said out status after)
+    → Reports names_at (arguments_at dir (record { before = before; new = asked.new }) options) out inner after)
+    → IsWhole status → AsksFor file_at asked (λ arguments. Reports names_at arguments out status after)
 reports_asked file_at names_at asked before dir options inner status out told after tells is same so ends reports
     whole =
     let e = whole_status asked.file inner told status tells ends whole in
-    asks_for file_at asked before dir options (λ said. Reports names_at said out status after) is same so
-    (subst (λ s. Reports names_at (said_at dir (record { before = before; new = asked.new }) options) out s after)
+    asks_for file_at asked before dir options (λ arguments. Reports names_at arguments out status after) is same so
+    (subst (λ s. Reports names_at (arguments_at dir (record { before = before; new = asked.new }) options) out s after)
     (sym e) (reports (subst IsWhole e whole)))
 
 -- what is so of how scripts were run is so of those that are asked for, where nothing was told before
@@ -338,21 +342,23 @@ pub runs_asked : (file_at : KnownFiles) (names_at : KnownNames) (asked : Asked) 
     → options ≡ entering asked.sysv (record { before = before; new = asked.new }) asked.options
     → IsStatusOf asked.file inner between status tells → told ≡ first
     → (options.dry ≡ true → new ≡ old)
-    × (options.dry ≡ false → RunsSaid names_at
-    (said_at dir (record { before = before; new = asked.new }) options) old new out told inner after between)
+    × (options.dry ≡ false → RunsArguments names_at
+    (arguments_at dir (record { before = before; new = asked.new }) options) old new out told inner after between)
     → RunsAsked file_at names_at asked old new out first status after tells
 runs_asked file_at names_at asked before dir options inner status old new out first told between after tells is same so
     ends silent (dry, runs) =
     asks_for file_at asked before dir options
-    (λ said. (said.options.dry ≡ true → new ≡ old)
-    × (said.options.dry ≡ false → (inner : ℕ) × (between : ReportList)
-    × RunsSaid names_at said old new out first inner after between × IsStatusOf asked.file inner between status tells))
+    (λ arguments. (arguments.options.dry ≡ true → new ≡ old)
+    × (arguments.options.dry ≡ false → (inner : ℕ) × (between : ReportList)
+    × RunsArguments names_at arguments old new out first inner after between
+    × IsStatusOf asked.file inner between status tells))
     is same so (
       dry,
       (λ wet. (
         inner,
         between,
-        subst (λ t. RunsSaid names_at (said_at dir (record { before = before; new = asked.new }) options) old new out t
+        subst (λ t. RunsArguments names_at
+            (arguments_at dir (record { before = before; new = asked.new }) options) old new out t
             inner after between) silent (runs wet),
         ends,
       )),

@@ -21,7 +21,7 @@ command_line = line_of (codes "rc") (written OPTIONS.now)
 
 -- what is run: the folder that holds those of the runlevels, the level before, if there was one, the new level, and the
 -- options
-pub record RcSaid : Type 0 where
+pub record RcArguments : Type 0 where
   pub dir : Text
   pub previous : Option Level
   pub new : Level
@@ -36,8 +36,8 @@ pub record Asked : Type 0 where
   pub sysv : Bool
   pub options : RunOptions
 
-abbrev pub said_of : Words → Asked
-said_of words = record {
+abbrev pub arguments_of : Words → Asked
+arguments_of words = record {
   dir = string_bytes words.dir;
   previous = words.previous;
   file = option_map (λ (text : _). string_bytes text) words.level_file;
@@ -68,12 +68,12 @@ abbrev pub seconds_in : Option Text → Option (Option ℕ)
 seconds_in None = Some None
 seconds_in (Some word) = option_map Some (seconds_read word)
 
-abbrev pub seconds_said : List Row → Option (Option ℕ)
-seconds_said rows = seconds_in (first_of (codes "--timeout") rows)
+abbrev pub seconds_option : List Row → Option (Option ℕ)
+seconds_option rows = seconds_in (first_of (codes "--timeout") rows)
 
 -- the options, with these seconds
-abbrev pub options_said : Option ℕ → List Row → RunOptions
-options_said seconds rows = record {
+abbrev pub options_with : Option ℕ → List Row → RunOptions
+options_with seconds rows = record {
   dry = is_set (codes "-n") rows;
   strict = is_set (codes "--strict") rows;
   way = record {
@@ -90,14 +90,14 @@ entering sysv change options =
     if sysv then record options { way = record options.way { levels = Some change } } else options
 
 -- what is run from the folder at a change of level
-abbrev pub said_at : Text → LevelChange → RunOptions → RcSaid
-said_at dir change options = record { dir = dir; previous = change.before; new = change.new; options = options }
+abbrev pub arguments_at : Text → LevelChange → RunOptions → RcArguments
+arguments_at dir change options = record { dir = dir; previous = change.before; new = change.new; options = options }
 
 -- what is run where that was the level before
-abbrev pub run_said : Asked → Option Level → RcSaid
-run_said asked before =
+abbrev pub run_arguments : Asked → Option Level → RcArguments
+run_arguments asked before =
     let change : LevelChange = record { before = before; new = asked.new } in
-    said_at asked.dir change (entering asked.sysv change asked.options)
+    arguments_at asked.dir change (entering asked.sysv change asked.options)
 
 -- the level of a word, with none before it
 abbrev pub new_of : Text → Option LevelChange
@@ -116,13 +116,13 @@ levels_in None first None = None
 levels_in (Some file) first None = new_of first
 levels_in (Some file) first (Some second) = None
 
-abbrev pub levels_said : List Row → Option LevelChange
-levels_said rows =
+abbrev pub levels_given : List Row → Option LevelChange
+levels_given rows =
     levels_in (first_of (codes "--level-file") rows) (value_said (codes "PREV") rows) (first_of (codes "NEW") rows)
 
 -- what words and the options say
-abbrev pub rc_said_by : List Row → Bool → RunOptions → Option Asked
-rc_said_by rows sysv options =
+abbrev pub rc_arguments : List Row → Bool → RunOptions → Option Asked
+rc_arguments rows sysv options =
     if is_dir (value_said (codes "DIR") rows) then
     option_map
     (λ (levels : LevelChange). record {
@@ -133,14 +133,14 @@ rc_said_by rows sysv options =
       sysv = sysv;
       options = options;
     })
-    (levels_said rows)
+    (levels_given rows)
     else None
 
-abbrev pub rows_said : List Row → Option Asked
-rows_said rows =
+abbrev pub arguments_in : List Row → Option Asked
+arguments_in rows =
     option_and_then
-    (λ seconds. rc_said_by rows (is_set (codes "--as-sysv") rows) (options_said seconds rows)) (seconds_said rows)
+    (λ seconds. rc_arguments rows (is_set (codes "--as-sysv") rows) (options_with seconds rows)) (seconds_option rows)
 
 -- what words say; where the command line has a fault in them, nothing
 abbrev pub rc_read_of : List Text → Option Asked
-rc_read_of words = option_and_then rows_said (given_by command_line words)
+rc_read_of words = option_and_then arguments_in (given_by command_line words)

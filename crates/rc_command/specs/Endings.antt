@@ -17,7 +17,7 @@ use Rattle.rc_runs.specs.Runs.{LinkRun, RcState, is_failure}
 use Rattle.rc_runs.specs.Sysv.{scripts_by}
 use Rattle.rc_runs.specs.declared.runs.LevelChange.{LevelChange}
 use Rattle.rc_driver.specs.Told.{RunsLinks}
-use Rattle.rc_command.specs.CommandLine.{Asked, RcSaid, rc_read_of, run_said}
+use Rattle.rc_command.specs.CommandLine.{Asked, RcArguments, rc_read_of, run_arguments}
 use Rattle.rc_command.specs.LevelFiles.{IsBeforeIn, KeepsIn, KnownFiles}
 use Rattle.init_words.specs.declared.levels.Level.{Level}
 use Rattle.rc_command.specs.declared.command.RunOptions.{RunOptions}
@@ -37,7 +37,7 @@ IsWhole status = (status ≡ DONE) ⊎ (status ≡ SCRIPT_FAILED)
 
 -- the scripts by the names in two folders, as sysv-rc has them where a change of level is given; none is handed out
 abbrev pub rc_of : Option LevelChange → List (List ℕ) → List (List ℕ) → RcState
-rc_of levels previous names = record { left = scripts_by levels previous names; waits = false }
+rc_of levels previous names = record { remaining = scripts_by levels previous names; waits = false }
 
 -- nothing is told where nothing is run, or scripts have no limit
 abbrev pub IsSilent : RunOptions → Type 0
@@ -77,16 +77,18 @@ RunsNames options path previous names before told status after tells calls =
     RunsScripts options path (rc_of options.way.levels previous names) before told status after tells calls
 
 -- the names are those in the two folders that a command line names, where they are known
-abbrev pub AreNames : KnownNames → RcSaid → List (List ℕ) → List (List ℕ) → Type 0
-AreNames names_at said previous names =
-    ArePrevious names_at said.dir said.previous previous × AreNamesAt names_at (folder_of said.dir said.new) names
+abbrev pub AreNames : KnownNames → RcArguments → List (List ℕ) → List (List ℕ) → Type 0
+AreNames names_at arguments previous names =
+    ArePrevious names_at arguments.dir arguments.previous previous
+    × AreNamesAt names_at (folder_of arguments.dir arguments.new) names
 
 -- the scripts that a command line asks for were run so, with the calls that are told
-abbrev pub RunsSaid : KnownNames → RcSaid → Option (List HostCall) → Option (List HostCall) → Option (List ℕ)
+abbrev pub RunsArguments : KnownNames → RcArguments → Option (List HostCall) → Option (List HostCall) → Option (List ℕ)
     → ReportList → ℕ → Option (List ℕ) → ReportList → Type 0
-RunsSaid names_at said old new before told status after tells =
-    (previous names : List (List ℕ)) × AreNames names_at said previous names × Since old new (λ calls.
-    RunsNames said.options (folder_of said.dir said.new) previous names before told status after tells calls)
+RunsArguments names_at arguments old new before told status after tells =
+    (previous names : List (List ℕ)) × AreNames names_at arguments previous names × Since old new (λ calls.
+    RunsNames arguments.options
+    (folder_of arguments.dir arguments.new) previous names before told status after tells calls)
 
 -- what is written of the scripts by the names in two folders, which came to these ends: what would start each, where
 -- nothing is run; else their lines
@@ -116,31 +118,31 @@ ReportsFirst options path previous names old new =
     (answers : List RcAnswer) × AppendsPrefix old new (written options path previous names answers)
 
 -- what is written of all scripts of the two folders that a command line names
-abbrev pub Reports : KnownNames → RcSaid → Option (List ℕ) → ℕ → Option (List ℕ) → Type 0
-Reports names_at said old status new =
-    (previous names : List (List ℕ)) × AreNames names_at said previous names
-    × ReportsNames said.options (folder_of said.dir said.new) previous names old status new
+abbrev pub Reports : KnownNames → RcArguments → Option (List ℕ) → ℕ → Option (List ℕ) → Type 0
+Reports names_at arguments old status new =
+    (previous names : List (List ℕ)) × AreNames names_at arguments previous names
+    × ReportsNames arguments.options (folder_of arguments.dir arguments.new) previous names old status new
 
 -- a prefix of what is written of the first of them
-abbrev pub ReportsPart : KnownNames → RcSaid → Option (List ℕ) → Option (List ℕ) → Type 0
-ReportsPart names_at said old new =
-    (previous names : List (List ℕ)) × AreNames names_at said previous names
-    × ReportsFirst said.options (folder_of said.dir said.new) previous names old new
+abbrev pub ReportsPart : KnownNames → RcArguments → Option (List ℕ) → Option (List ℕ) → Type 0
+ReportsPart names_at arguments old new =
+    (previous names : List (List ℕ)) × AreNames names_at arguments previous names
+    × ReportsFirst arguments.options (folder_of arguments.dir arguments.new) previous names old new
 
 -- the level before: that of the words, or that of the file that they name, where that is known
 abbrev pub IsBefore : KnownFiles → Asked → Option Level → Type 0
 IsBefore file_at asked before = IsBeforeIn file_at asked.previous asked.file before
 
 -- the level before, and that this is so of what is run behind it
-abbrev pub AsksFor : KnownFiles → Asked → (RcSaid → Type 0) → Type 0
-AsksFor file_at asked P = (before : Option Level) × IsBefore file_at asked before × P (run_said asked before)
+abbrev pub AsksFor : KnownFiles → Asked → (RcArguments → Type 0) → Type 0
+AsksFor file_at asked P = (before : Option Level) × IsBefore file_at asked before × P (run_arguments asked before)
 
 -- what words ask for, and that this is so of it
 abbrev pub Says : List (List ℕ) → (Asked → Type 0) → Type 0
 Says words P = (asked : Asked) × (rc_read_of words ≡ Some asked) × P asked
 
 -- what words ask for, and that this is so of what is run
-abbrev pub Asks : KnownFiles → List (List ℕ) → (RcSaid → Type 0) → Type 0
+abbrev pub Asks : KnownFiles → List (List ℕ) → (RcArguments → Type 0) → Type 0
 Asks file_at words P = Says words (λ asked. AsksFor file_at asked P)
 
 -- the new level stands in the file that is named, where scripts were run; else each file is as it was
@@ -158,8 +160,8 @@ IsStatusOf file inner told status tells =
 -- level was kept
 abbrev pub RunsAsked : KnownFiles → KnownNames → Asked → Option (List HostCall) → Option (List HostCall)
     → Option (List ℕ) → ReportList → ℕ → Option (List ℕ) → ReportList → Type 0
-RunsAsked file_at names_at asked old new before told status after tells = AsksFor file_at asked (λ said.
-    (said.options.dry ≡ true → new ≡ old)
-    × (said.options.dry ≡ false → (inner : ℕ) × (between : ReportList)
-    × RunsSaid names_at said old new before told inner after between
+RunsAsked file_at names_at asked old new before told status after tells = AsksFor file_at asked (λ arguments.
+    (arguments.options.dry ≡ true → new ≡ old)
+    × (arguments.options.dry ≡ false → (inner : ℕ) × (between : ReportList)
+    × RunsArguments names_at arguments old new before told inner after between
     × IsStatusOf asked.file inner between status tells))

@@ -35,8 +35,8 @@ before_in (Some text) = option_map Some (level_in text)
 
 -- the level before is this one, or that of the file, where that is known
 abbrev pub IsBeforeIn : KnownFiles → Option Level → Option (List ℕ) → Option Level → Type 0
-IsBeforeIn file_at said None before = before ≡ said
-IsBeforeIn file_at said (Some path) before = IfSome (file_at path) (λ known. before_in known ≡ Some before)
+IsBeforeIn file_at known_before None before = before ≡ known_before
+IsBeforeIn file_at known_before (Some path) before = IfSome (file_at path) (λ known. before_in known ≡ Some before)
 
 -- the level stands in the file, where one is named and it is no dry run; else each file is as it was
 abbrev pub KeepsIn : Bool → Option (List ℕ) → Level → KnownFiles → KnownFiles → Type 0

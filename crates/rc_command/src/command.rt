@@ -3,8 +3,8 @@
 ghost use Rattle.std.specs.Prelude.{◌≡◌, map, string_bytes, IfErr, IfOk, IsSome, None, Some};
 ghost use Rattle.clap.specs.Words.{found_of, rows_of};
 ghost use Rattle.command_words.specs.Faults.{reason_of};
-ghost use Rattle.rc_command.specs.CommandLine.{entering, is_dir, level_of, levels_of, levels_said, new_of, options_said, previous_of};
-ghost use Rattle.rc_command.specs.CommandLine.{rc_read_of, rows_said, rc_said_by, said_of, seconds_read, seconds_said};
+ghost use Rattle.rc_command.specs.CommandLine.{entering, is_dir, level_of, levels_of, levels_given, new_of, options_with, previous_of};
+ghost use Rattle.rc_command.specs.CommandLine.{rc_read_of, arguments_in, rc_arguments, arguments_of, seconds_read, seconds_option};
 
 use clap::ArgMatches;
 use command_words::{Row, WordFault, is_set, read_line, read_path, refused, value_of, word_of};
@@ -62,8 +62,8 @@ pub struct RunOptions {
 
 /// Reads a command line, without the program's name in front.
 pub fn read_words(alloc: Global, words: &[String]) -> Result<Words, WordFault>
-    ensures ok { IfOk result (λ said.
-        rc_read_of (map string_bytes words.now) ≡ Some (said_of said)) }
+    ensures ok { IfOk result (λ arguments.
+        rc_read_of (map string_bytes words.now) ≡ Some (arguments_of arguments)) }
     ensures usage { IfErr result (λ fault. IsSome (reason_of fault)
         → rc_read_of (map string_bytes words.now) ≡ None) }
 {
@@ -75,10 +75,10 @@ pub fn read_words(alloc: Global, words: &[String]) -> Result<Words, WordFault>
 
 /// What matches say.
 fn read_matches(alloc: Global, matches: &ArgMatches) -> Result<Words, WordFault>
-    ensures ok { IfOk result (λ said.
-        rows_said (rows_of (found_of matches.now)) ≡ Some (said_of said)) }
+    ensures ok { IfOk result (λ arguments.
+        arguments_in (rows_of (found_of matches.now)) ≡ Some (arguments_of arguments)) }
     ensures usage { IfErr result (λ fault. IsSome (reason_of fault)
-        → rows_said (rows_of (found_of matches.now)) ≡ None) }
+        → arguments_in (rows_of (found_of matches.now)) ≡ None) }
 {
     let seconds = read_seconds_option(alloc, matches)?;
     words_of(
@@ -92,9 +92,9 @@ fn read_matches(alloc: Global, matches: &ArgMatches) -> Result<Words, WordFault>
 /// The two runlevels, of which a file has the first where one is named.
 fn read_levels(alloc: Global, matches: &ArgMatches) -> Result<LevelChange, WordFault>
     ensures ok { IfOk result (λ levels.
-        levels_said (rows_of (found_of matches.now)) ≡ Some levels) }
+        levels_given (rows_of (found_of matches.now)) ≡ Some levels) }
     ensures usage { IfErr result (λ fault. IsSome (reason_of fault)
-        → levels_said (rows_of (found_of matches.now)) ≡ None) }
+        → levels_given (rows_of (found_of matches.now)) ≡ None) }
 {
     let first = value_of(matches, "PREV");
     match (word_of(matches, "--level-file"), word_of(matches, "NEW")) {
@@ -138,7 +138,7 @@ fn read_new(alloc: Global, after: &str) -> Result<LevelChange, WordFault>
 
 /// What the options say, with these seconds.
 fn read_options(matches: &ArgMatches, seconds: Option<u32>) -> RunOptions
-    ensures { result ≡ options_said seconds (rows_of (found_of matches.now)) }
+    ensures { result ≡ options_with seconds (rows_of (found_of matches.now)) }
 {
     RunOptions {
         dry: is_set(matches, "-n"),
@@ -155,9 +155,9 @@ fn read_options(matches: &ArgMatches, seconds: Option<u32>) -> RunOptions
 /// The seconds that a script has, where a limit is given.
 fn read_seconds_option(alloc: Global, matches: &ArgMatches) -> Result<Option<u32>, WordFault>
     ensures ok { IfOk result (λ seconds.
-        seconds_said (rows_of (found_of matches.now)) ≡ Some seconds) }
+        seconds_option (rows_of (found_of matches.now)) ≡ Some seconds) }
     ensures usage { IfErr result (λ fault. IsSome (reason_of fault)
-        → seconds_said (rows_of (found_of matches.now)) ≡ None) }
+        → seconds_option (rows_of (found_of matches.now)) ≡ None) }
 {
     let Some(word) = word_of(matches, "--timeout") else {
         return Ok(None);
@@ -187,10 +187,11 @@ fn words_of(
     sysv: bool,
     options: RunOptions,
 ) -> Result<Words, WordFault>
-    ensures ok { IfOk result (λ said. rc_said_by (rows_of (found_of matches.now)) sysv options
-        ≡ Some (said_of said)) }
+    ensures ok { IfOk result
+        (λ arguments. rc_arguments (rows_of (found_of matches.now)) sysv options
+        ≡ Some (arguments_of arguments)) }
     ensures usage { IfErr result (λ fault. IsSome (reason_of fault)
-        → rc_said_by (rows_of (found_of matches.now)) sysv options ≡ None) }
+        → rc_arguments (rows_of (found_of matches.now)) sysv options ≡ None) }
 {
     let dir = value_of(matches, "DIR");
     if !is_dir(dir) {

@@ -31,10 +31,10 @@ pub fn refuse_unwaited<R: Files + Processes, E: Reporter>(
         → HasReported (E.reports err.old) (E.reports err.new) UNWAITED.now }
     ensures silent { IfNone result (err.new ≡ err.old) }
 {
-    let Ok(said) = read_words(alloc, words) else {
+    let Ok(arguments) = read_words(alloc, words) else {
         return None;
     };
-    if said.options.dry || !ignores_children(rt, alloc) {
+    if arguments.options.dry || !ignores_children(rt, alloc) {
         return None;
     }
     err.report(UNWAITED.as_bytes());

@@ -8,12 +8,12 @@ ghost use Rattle.command_words.specs.Faults.{ReportsUsage};
 ghost use Rattle.program_io.specs.Reports.{HasReported, HasSpoken};
 ghost use Rattle.program_io.specs.Writing.{AppendsPrefix};
 ghost use Rattle.command_words.specs.VersionLine.{PrintsVersion};
-ghost use Rattle.rc_command.specs.CommandLine.{rc_read_of, said_of};
+ghost use Rattle.rc_command.specs.CommandLine.{rc_read_of, arguments_of};
 ghost use Rattle.rc_command.specs.Endings.{Asks, AsksFor, IsBefore, IsStatusOf, IsWhole, Keeps, Reports, ReportsEnd, ReportsFirst, ReportsNames, ReportsPart, RunsAsked, Says};
 ghost use Rattle.rc_command.specs.LevelFiles.{AreSame};
 ghost use Rattle.std.specs.Io.KnownBytes.{Appends};
 ghost use Rattle.rc_driver.specs.Printing.{command_lines};
-ghost use Rattle.rc_command.specs.Endings.{IsSilent, RunsNames, RunsSaid, RunsScripts, limit_text, rc_of, status_of};
+ghost use Rattle.rc_command.specs.Endings.{IsSilent, RunsNames, RunsArguments, RunsScripts, limit_text, rc_of, status_of};
 
 use crate::command::{RunOptions, Words, entering, read_words};
 use crate::folders::{Folders, folder_of, previous_names};
@@ -87,16 +87,16 @@ where
     ensures refused { result ≡ REFUSED → rc_read_of (map string_bytes words.items) ≡ None }
     ensures version { asks_version (map string_bytes words.items) ≡ true
         → PrintsVersion (codes "rc") result (W.contents out.old) (W.contents out.new) }
-    ensures said { asks_version (map string_bytes words.items) ≡ false → IsWhole result
+    ensures parsed { asks_version (map string_bytes words.items) ≡ false → IsWhole result
         → IsSome (rc_read_of (map string_bytes words.items)) }
     // The lines of all scripts of the two folders were written, and the status is the one for their ends.
     ensures done { asks_version (map string_bytes words.items) ≡ false → IsWhole result
-        → Asks (L.file_at levels.old) (map string_bytes words.items) (λ said. Reports
-        (F.names_at folders.now) said (W.contents out.old) result (W.contents out.new)) }
+        → Asks (L.file_at levels.old) (map string_bytes words.items) (λ arguments. Reports
+        (F.names_at folders.now) arguments (W.contents out.old) result (W.contents out.new)) }
     // Nothing was written, or a prefix of those lines.
     ensures part { asks_version (map string_bytes words.items) ≡ false → (out.new ≡ out.old)
-        ⊎ Asks (L.file_at levels.old) (map string_bytes words.items) (λ said. ReportsPart
-        (F.names_at folders.now) said (W.contents out.old) (W.contents out.new)) }
+        ⊎ Asks (L.file_at levels.old) (map string_bytes words.items) (λ arguments. ReportsPart
+        (F.names_at folders.now) arguments (W.contents out.old) (W.contents out.new)) }
     // Nothing was run and nothing asked of a host, or it is a call of `run_names` over the names in the two folders, with
     // the calls that the host tells; behind it the level is kept.
     ensures ran { asks_version (map string_bytes words.items) ≡ false
@@ -123,7 +123,7 @@ where
         return print_version("rc", out, err);
     }
     match read_words(alloc, words.as_slice()) {
-        Ok(said) => run_asked(host, folders, levels, alloc, &said, out, err),
+        Ok(arguments) => run_asked(host, folders, levels, alloc, &arguments, out, err),
         Err(fault) => report_word_fault("rc", &fault, USAGE, SHORT_USAGE, err),
     }
 }
@@ -134,37 +134,39 @@ fn run_asked<H: Host, F: Folders, L: LevelFiles, W: Write, E: Reporter>(
     folders: &F,
     levels: &mut L,
     alloc: Global,
-    said: &Words,
+    arguments: &Words,
     out: &mut W,
     err: &mut E,
 ) -> u8
     ensures statuses { IsWhole result ⊎ (result ≡ LIMIT_REACHED) ⊎ (result ≡ DEVICE_FAULT) }
-    ensures done { IsWhole result → AsksFor (L.file_at levels.old) (said_of said.now) (λ said.
-        Reports (F.names_at folders.now) said (W.contents out.old) result
+    ensures done { IsWhole result
+        → AsksFor (L.file_at levels.old) (arguments_of arguments.now) (λ arguments.
+        Reports (F.names_at folders.now) arguments (W.contents out.old) result
         (W.contents out.new)) }
-    ensures part { (out.new ≡ out.old) ⊎ AsksFor (L.file_at levels.old) (said_of said.now) (λ said.
-        ReportsPart (F.names_at folders.now) said (W.contents out.old) (W.contents out.new)) }
+    ensures part { (out.new ≡ out.old)
+        ⊎ AsksFor (L.file_at levels.old) (arguments_of arguments.now) (λ arguments.
+        ReportsPart (F.names_at folders.now) arguments (W.contents out.old) (W.contents out.new)) }
     ensures ran { ((result ≡ DEVICE_FAULT) × (out.new ≡ out.old)
         × (H.told host.new ≡ H.told host.old))
-        ⊎ RunsAsked (L.file_at levels.old) (F.names_at folders.now) (said_of said.now)
+        ⊎ RunsAsked (L.file_at levels.old) (F.names_at folders.now) (arguments_of arguments.now)
         (H.told host.old) (H.told host.new) (W.contents out.old) (E.reports err.old) result
         (W.contents out.new) (E.reports err.new) }
     ensures kept { IsWhole result
-        → Keeps (said_of said.now) (L.file_at levels.old) (L.file_at levels.new) }
+        → Keeps (arguments_of arguments.now) (L.file_at levels.old) (L.file_at levels.new) }
     ensures unkept { (IsWhole result → ⊥) → AreSame (L.file_at levels.old) (L.file_at levels.new) }
     ensures spoken { result ≡ DEVICE_FAULT → HasSpoken (E.reports err.new) }
 {
-    let before = match level_before(levels, alloc, said, err) {
+    let before = match level_before(levels, alloc, arguments, err) {
         Ok(before) => before,
         Err(status) => return status,
     };
     let change = LevelChange {
         before,
-        new: said.new,
+        new: arguments.new,
     };
-    let options = entering(said.sysv, change, said.options);
-    let dir = said.dir.as_str();
-    let Ok(path) = folder_of(alloc, dir, said.new) else {
+    let options = entering(arguments.sysv, change, arguments.options);
+    let dir = arguments.dir.as_str();
+    let Ok(path) = folder_of(alloc, dir, arguments.new) else {
         return report_no_memory("rc", err);
     };
     let previous = match previous_names(folders, alloc, dir, before) {
@@ -185,7 +187,7 @@ fn run_asked<H: Host, F: Folders, L: LevelFiles, W: Write, E: Reporter>(
         out,
         err,
     );
-    keep_level(levels, alloc, said, status, err)
+    keep_level(levels, alloc, arguments, status, err)
 }
 
 /// The level before: that of the words, or that of the file that they name; the exit status where that has none, which
@@ -193,16 +195,17 @@ fn run_asked<H: Host, F: Folders, L: LevelFiles, W: Write, E: Reporter>(
 fn level_before<L: LevelFiles, E: Reporter>(
     levels: &L,
     alloc: Global,
-    said: &Words,
+    arguments: &Words,
     err: &mut E,
 ) -> Result<Option<Level>, u8>
-    ensures ok { IfOk result (λ before. IsBefore (L.file_at levels.now) (said_of said.now) before) }
+    ensures ok { IfOk result
+        (λ before. IsBefore (L.file_at levels.now) (arguments_of arguments.now) before) }
     ensures silent { OnOk result (err.new ≡ err.old) }
     ensures status { IfErr result (λ status. status ≡ DEVICE_FAULT) }
     ensures spoken { OnErr result (HasSpoken (E.reports err.new)) }
 {
-    let Some(path) = &said.level_file else {
-        return Ok(said.previous);
+    let Some(path) = &arguments.level_file else {
+        return Ok(arguments.previous);
     };
     match levels.read(alloc, path.as_str()) {
         Ok(None) => Ok(None),
@@ -238,25 +241,25 @@ fn report_no_level<E: Reporter>(path: &str, err: &mut E) -> u8
 fn keep_level<L: LevelFiles, E: Reporter>(
     levels: &mut L,
     alloc: Global,
-    said: &Words,
+    arguments: &Words,
     status: u8,
     err: &mut E,
 ) -> u8
-    ensures status { IsStatusOf (said_of said.now).file status (E.reports err.old) result
+    ensures status { IsStatusOf (arguments_of arguments.now).file status (E.reports err.old) result
         (E.reports err.new) }
     ensures kept { IsWhole result
-        → Keeps (said_of said.now) (L.file_at levels.old) (L.file_at levels.new) }
+        → Keeps (arguments_of arguments.now) (L.file_at levels.old) (L.file_at levels.new) }
     ensures unkept { (IsWhole result → ⊥) → AreSame (L.file_at levels.old) (L.file_at levels.new) }
     ensures spoken { (status ≡ DEVICE_FAULT → HasSpoken (E.reports err.old))
         → result ≡ DEVICE_FAULT → HasSpoken (E.reports err.new) }
 {
-    if said.options.dry || !is_whole(status) {
+    if arguments.options.dry || !is_whole(status) {
         return status;
     }
-    let Some(path) = &said.level_file else {
+    let Some(path) = &arguments.level_file else {
         return status;
     };
-    match levels.put(alloc, path.as_str(), &[said.new.code(), b'\n']) {
+    match levels.put(alloc, path.as_str(), &[arguments.new.code(), b'\n']) {
         Ok(()) => status,
         Err(error) => {
             let rest = ": all scripts were carried out, and it has not the new level";
@@ -364,9 +367,9 @@ fn print_all<'n, W: Write, E: Reporter>(
     requires { rc.old.waits ≡ false }
     ensures statuses { (result ≡ DONE) ⊎ (result ≡ DEVICE_FAULT) }
     ensures done { result ≡ DONE → Appends (W.contents out.old) (W.contents out.new)
-        (command_lines way path.now rc.old.left) }
+        (command_lines way path.now rc.old.remaining) }
     ensures part { AppendsPrefix (W.contents out.old) (W.contents out.new)
-        (command_lines way path.now rc.old.left) }
+        (command_lines way path.now rc.old.remaining) }
     ensures silent { result ≡ DONE → err.new ≡ err.old }
     ensures spoken { result ≡ DEVICE_FAULT → HasSpoken (E.reports err.new) }
 {

@@ -126,27 +126,29 @@ count_both later earlier =
 
 -- a run that goes on
 pub gone_on : (old mid new : Option (List HostCall)) (limit : Option ℕ) (command : List ℕ) (known before now : Progress)
-    (time then : Timer) (taken pauses still left : ℕ) → known ≡ before
-    → still ≡ taken + left → Since old mid (GoneTo limit command known time pauses still)
-    → Since mid new (Goes limit before time now then taken) → Since old new (GoneTo limit command now then pauses left)
-gone_on old mid new limit command known before now time then taken pauses still left same fewer gone goes =
+    (time then : Timer) (taken pauses still remaining : ℕ) → known ≡ before
+    → still ≡ taken + remaining → Since old mid (GoneTo limit command known time pauses still)
+    → Since mid new (Goes limit before time now then taken)
+    → Since old new (GoneTo limit command now then pauses remaining)
+gone_on old mid new limit command known before now time then taken pauses still remaining same fewer gone goes =
     Since-then old mid new (GoneTo limit command known time pauses still) (Goes limit before time now then taken)
-    (GoneTo limit command now then pauses left) gone goes
+    (GoneTo limit command now then pauses remaining) gone goes
     (λ earlier later was is. (
       is.1 command earlier (subst (λ p. RunsTo limit command p time earlier) same was.0),
       counted earlier later was.1 is.0,
     ))
   where
     counted : (earlier later : List HostCall) → pauses ≡ count_pauses earlier + still → count_pauses later ≡ taken
-        → pauses ≡ count_pauses (later ++ earlier) + left
+        → pauses ≡ count_pauses (later ++ earlier) + remaining
     counted earlier later was is = rw (count_both later earlier, is) (omega (arith, was, fewer))
 
 -- the same, where its time stays as it stands
 pub gone_further : (old mid new : Option (List HostCall)) (limit : Option ℕ) (command : List ℕ)
-    (known before now : Progress) (time : Timer) (taken pauses still left : ℕ) → known ≡ before
-    → still ≡ taken + left → Since old mid (GoneTo limit command known time pauses still)
-    → Since mid new (GoesFurther limit before now taken) → Since old new (GoneTo limit command now time pauses left)
-gone_further old mid new limit command known before now time taken pauses still left same fewer gone goes =
-    gone_on old mid new limit command known before now time time taken pauses still left same fewer gone
+    (known before now : Progress) (time : Timer) (taken pauses still remaining : ℕ) → known ≡ before
+    → still ≡ taken + remaining → Since old mid (GoneTo limit command known time pauses still)
+    → Since mid new (GoesFurther limit before now taken)
+    → Since old new (GoneTo limit command now time pauses remaining)
+gone_further old mid new limit command known before now time taken pauses still remaining same fewer gone goes =
+    gone_on old mid new limit command known before now time time taken pauses still remaining same fewer gone
     (Since-map mid new (GoesFurther limit before now taken) (Goes limit before time now time taken) goes
     (λ calls is. is time))

@@ -18,13 +18,13 @@ waiting_is_not_done = λ is. cc
 
 -- no script is left
 pub prints_done : (way : ScriptOptions) (dir : List ℕ) (rc new : RcState) (bytes : Option (List ℕ))
-    → (rc.waits ≡ false) × (rc.left ≡ []) × (new ≡ rc) → PrintsLinks way dir rc bytes run_end.Done new bytes
+    → (rc.waits ≡ false) × (rc.remaining ≡ []) × (new ≡ rc) → PrintsLinks way dir rc bytes run_end.Done new bytes
 prints_done way dir rc new bytes (ready, none, same) =
     subst (λ r. PrintsLinks way dir rc bytes run_end.Done r bytes) (sym same) (record {
-      part = AppendsPrefix-none bytes (command_lines way dir rc.left);
+      part = AppendsPrefix-none bytes (command_lines way dir rc.remaining);
       whole =
           λ is. (
-            subst (λ left. Appends bytes bytes (command_lines way dir left)) (sym none) (Appends-nil bytes),
+            subst (λ remaining. Appends bytes bytes (command_lines way dir remaining)) (sym none) (Appends-nil bytes),
             none,
             ready,
           );
@@ -36,7 +36,7 @@ prints_done way dir rc new bytes (ready, none, same) =
 pub prints_waiting : (way : ScriptOptions) (dir : List ℕ) (rc new : RcState) (bytes : Option (List ℕ))
     → (rc.waits ≡ true) × (new ≡ rc) → PrintsLinks way dir rc bytes run_end.Waiting new bytes
 prints_waiting way dir rc new bytes (waiting, same) = record {
-  part = AppendsPrefix-none bytes (command_lines way dir rc.left);
+  part = AppendsPrefix-none bytes (command_lines way dir rc.remaining);
   whole = λ is. absurd (waiting_is_not_done is);
   waits = λ is. (refl, same, refl);
   ends = λ ready. absurd (true≢false (sym waiting ∙ ready));
@@ -45,12 +45,12 @@ prints_waiting way dir rc new bytes (waiting, same) = record {
 -- a print that ends at its first script
 stops_by : (way : ScriptOptions) (dir : List ℕ) (old new : RcState) (before after : Option (List ℕ)) (ended : RunEnd)
     (s : LinkRun) → old.waits ≡ false
-    → old.left ≡ s ∷ new.left → AppendsPrefix before after (command_line way dir s) → ended ≢ run_end.Done
+    → old.remaining ≡ s ∷ new.remaining → AppendsPrefix before after (command_line way dir s) → ended ≢ run_end.Done
     → (ended ≡ run_end.Done) ⊎ (ended ≡ run_end.Write) ⊎ (ended ≡ run_end.Memory)
     → PrintsLinks way dir old before ended new after
 stops_by way dir old new before after ended s ready head part other ends = record {
-  part = subst (λ left. AppendsPrefix before after (command_lines way dir left)) (sym head)
-      (AppendsPrefix-first before after (command_line way dir s) (command_lines way dir new.left) part);
+  part = subst (λ remaining. AppendsPrefix before after (command_lines way dir remaining)) (sym head)
+      (AppendsPrefix-first before after (command_line way dir s) (command_lines way dir new.remaining) part);
   whole = λ is. absurd (other is);
   waits = λ is. absurd (true≢false (sym is ∙ ready));
   ends = λ is. ends;
@@ -58,7 +58,8 @@ stops_by way dir old new before after ended s ready head part other ends = recor
 
 pub prints_stops : (way : ScriptOptions) (dir : List ℕ) (old new : RcState) (before after : Option (List ℕ))
     (ended : RunEnd) (s : LinkRun) → old.waits ≡ false
-    → old.left ≡ s ∷ new.left → PrintStops ended way dir s before after → PrintsLinks way dir old before ended new after
+    → old.remaining ≡ s ∷ new.remaining → PrintStops ended way dir s before after
+    → PrintsLinks way dir old before ended new after
 prints_stops way dir old new before after run_end.Write s ready head part =
     stops_by way dir old new before after run_end.Write s ready head part write_is_not_done (inr (inl refl))
 prints_stops way dir old new before after run_end.Memory s ready head same =
@@ -93,8 +94,8 @@ line_stopped (Err ended) way dir s text before after same (is, part) =
 -- a script that was printed
 pub printed_by : (way : ScriptOptions) (dir : List ℕ) (old mid new : RcState) (before after : Option (List ℕ))
     (s : LinkRun) → old.waits ≡ false
-    → old.left ≡ s ∷ mid.left → new ≡ record mid { waits = false } → Appends before after (command_line way dir s)
-    → Printed way dir old before new after
+    → old.remaining ≡ s ∷ mid.remaining → new ≡ record mid { waits = false }
+    → Appends before after (command_line way dir s) → Printed way dir old before new after
 printed_by way dir old mid new before after s ready head is line =
     subst (λ (r : RcState). Printed way dir old before r after) (sym is) (s, ready, head, refl, line)
 
@@ -104,12 +105,12 @@ pub prints_more : (way : ScriptOptions) (dir : List ℕ) (old mid new : RcState)
     → Printed way dir old before mid between → PrintsLinks way dir mid between ended new after
     → PrintsLinks way dir old before ended new after
 prints_more way dir old mid new before between after ended (s, ready, head, answered, line) went = record {
-  part = subst (λ left. AppendsPrefix before after (command_lines way dir left)) (sym head)
+  part = subst (λ remaining. AppendsPrefix before after (command_lines way dir remaining)) (sym head)
       (AppendsPrefix-then before between after (command_line way dir s)
-      (command_lines way dir mid.left) line went.part);
+      (command_lines way dir mid.remaining) line went.part);
   whole = λ is. let rest = went.whole is in (
-    subst (λ left. Appends before after (command_lines way dir left)) (sym head)
-        (Appends-trans before between after (command_line way dir s) (command_lines way dir mid.left) line rest.0),
+    subst (λ remaining. Appends before after (command_lines way dir remaining)) (sym head)
+        (Appends-trans before between after (command_line way dir s) (command_lines way dir mid.remaining) line rest.0),
     rest.1,
     rest.2,
   );

@@ -78,19 +78,19 @@ stops_early way dir pauses s before run_end.Waiting after calls at = absurd at
 
 -- what scripts have written that were run from here
 record Wrote (way : ScriptOptions) (failed : Bool) (scripts : List LinkRun) (before : Option (List ℕ)) (ended : RunEnd)
-    (left : List LinkRun)
+    (remaining : List LinkRun)
     (after : Option (List ℕ)) : Type 0 where
   answers : List RcAnswer
   part : AppendsPrefix before after (report way scripts answers)
   whole : is_over ended ≡ true →
       (ended ≡ done_end (failed || list_any is_failure answers)) × (length answers ≡ length scripts)
-      × Appends before after (report way scripts answers) × (left ≡ [])
+      × Appends before after (report way scripts answers) × (remaining ≡ [])
 
 wrote : (way : ScriptOptions) (dir : List ℕ) (pauses : ℕ) (failed : Bool) (scripts : List LinkRun) (before : Output)
-    (ended : RunEnd) (left : List LinkRun) (after : Output) (calls : List HostCall)
-    → RunsFrom way dir pauses failed scripts before ended left after calls
-    → Wrote way failed scripts before.lines ended left after.lines
-wrote way dir pauses failed [] before ended left after calls (is, none, same, no_calls) = record {
+    (ended : RunEnd) (remaining : List LinkRun) (after : Output) (calls : List HostCall)
+    → RunsFrom way dir pauses failed scripts before ended remaining after calls
+    → Wrote way failed scripts before.lines ended remaining after.lines
+wrote way dir pauses failed [] before ended remaining after calls (is, none, same, no_calls) = record {
   answers = [];
   part = subst (λ (b : Output). AppendsPrefix before.lines b.lines []) (sym same) (AppendsPrefix-none before.lines []);
   whole = λ over. (
@@ -100,7 +100,7 @@ wrote way dir pauses failed [] before ended left after calls (is, none, same, no
     none,
   );
 }
-wrote way dir pauses failed (s ∷ scripts) before ended left after calls (inl (at, behind)) =
+wrote way dir pauses failed (s ∷ scripts) before ended remaining after calls (inl (at, behind)) =
     let stop = stops_part way dir pauses s before ended after calls at in
     let early = stops_early way dir pauses s before ended after calls at in
     record {
@@ -108,10 +108,10 @@ wrote way dir pauses failed (s ∷ scripts) before ended left after calls (inl (
       part = AppendsPrefix-first before.lines after.lines (lines_of way s stop.0) (report way scripts []) stop.1;
       whole = λ over. absurd (true≢false (sym over ∙ early));
     }
-wrote way dir pauses failed (s ∷ scripts) before ended left after calls
+wrote way dir pauses failed (s ∷ scripts) before ended remaining after calls
     (inr (given, first, later, between, is, ran, line, rest)) =
     let behind = wrote way dir (pauses - count_pauses first)
-    (failed || is_failure given) scripts between ended left after later rest in
+    (failed || is_failure given) scripts between ended remaining after later rest in
     record {
       answers = given ∷ behind.answers;
       part = AppendsPrefix-then before.lines between.lines after.lines (lines_of way s given)
@@ -135,13 +135,13 @@ writes_ends old new way dir pauses rc now before after ended (calls, told, runs)
     by : (waits : Bool) → rc.waits ≡ waits → WritesEnds way rc before.lines ended now after.lines
     by true is = let same = runs.waits is in record {
       answers = [];
-      part = subst (λ (b : Output). AppendsPrefix before.lines b.lines (report way rc.left [])) (sym same.2)
-          (AppendsPrefix-none before.lines (report way rc.left []));
+      part = subst (λ (b : Output). AppendsPrefix before.lines b.lines (report way rc.remaining [])) (sym same.2)
+          (AppendsPrefix-none before.lines (report way rc.remaining []));
       whole = λ over. absurd (true≢false (sym over ∙ ap is_over same.0));
       waits = λ early. subst (λ (r : RcState). r.waits ≡ true) (sym same.1) is;
     }
     by false is =
-        let went = wrote way dir pauses false rc.left before ended now.left after calls (runs.runs is) in
+        let went = wrote way dir pauses false rc.remaining before ended now.remaining after calls (runs.runs is) in
         record {
           answers = went.answers;
           part = went.part;

@@ -125,7 +125,7 @@ started_ends (Err ended) old new way dir command pauses s before mid after told 
 -- a run that ends at its first script
 pub runs_ends : (old new : Option (List HostCall)) (way : ScriptOptions) (dir : List ℕ) (pauses : ℕ) (failed : Bool)
     (rc now : RcState) (before after : Output) (ended : RunEnd) (s : LinkRun)
-    → rc.waits ≡ false → rc.left ≡ s ∷ now.left → now.waits ≡ true
+    → rc.waits ≡ false → rc.remaining ≡ s ∷ now.remaining → now.waits ≡ true
     → Since old new (ScriptsEndAt way dir pauses s before ended after)
     → Since old new (RunsLinks way dir pauses failed rc before ended now after)
 runs_ends old new way dir pauses failed rc now before after ended s ready head waiting ends =
@@ -133,7 +133,8 @@ runs_ends old new way dir pauses failed rc now before after ended s ready head w
     (RunsLinks way dir pauses failed rc before ended now after) ends
     (λ calls at. record {
       waits = λ is. absurd (true≢false (sym is ∙ ready));
-      runs = λ _. subst (λ left. RunsFrom way dir pauses failed left before ended now.left after calls) (sym head)
+      runs = λ _. subst (λ remaining. RunsFrom way dir pauses failed remaining before ended now.remaining after calls)
+          (sym head)
           (inl (at, refl));
       answered = λ _. waiting ∙ sym (ap not (stops_early way dir pauses s before ended after calls at));
     })
@@ -145,13 +146,15 @@ done_over false = refl
 -- a run of no script more
 pub runs_done : (told : Option (List HostCall)) (way : ScriptOptions) (dir : List ℕ) (pauses : ℕ) (failed : Bool)
     (rc now : RcState) (bytes : Output) (ended : RunEnd)
-    → (rc.waits ≡ false) × (rc.left ≡ []) × (now ≡ rc) → ended ≡ done_end failed
+    → (rc.waits ≡ false) × (rc.remaining ≡ []) × (now ≡ rc) → ended ≡ done_end failed
     → Since told told (RunsLinks way dir pauses failed rc bytes ended now bytes)
 runs_done told way dir pauses failed rc now bytes ended (ready, none, same) is =
     Since-none told (RunsLinks way dir pauses failed rc bytes ended now bytes) (record {
       waits = λ waiting. absurd (true≢false (sym waiting ∙ ready));
-      runs = λ _. subst (λ left. RunsFrom way dir pauses failed left bytes ended now.left bytes []) (sym none)
-          (is, subst (λ (r : RcState). r.left ≡ []) (sym same) none, refl, refl);
+      runs =
+          λ _. subst (λ remaining. RunsFrom way dir pauses failed remaining bytes ended now.remaining bytes [])
+          (sym none)
+          (is, subst (λ (r : RcState). r.remaining ≡ []) (sym same) none, refl, refl);
       answered =
           λ _. subst (λ (r : RcState). r.waits ≡ false) (sym same) ready
           ∙ sym (ap not (ap is_over is ∙ done_over failed));
@@ -172,7 +175,7 @@ runs_waiting told way dir pauses failed rc now bytes (waiting, same) =
 -- a script that was handed out, ran and was answered
 pub advanced : (old new : Option (List HostCall)) (way : ScriptOptions) (dir : List ℕ) (pauses still : ℕ)
     (failed fails : Bool) (rc mid now : RcState) (before after : Output) (s : LinkRun) (given : RcAnswer)
-    → rc.waits ≡ false → rc.left ≡ s ∷ mid.left → now ≡ record mid { waits = false }
+    → rc.waits ≡ false → rc.remaining ≡ s ∷ mid.remaining → now ≡ record mid { waits = false }
     → fails ≡ (failed || is_failure given)
     → Since old new (HasRun way dir s.0 (command_text way dir s) given pauses still before.told after.told)
     → Appends before.lines after.lines (lines_of way s given)
@@ -200,7 +203,8 @@ runs_more old mid new way dir pauses still failed fails rc now last before betwe
         → RunsLinks way dir pauses failed rc before ended last after (later ++ earlier)
     together earlier later (s, given, ready, head, answered, failing, (time, (ran, count), lines), line) runs = record {
       waits = λ is. absurd (true≢false (sym is ∙ ready));
-      runs = λ _. subst (λ left. RunsFrom way dir pauses failed left before ended last.left after (later ++ earlier))
+      runs = λ _. subst
+          (λ remaining. RunsFrom way dir pauses failed remaining before ended last.remaining after (later ++ earlier))
           (sym head)
           (inr (
             given,
@@ -210,9 +214,11 @@ runs_more old mid new way dir pauses still failed fails rc now last before betwe
             refl,
             (time, ran, omega (arith, count), lines),
             line,
-            subst (λ f. RunsFrom way dir (pauses - count_pauses earlier) f now.left between ended last.left after later)
+            subst (λ f. RunsFrom way dir
+                (pauses - count_pauses earlier) f now.remaining between ended last.remaining after later)
                 failing
-                (subst (λ n. RunsFrom way dir n fails now.left between ended last.left after later) (left_of count)
+                (subst (λ n. RunsFrom way dir n fails now.remaining between ended last.remaining after later)
+                (left_of count)
                 (runs.runs answered)),
           ));
       answered = λ _. runs.answered answered;

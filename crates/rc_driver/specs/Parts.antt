@@ -73,6 +73,7 @@ EndsCommand way dir command pauses s before _ after calls = ⊥
 abbrev pub Advanced : ScriptOptions → List ℕ → ℕ → ℕ → Bool → Bool → RcState → Output → RcState → Output → List HostCall
     → Type 0
 Advanced way dir pauses still failed fails old before new after calls = (s : LinkRun) × (given : RcAnswer)
-    × (old.waits ≡ false) × (old.left ≡ s ∷ new.left) × (new.waits ≡ false) × (fails ≡ (failed || is_failure given))
+    × (old.waits ≡ false) × (old.remaining ≡ s ∷ new.remaining) × (new.waits ≡ false)
+    × (fails ≡ (failed || is_failure given))
     × HasRun way dir s.0 (command_text way dir s) given pauses still before.told after.told calls
     × Appends before.lines after.lines (lines_of way s given)

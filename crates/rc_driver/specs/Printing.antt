@@ -24,15 +24,15 @@ PrintStops _ way dir s before after = ⊥
 
 -- the next script that was left was printed
 abbrev pub Printed : ScriptOptions → List ℕ → RcState → Option (List ℕ) → RcState → Option (List ℕ) → Type 0
-Printed way dir old before new after = (s : LinkRun) × (old.waits ≡ false) × (old.left ≡ s ∷ new.left)
+Printed way dir old before new after = (s : LinkRun) × (old.waits ≡ false) × (old.remaining ≡ s ∷ new.remaining)
     × (new.waits ≡ false) × Appends before after (command_line way dir s)
 
 -- The lines of the scripts that are left were written: of all of them, where it is done, else a prefix of them. It ends
 -- otherwise at a fault alone, and where the answer to a script that was handed out before is missing, with no line
 pub record PrintsLinks (way : ScriptOptions) (dir : List ℕ) (old : RcState) (before : Option (List ℕ)) (ended : RunEnd)
     (new : RcState) (after : Option (List ℕ)) : Type 0 where
-  pub part : AppendsPrefix before after (command_lines way dir old.left)
+  pub part : AppendsPrefix before after (command_lines way dir old.remaining)
   pub whole : ended ≡ run_end.Done →
-      Appends before after (command_lines way dir old.left) × (new.left ≡ []) × (new.waits ≡ false)
+      Appends before after (command_lines way dir old.remaining) × (new.remaining ≡ []) × (new.waits ≡ false)
   pub waits : old.waits ≡ true → (ended ≡ run_end.Waiting) × (new ≡ old) × (after ≡ before)
   pub ends : old.waits ≡ false → (ended ≡ run_end.Done) ⊎ (ended ≡ run_end.Write) ⊎ (ended ≡ run_end.Memory)

@@ -112,8 +112,8 @@ is_over _ = false
 pub record WritesEnds (way : ScriptOptions) (old : RcState) (before : Option (List ℕ)) (ended : RunEnd) (new : RcState)
     (after : Option (List ℕ)) : Type 0 where
   pub answers : List RcAnswer
-  pub part : AppendsPrefix before after (report way old.left answers)
+  pub part : AppendsPrefix before after (report way old.remaining answers)
   pub whole : is_over ended ≡ true →
-      (ended ≡ done_end (list_any is_failure answers)) × (length answers ≡ length old.left)
-      × Appends before after (report way old.left answers) × (new.left ≡ []) × (new.waits ≡ false)
+      (ended ≡ done_end (list_any is_failure answers)) × (length answers ≡ length old.remaining)
+      × Appends before after (report way old.remaining answers) × (new.remaining ≡ []) × (new.waits ≡ false)
   pub waits : is_over ended ≡ false → new.waits ≡ true

@@ -64,17 +64,17 @@ ScriptsGoOn way dir pauses s before calls Rest = (given : RcAnswer) × (first la
 -- none: each to its end, and then the next, until none was left or the run ended at one. Those behind it are left.
 abbrev pub RunsFrom : ScriptOptions → List ℕ → ℕ → Bool → List LinkRun → Output → RunEnd → List LinkRun → Output
     → List HostCall → Type 0
-RunsFrom way dir pauses failed [] before ended left after calls =
-    (ended ≡ done_end failed) × (left ≡ []) × (after ≡ before) × (calls ≡ [])
-RunsFrom way dir pauses failed (s ∷ scripts) before ended left after calls =
-    (ScriptsEndAt way dir pauses s before ended after calls × (left ≡ scripts))
+RunsFrom way dir pauses failed [] before ended remaining after calls =
+    (ended ≡ done_end failed) × (remaining ≡ []) × (after ≡ before) × (calls ≡ [])
+RunsFrom way dir pauses failed (s ∷ scripts) before ended remaining after calls =
+    (ScriptsEndAt way dir pauses s before ended after calls × (remaining ≡ scripts))
     ⊎ ScriptsGoOn way dir pauses s before calls
-    (λ still fails between later. RunsFrom way dir still (failed || fails) scripts between ended left after later)
+    (λ still fails between later. RunsFrom way dir still (failed || fails) scripts between ended remaining after later)
 
 -- a run of the scripts that are left, where one has failed already or none. Where the answer to one that was handed out
 -- before is missing, none is run
 pub record RunsLinks (way : ScriptOptions) (dir : List ℕ) (pauses : ℕ) (failed : Bool) (old : RcState) (before : Output)
     (ended : RunEnd) (new : RcState) (after : Output) (calls : List HostCall) : Type 0 where
   pub waits : old.waits ≡ true → (ended ≡ run_end.Waiting) × (new ≡ old) × (after ≡ before) × (calls ≡ [])
-  pub runs : old.waits ≡ false → RunsFrom way dir pauses failed old.left before ended new.left after calls
+  pub runs : old.waits ≡ false → RunsFrom way dir pauses failed old.remaining before ended new.remaining after calls
   pub answered : old.waits ≡ false → new.waits ≡ not (is_over ended)

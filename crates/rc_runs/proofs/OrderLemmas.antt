@@ -4,8 +4,8 @@ use Rattle.rc_runs.proofs.Words.{bytes_eq}
 
 by_same : {V : Type 0} (key : V → List ℕ) (same : Bool) (first : V) (xs ys : List V) (us ws : List (List ℕ))
     → map key xs ≡ us → map key ys ≡ ws → map key (cond same xs (first ∷ ys)) ≡ cond same us (key first ∷ ws)
-by_same key true first xs ys us ws left right = left
-by_same key false first xs ys us ws left right = ap (λ rest. key first ∷ rest) right
+by_same key true first xs ys us ws remaining right = remaining
+by_same key false first xs ys us ws remaining right = ap (λ rest. key first ∷ rest) right
 
 map-dedup_from : {V : Type 0} (key : V → List ℕ) (first : V) (vs : List V)
     → map key (dedup_from (λ v w. bytes_eq (key v) (key w)) first vs) ≡ dedup_from bytes_eq (key first) (map key vs)

@@ -34,5 +34,5 @@ is_failure _ = true
 
 -- the scripts that are not handed out yet, and whether the answer to the last one that was is missing
 pub record RcState : Type 0 where
-  pub left : List LinkRun
+  pub remaining : List LinkRun
   pub waits : Bool

@@ -8,6 +8,6 @@ use Rattle.rc_runs.specs.Runs.{RcState}
 -- last none is left
 abbrev pub Steps : RcState → RcStep → RcState → Type 0
 Steps old (step.Run link given) new =
-    (old.waits ≡ false) × (old.left ≡ (link.now, given) ∷ new.left) × (new.waits ≡ true)
+    (old.waits ≡ false) × (old.remaining ≡ (link.now, given) ∷ new.remaining) × (new.waits ≡ true)
 Steps old step.Waiting new = (old.waits ≡ true) × (new ≡ old)
-Steps old step.Done new = (old.waits ≡ false) × (old.left ≡ []) × (new ≡ old)
+Steps old step.Done new = (old.waits ≡ false) × (old.remaining ≡ []) × (new ≡ old)

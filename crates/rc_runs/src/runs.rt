@@ -74,7 +74,7 @@ pub struct NotAsked;
 #[derive(Drop)]
 pub struct Rc<'n, A: Allocator = Global> {
     /// Those that are not handed out yet.
-    left: VecDeque<(&'n str, Arg), A>,
+    remaining: VecDeque<(&'n str, Arg), A>,
     /// The answer to the last one that was handed out is missing.
     waits: bool,
 }
@@ -84,7 +84,7 @@ impl<'n, A: Allocator> Model for Rc<'n, A> {
 
     ghost Value = { RcState };
 
-    ghost view = { λ rc. record { left = scripts_of rc.left.items; waits = rc.waits } };
+    ghost view = { λ rc. record { remaining = scripts_of rc.remaining.items; waits = rc.waits } };
 }
 
 /// Adds the links, each with the argument.
@@ -111,23 +111,30 @@ impl<'n, A: Allocator + Copy> Rc<'n, A> {
     #[tactic(auto, using(crate::proofs::PlannedLemmas::plans_run))]
     pub fn new(alloc: A, previous: &[String], new: &'n [String]) -> Result<Rc<'n, A>, Memory>
         ensures run { IfOk result (λ rc. rc ≡ record {
-          left = rc_run (map string_bytes previous.now) (map string_bytes new.now);
+          remaining = rc_run (map string_bytes previous.now) (map string_bytes new.now);
           waits = false;
         }) }
         // What rclinks makes and prints is what is run: where a folder holds just the links of a plan, in any order, and
         // its scripts have names that links may have, each that stops, and then each that starts, but not those that
         // run already.
         ensures planned { IfOk result (λ rc.
-            RunsPlans (map string_bytes previous.now) (map string_bytes new.now) rc.left) }
+            RunsPlans (map string_bytes previous.now) (map string_bytes new.now) rc.remaining) }
     {
-        let mut left = VecDeque::new(alloc);
-        add_scripts(&mut left, stop_links(alloc, new)?.as_slice(), Arg::Stop)?;
+        let mut remaining = VecDeque::new(alloc);
         add_scripts(
-            &mut left,
+            &mut remaining,
+            stop_links(alloc, new)?.as_slice(),
+            Arg::Stop,
+        )?;
+        add_scripts(
+            &mut remaining,
             start_links(alloc, previous, new)?.as_slice(),
             Arg::Start,
         )?;
-        Ok(Rc { left, waits: false })
+        Ok(Rc {
+            remaining,
+            waits: false,
+        })
     }
 
     /// The same as sysv-rc has it. With no level before no K link is run. A K link is left out where the level before
@@ -140,14 +147,17 @@ impl<'n, A: Allocator + Copy> Rc<'n, A> {
         new: &'n [String],
     ) -> Result<Rc<'n, A>, Memory>
         ensures { IfOk result (λ rc. rc ≡ record {
-          left = sysv_run change (map string_bytes previous.now) (map string_bytes new.now);
+          remaining = sysv_run change (map string_bytes previous.now) (map string_bytes new.now);
           waits = false;
         }) }
     {
-        let mut left = VecDeque::new(alloc);
-        add_sysv_stops(alloc, &mut left, change.before, previous, new)?;
-        add_sysv_starts(alloc, &mut left, is_halt(change.new), previous, new)?;
-        Ok(Rc { left, waits: false })
+        let mut remaining = VecDeque::new(alloc);
+        add_sysv_stops(alloc, &mut remaining, change.before, previous, new)?;
+        add_sysv_starts(alloc, &mut remaining, is_halt(change.new), previous, new)?;
+        Ok(Rc {
+            remaining,
+            waits: false,
+        })
     }
 }
 
@@ -196,7 +206,7 @@ impl<'n, A: Allocator> Rc<'n, A> {
         if self.waits {
             return RcStep::Waiting;
         }
-        match self.left.pop_front() {
+        match self.remaining.pop_front() {
             Some((link, arg)) => {
                 self.waits = true;
                 RcStep::Run(link, arg)

@@ -19,9 +19,9 @@ last_part-whole [] none = refl
 last_part-whole (b ∷ path) none = rw none refl
 
 -- the last part stands behind a slash that has none behind it
-last_part-behind : (front path : List ℕ) → list_any is_slash path ≡ false → last_part (front ++ 47 ∷ path) ≡ path
-last_part-behind [] path none = last_part-whole path none
-last_part-behind (b ∷ front) path none = rw (or_right (is_slash b) _ (slash front)) (last_part-behind front path none)
+last_part-after : (front path : List ℕ) → list_any is_slash path ≡ false → last_part (front ++ 47 ∷ path) ≡ path
+last_part-after [] path none = last_part-whole path none
+last_part-after (b ∷ front) path none = rw (or_right (is_slash b) _ (slash front)) (last_part-after front path none)
   where
     slash : (front : List ℕ) → list_any is_slash (front ++ 47 ∷ path) ≡ true
     slash [] = refl
@@ -35,5 +35,5 @@ pub last_part-some : (path : List ℕ) (i j : ℕ) → RFindsChar 47 path (Some 
 last_part-some path i j (none, at) =
     sym (ap last_part
     (sym (take-append-drop i path) ∙ ap (λ rest. take i path ++ rest) (drop_at_char 47 path i j at (omega arith)))
-    ∙ last_part-behind (take i path) (drop j path)
+    ∙ last_part-after (take i path) (drop j path)
     (no_slash (drop j path) (λ k. NoCharPasses-char 47 (drop j path) k none (omega arith))))

@@ -7,6 +7,6 @@ pub mod Folders
 pub mod Reading
 pub mod Refusals
 pub mod Reports
-pub mod Said
+pub mod LineOptions
 pub mod Skipping
 pub mod Writing

@@ -11,7 +11,7 @@ ghost use Rattle.rclinks_command.specs.Command.{HasNoPlan, IsRefusedBy, IsRefuse
 ghost use Rattle.rclinks_command.specs.Folders.{Becomes, changed_by};
 ghost use Rattle.rclinks_command.specs.Refusals.{refusal_status};
 ghost use Rattle.rclinks_command.specs.Reports.{ReportsRefused, TellsPlan};
-ghost use Rattle.rclinks_command.specs.Said.{line_said};
+ghost use Rattle.rclinks_command.specs.LineOptions.{line_options};
 
 use crate::files::refusal_for;
 use crate::folders::LinkFolders;
@@ -95,7 +95,7 @@ fn plan_of<'w, T: Texts>(
     ensures refused { IfErr result (λ refusal. refusal_status refusal ≡ REFUSED
         → IsRefusedFor (T.text_at texts.now) line.now.skips line.now.last
         (map (λ file. file.now) line.now.files.now)) }
-    ensures told { keeps_going (line_said line.now) ≡ false
+    ensures told { keeps_going (line_options line.now) ≡ false
         → IfErr result (λ refusal. refusal_status refusal ≡ REFUSED
         → ReportsRefused (T.text_at texts.now) line.now.last
         (map (λ file. file.now) line.now.files.now) reading.old.report.items
@@ -131,10 +131,10 @@ fn work_of<'w, F: LinkFolders>(
     plan: Plan,
     report: &mut Vec<u8>,
 ) -> Result<Work<'w>, Refusal>
-    ensures asked { IfOk result (λ work. IsWork (line_said line.now).dir (line_said line.now)
+    ensures asked { IfOk result (λ work. IsWork (line_options line.now).dir (line_options line.now)
         (F.scripts_in folders.now) (F.held folders.now) work plan) }
     ensures taken { IfErr result (λ refusal. refusal_status refusal ≡ REFUSED
-        → TakenBy (line_said line.now).dir (line_said line.now) (F.scripts_in folders.now)
+        → TakenBy (line_options line.now).dir (line_options line.now) (F.scripts_in folders.now)
         (F.held folders.now) plan) }
 {
     let Some(dir) = line.dir else {
@@ -158,18 +158,18 @@ pub(crate) fn answer_of<'w, T: Texts, F: LinkFolders>(
     alloc: Global,
     line: &Line<'_, 'w>,
 ) -> Answer<'w>
-    ensures asked { IfOk result.work (λ work. PlanOf (T.text_at texts.now) (line_said line.now)
-        (IsWork (line_said line.now).dir (line_said line.now) (F.scripts_in folders.now)
+    ensures asked { IfOk result.work (λ work. PlanOf (T.text_at texts.now) (line_options line.now)
+        (IsWork (line_options line.now).dir (line_options line.now) (F.scripts_in folders.now)
         (F.held folders.now) work)) }
     ensures refused { IfErr result.work (λ refusal. refusal_status refusal ≡ REFUSED
-        → IsRefusedBy (T.text_at texts.now) (line_said line.now) (F.scripts_in folders.now)
+        → IsRefusedBy (T.text_at texts.now) (line_options line.now) (F.scripts_in folders.now)
         (F.held folders.now)) }
-    ensures told { keeps_going (line_said line.now) ≡ false
+    ensures told { keeps_going (line_options line.now) ≡ false
         → IfErr result.work (λ refusal. refusal_status refusal ≡ REFUSED
         → ReportsRefused (T.text_at texts.now) line.now.last
         (map (λ file. file.now) line.now.files.now) [] result.report.items
-        ⊎ PlanOf (T.text_at texts.now) (line_said line.now) (TakenBy (line_said line.now).dir
-        (line_said line.now) (F.scripts_in folders.now) (F.held folders.now))) }
+        ⊎ PlanOf (T.text_at texts.now) (line_options line.now) (TakenBy (line_options line.now).dir
+        (line_options line.now) (F.scripts_in folders.now) (F.held folders.now))) }
 {
     let mut reading = Reading {
         scripts: Vec::new(alloc),

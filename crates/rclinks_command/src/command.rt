@@ -6,7 +6,7 @@ ghost use Rattle.command_words.specs.CommandLines.{asks_version};
 ghost use Rattle.command_words.specs.Faults.{ReportsUsage};
 ghost use Rattle.command_words.specs.VersionLine.{PrintsVersion};
 ghost use Rattle.program_io.specs.Reports.{HasSpoken};
-ghost use Rattle.rclinks_command.specs.Said.{line_said};
+ghost use Rattle.rclinks_command.specs.LineOptions.{line_options};
 ghost use Rattle.rclinks_command.specs.Command.{keeps_going, Does, DoesPart, IsRefusedBy, Says, TellsRefused, asked_by, line_with, rclinks_read_of, writes_by};
 
 use crate::answer::{answer_of, write};
@@ -61,7 +61,7 @@ const OPTIONS: &[Row] = &[
 
 /// What is asked for, over these files.
 fn line_of<'f, 'w>(matches: &ArgMatches<'w>, files: &'f [&'w str]) -> Line<'f, 'w>
-    ensures { line_said result ≡ record (asked_by (rows_of (found_of matches.now)))
+    ensures { line_options result ≡ record (asked_by (rows_of (found_of matches.now)))
         { files = map (λ file. file.now) files.entry.now } }
 {
     Line {

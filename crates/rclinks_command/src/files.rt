@@ -129,9 +129,9 @@ pub fn script_in(alloc: Global, name: &str, text: &[u8]) -> Result<Script, FileF
 fn reason_lines(alloc: Global, path: &str, text: &[u8], fault: &FileFault, skips: bool) -> Vec<u8> {
     let mut more = Vec::new(alloc);
     let _ = match behind_end(text, fault) {
-        Some((number, behind)) => writeln!(
+        Some((number, after)) => writeln!(
             more,
-            "{path}: line {number}: \"{behind}\" stands behind \"### END INIT INFO\", which ends no header then"
+            "{path}: line {number}: \"{after}\" stands behind \"### END INIT INFO\", which ends no header then"
         ),
         None => writeln!(more, "{path}: {fault}"),
     };

@@ -2,7 +2,7 @@
 
 ghost use Rattle.std.specs.Prelude.{◌≡◌};
 ghost use Rattle.rclinks_command.specs.Command.{keeps_going};
-ghost use Rattle.rclinks_command.specs.Said.{line_said};
+ghost use Rattle.rclinks_command.specs.LineOptions.{line_options};
 
 /// What words ask for.
 #[derive(Clone, Copy)]
@@ -30,7 +30,7 @@ pub(crate) struct Line<'f, 'w> {
 impl<'f, 'w> Line<'f, 'w> {
     /// A fault doesn't end the run.
     pub(crate) fn keeps_going(&self) -> bool
-        ensures { result ≡ keeps_going (line_said self.now) }
+        ensures { result ≡ keeps_going (line_options self.now) }
     {
         self.skips || self.all
     }

@@ -4,7 +4,7 @@ ghost use Rattle.std.specs.Prelude.{◌≡◌, ◌&&◌, [], false, not, map, If
 ghost use Rattle.rclinks_command.specs.Command.{keeps_going};
 ghost use Rattle.rclinks_command.specs.Reading.{ReadsOne, ReadsTo, has_faults};
 ghost use Rattle.rclinks_command.specs.Reports.{TellsFiles, TellsOne};
-ghost use Rattle.rclinks_command.specs.Said.{line_said};
+ghost use Rattle.rclinks_command.specs.LineOptions.{line_options};
 
 use crate::files::{FileFault, script_of};
 use crate::line::Line;
@@ -78,10 +78,10 @@ pub(crate) fn read_files<'w, T: Texts>(
     reading: &mut Reading<'w>,
 ) -> Result<Vec<FileFault>, Memory>
     requires { reading.old.scripts.items ≡ [] }
-    ensures read { IfOk result (λ faults. ReadsTo (keeps_going (line_said line.now))
+    ensures read { IfOk result (λ faults. ReadsTo (keeps_going (line_options line.now))
         (T.text_at texts.now) (map (λ file. file.now) line.now.files.now)
         reading.new.scripts.items faults.items) }
-    ensures told { IfOk result (λ faults. keeps_going (line_said line.now) ≡ false
+    ensures told { IfOk result (λ faults. keeps_going (line_options line.now) ≡ false
         → TellsFiles (T.text_at texts.now) (map (λ file. file.now) line.now.files.now)
         faults.items reading.old.report.items reading.new.report.items) }
 {

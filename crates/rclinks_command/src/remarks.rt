@@ -36,10 +36,10 @@ pub(crate) fn behind_end<'t>(text: &'t [u8], fault: &FileFault) -> Option<(usize
     let mut rest = body;
     while let Some((line, more)) = block_line(rest) {
         number = number.saturating_add(1);
-        if let Some(behind) = line.strip_prefix(b"### END INIT INFO")
+        if let Some(after) = line.strip_prefix(b"### END INIT INFO")
             && number <= last
         {
-            return Some((number, str::from_utf8(behind).unwrap_or("?")));
+            return Some((number, str::from_utf8(after).unwrap_or("?")));
         }
         rest = more;
     }

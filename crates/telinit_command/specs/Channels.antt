@@ -3,7 +3,7 @@ use Rattle.std.specs.Prelude.{◌≡◌, ℕ, ◌%◌, if◌then◌else◌, List
 use Rattle.std.specs.Str.{bytes_eq}
 use Rattle.initctl_frame.specs.declared.frames.TheConstants.{BLOCK}
 use Rattle.initctl_frame.specs.Frames.{block_of}
-use Rattle.telinit_command.specs.CommandLine.{TelinitSaid, telinit_read_of}
+use Rattle.telinit_command.specs.CommandLine.{TelinitArguments, telinit_read_of}
 
 -- the bytes of the channel at each path, where they are known
 abbrev pub KnownBytes : Type 0
@@ -30,8 +30,8 @@ IsWholeAt path old = IfSome (old path) (λ bytes. length bytes % BLOCK ≡ 0)
 -- the request that words ask for, and the channel that they or the environment's folder name
 abbrev pub IsAsked : List ℕ → List (List ℕ) → List ℕ → List ℕ → Type 0
 IsAsked home words path block =
-    (said : TelinitSaid) × (telinit_read_of home words ≡ Some said) × (path ≡ said.path)
-    × (block_of said.request ≡ block)
+    (arguments : TelinitArguments) × (telinit_read_of home words ≡ Some arguments) × (path ≡ arguments.path)
+    × (block_of arguments.request ≡ block)
 
 -- the channel that the words name, of whole requests, has gained the one that they ask for
 abbrev pub Asks : List ℕ → List (List ℕ) → KnownBytes → KnownBytes → Type 0

@@ -55,8 +55,8 @@ abbrev pub path_in : Option Text → Text → Text → Text
 path_in (Some path) folder home = path
 path_in None folder home = in_folder (if length folder == 0 then home else folder) (codes "initctl")
 
-abbrev pub path_said : Text → List Row → Text
-path_said home rows = path_in (first_of (codes "--initctl") rows) (value_said (codes "-d") rows) home
+abbrev pub path_option : Text → List Row → Text
+path_option home rows = path_in (first_of (codes "--initctl") rows) (value_said (codes "-d") rows) home
 
 -- what words say, with the defaults for what they leave out
 pub record TelinitWords : Type 0 where
@@ -74,16 +74,16 @@ words_of words = record {
 }
 
 -- the words of a command line, where its seconds are 0 to 3,600 and the environment names this folder
-abbrev pub words_said_by : Text → List Row → Option TelinitWords
-words_said_by home rows =
+abbrev pub words_of_rows : Text → List Row → Option TelinitWords
+words_of_rows home rows =
     option_and_then
     (λ secs. option_map
-    (λ asked. record { secs = secs; path = path_said home rows; sign = asked.0; power = asked.1 })
+    (λ asked. record { secs = secs; path = path_option home rows; sign = asked.0; power = asked.1 })
     (sign_or_power (first_of (codes "CHAR") rows) (first_of (codes "--power") rows)))
     (seconds_read (value_said (codes "-t") rows))
 
 abbrev pub words_read_of : Text → List Text → Option TelinitWords
-words_read_of home words = option_and_then (words_said_by home) (given_by command_line words)
+words_read_of home words = option_and_then (words_of_rows home) (given_by command_line words)
 
 -- a request for the sign, which is one character of the list, with the seconds; or the news of the power
 abbrev pub request_by : ℕ → Text → Option PowerKind → Option Request
@@ -94,17 +94,17 @@ abbrev pub request_of : TelinitWords → Option Request
 request_of words = request_by words.secs words.sign words.power
 
 -- the channel and the request
-pub record TelinitSaid : Type 0 where
+pub record TelinitArguments : Type 0 where
   pub path : Text
   pub request : Request
 
-abbrev pub said_of : TelinitWords → Option TelinitSaid
-said_of words = option_map (λ asked. record { path = words.path; request = asked }) (request_of words)
+abbrev pub arguments_of : TelinitWords → Option TelinitArguments
+arguments_of words = option_map (λ asked. record { path = words.path; request = asked }) (request_of words)
 
 -- what words ask for; where the command line has a fault in it, or no request, nothing
-abbrev pub telinit_read_of : Text → List Text → Option TelinitSaid
-telinit_read_of home words = option_and_then said_of (words_read_of home words)
+abbrev pub telinit_read_of : Text → List Text → Option TelinitArguments
+telinit_read_of home words = option_and_then arguments_of (words_read_of home words)
 
 -- the request block that words ask for
-abbrev pub block_said : Text → List Text → Option (List ℕ)
-block_said home words = option_map (λ said. block_of said.request) (telinit_read_of home words)
+abbrev pub block_for : Text → List Text → Option (List ℕ)
+block_for home words = option_map (λ arguments. block_of arguments.request) (telinit_read_of home words)

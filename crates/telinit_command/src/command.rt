@@ -9,8 +9,8 @@ ghost use Rattle.initctl_frame.specs.Signs.{sign_read};
 ghost use Rattle.program_io.specs.Arguments.{only_byte};
 ghost use Rattle.initctl_frame.specs.Frames.{block_of};
 ghost use Rattle.telinit_command.specs.Channels.{IsAsked};
-ghost use Rattle.telinit_command.specs.CommandLine.{path_said, power_read, request_of, seconds_read, sign_or_power};
-ghost use Rattle.telinit_command.specs.CommandLine.{telinit_read_of, words_of, words_read_of, words_said_by};
+ghost use Rattle.telinit_command.specs.CommandLine.{path_option, power_read, request_of, seconds_read, sign_or_power};
+ghost use Rattle.telinit_command.specs.CommandLine.{telinit_read_of, words_of, words_read_of, words_of_rows};
 
 use clap::ArgMatches;
 use command_words::{Row, WordFault, checked, read_line, value_of, word_of};
@@ -51,8 +51,8 @@ pub(crate) struct Asked {
 /// Reads a command line, without the program's name in front. The channel that it doesn't name is `initctl` in the
 /// folder that it names by `-d`, else in this one. Of its sign nothing is asked: see [`frame_of`].
 pub fn read_words(alloc: Global, words: Vec<String>) -> Result<Words, WordFault>
-    ensures ok { IfOk result (λ said. words_read_of (codes "") (map string_bytes words.items)
-        ≡ Some (words_of said)) }
+    ensures ok { IfOk result (λ arguments. words_read_of (codes "") (map string_bytes words.items)
+        ≡ Some (words_of arguments)) }
     ensures usage { IfErr result (λ fault. IsSome (reason_of fault)
         → words_read_of (codes "") (map string_bytes words.items) ≡ None) }
 {
@@ -93,8 +93,8 @@ pub(crate) fn read_asked(alloc: Global, home: &str, words: Vec<String>) -> Resul
 
 #[tactic(auto, using(crate::proofs::FreeLine::is_free_line))]
 fn read_words_in(alloc: Global, home: &str, words: Vec<String>) -> Result<Words, WordFault>
-    ensures ok { IfOk result (λ said. words_read_of home.now (map string_bytes words.items)
-        ≡ Some (words_of said)) }
+    ensures ok { IfOk result (λ arguments. words_read_of home.now (map string_bytes words.items)
+        ≡ Some (words_of arguments)) }
     ensures usage { IfErr result (λ fault. IsSome (reason_of fault)
         → words_read_of home.now (map string_bytes words.items) ≡ None) }
 {
@@ -104,10 +104,10 @@ fn read_words_in(alloc: Global, home: &str, words: Vec<String>) -> Result<Words,
 
 /// What matches say.
 fn read_matches(alloc: Global, matches: &ArgMatches, home: &str) -> Result<Words, WordFault>
-    ensures ok { IfOk result (λ said. words_said_by home.now (rows_of (found_of matches.now))
-        ≡ Some (words_of said)) }
+    ensures ok { IfOk result (λ arguments. words_of_rows home.now (rows_of (found_of matches.now))
+        ≡ Some (words_of arguments)) }
     ensures usage { IfErr result (λ fault. IsSome (reason_of fault)
-        → words_said_by home.now (rows_of (found_of matches.now)) ≡ None) }
+        → words_of_rows home.now (rows_of (found_of matches.now)) ≡ None) }
 {
     let word = value_of(matches, "-t");
     let secs = checked(alloc, "-t", word, read_grace(word), "not 0 to 3600 seconds")?;
@@ -189,7 +189,7 @@ fn read_power(word: &str) -> Option<PowerKind>
 /// The channel that words name.
 fn path_of(alloc: Global, matches: &ArgMatches, home: &str) -> Result<String, AllocError>
     ensures { IfOk result (λ path. string_bytes path
-        ≡ path_said home.now (rows_of (found_of matches.now))) }
+        ≡ path_option home.now (rows_of (found_of matches.now))) }
 {
     if let Some(path) = word_of(matches, "--initctl") {
         return String::from_str(alloc, path);

@@ -6,7 +6,7 @@ ghost use Rattle.command_words.specs.Faults.{ReportsUsage};
 ghost use Rattle.command_words.specs.VersionLine.{PrintsVersion};
 ghost use Rattle.program_io.specs.Reports.{HasSpoken};
 ghost use Rattle.telinit_command.specs.Channels.{AreSame, Asks, AsksPartly};
-ghost use Rattle.telinit_command.specs.CommandLine.{block_said, telinit_read_of};
+ghost use Rattle.telinit_command.specs.CommandLine.{block_for, telinit_read_of};
 ghost use Rattle.telinit_command.specs.Notes.{IsTold};
 
 use crate::channel::{ChannelFault, append_block};
@@ -54,8 +54,8 @@ pub fn run_words<C: Channels, W: Write, E: Reporter>(
 ) -> u8
     ensures statuses { (result ≡ DONE) ⊎ (result ≡ REFUSED) ⊎ (result ≡ DEVICE_FAULT) }
     ensures done { result ≡ DONE → (asks_version (map string_bytes words.items) ≡ true)
-        ⊎ IsSome (block_said home.now (map string_bytes words.items)) }
-    ensures usage { result ≡ REFUSED → IsNone (block_said home.now (map string_bytes words.items)) }
+        ⊎ IsSome (block_for home.now (map string_bytes words.items)) }
+    ensures usage { result ≡ REFUSED → IsNone (block_for home.now (map string_bytes words.items)) }
     ensures appended { result ≡ DONE → asks_version (map string_bytes words.items) ≡ false
         → Asks home.now (map string_bytes words.items) (C.bytes_at channels.old)
         (C.bytes_at channels.new) }
@@ -71,7 +71,7 @@ pub fn run_words<C: Channels, W: Write, E: Reporter>(
     // What is told of a channel that a block was appended to.
     ensures told { result ≡ DONE → (err.new ≡ err.old)
         ⊎ IfSome (telinit_read_of home.now (map string_bytes words.items))
-        (λ said. IsTold said.path (E.reports err.old) (E.reports err.new)) }
+        (λ arguments. IsTold arguments.path (E.reports err.old) (E.reports err.new)) }
     ensures report { result ≡ REFUSED
         → ReportsUsage (codes "telinit") USAGE.now SHORT_USAGE.now
         (E.reports err.old) (E.reports err.new) }

@@ -16,10 +16,10 @@ use std::io::ErrorKind;
 use test_support::Outcome::{self, Done, Refused, Unmade};
 use test_support::{boxed, line_words, refusals};
 
-fn read_header(own: Global, heap: &LocalHeap) -> Option<Outcome> {
-    let text = joined(own, &[NINE, END]).ok()?;
-    match header_of(own, heap, &text) {
-        Ok(header) => (shown(own, &header).ok()?.as_slice() == SHOWN_NINE).then_some(Done),
+fn read_header(global: Global, heap: &LocalHeap) -> Option<Outcome> {
+    let text = joined(global, &[NINE, END]).ok()?;
+    match header_of(global, heap, &text) {
+        Ok(header) => (shown(global, &header).ok()?.as_slice() == SHOWN_NINE).then_some(Done),
         Err(fault) => (fault == HeaderFault::Memory).then_some(Refused),
     }
 }
@@ -28,23 +28,23 @@ const LINKS: &[u8] =
     b"rc0.d/K01web ../init.d/web\nrc3.d/S01net ../init.d/net\nrc3.d/S02web ../init.d/web\n";
 
 fn plan_of<A: Allocator + Copy>(
-    own: Global,
+    global: Global,
     alloc: A,
     scripts: &[Script<A>],
 ) -> Result<Box<Plan<A>>, PlanFault<A>> {
     let plan = rc_links::plan(alloc, scripts)?;
-    match boxed(own, plan) {
+    match boxed(global, plan) {
         Ok(plan) => Ok(plan),
         Err(_) => Err(PlanFault::Memory),
     }
 }
 
 /// A plan is made of scripts, or it is printed too.
-fn plan(own: Global, heap: &LocalHeap, is_printed: bool) -> Option<Outcome> {
+fn plan(global: Global, heap: &LocalHeap, is_printed: bool) -> Option<Outcome> {
     let Some(scripts) = scripts_of(heap) else {
         return Some(Unmade);
     };
-    match plan_of(own, heap, &scripts) {
+    match plan_of(global, heap, &scripts) {
         Ok(_plan) if !is_printed => Some(Done),
         Ok(plan) => match plan.print(heap) {
             Ok(text) => (text.as_slice() == LINKS).then_some(Done),
@@ -97,28 +97,28 @@ fn change(heap: &LocalHeap) -> Option<Outcome> {
 }
 
 /// A text is kept at `b` behind one at `a`. Where there is no room for it, the first stands alone.
-fn keep(own: Global, heap: &LocalHeap) -> Option<Outcome> {
-    let mut kept = KeptTexts::new(heap);
-    if kept.keep("a", NET).is_err() {
+fn keep(global: Global, heap: &LocalHeap) -> Option<Outcome> {
+    let mut stored = KeptTexts::new(heap);
+    if stored.keep("a", NET).is_err() {
         return Some(Unmade);
     }
-    let outcome = if kept.keep("b", NET).is_ok() {
+    let outcome = if stored.keep("b", NET).is_ok() {
         Done
     } else {
         Refused
     };
-    let is_first = kept.read(own, "a").ok()?.as_slice() == NET;
-    let is_second = match kept.read(own, "b") {
+    let is_first = stored.read(global, "a").ok()?.as_slice() == NET;
+    let is_second = match stored.read(global, "b") {
         Ok(text) => outcome == Done && text.as_slice() == NET,
         Err(error) => outcome == Refused && error.kind() == ErrorKind::NotFound,
     };
     (is_first && is_second).then_some(outcome)
 }
 
-fn read_kept(own: Global, heap: &LocalHeap) -> Option<Outcome> {
-    let mut kept = KeptTexts::new(own);
-    kept.keep("a", NET).ok()?;
-    match kept.read(heap, "a") {
+fn read_kept(global: Global, heap: &LocalHeap) -> Option<Outcome> {
+    let mut stored = KeptTexts::new(global);
+    stored.keep("a", NET).ok()?;
+    match stored.read(heap, "a") {
         Ok(text) => (text.as_slice() == NET).then_some(Done),
         Err(error) => (error.kind() == ErrorKind::OutOfMemory).then_some(Refused),
     }
@@ -136,11 +136,11 @@ const LINES: &[u8] = b"K05c stop exit 0\nS10a start exit 0\nS20b start exit 0\n"
 
 /// Whether scripts that all end with 0 have room to run on a heap; where they have none, what was written is a front of
 /// the lines. None where anything else is so.
-fn is_run(own: Global, heap: &LocalHeap) -> Option<bool> {
-    let new = line_words(own, "S10a S20b K05c").ok()?;
-    let mut rc = rc_over(own, own, "", &[], &new).ok()?;
-    let mut host = given_host(own, "bbb/eee//")?;
-    let (mut out, mut err) = (Vec::<u8>::new(own), Reports::to(Vec::<u8>::new(own)));
+fn is_run(global: Global, heap: &LocalHeap) -> Option<bool> {
+    let new = line_words(global, "S10a S20b K05c").ok()?;
+    let mut rc = rc_over(global, global, "", &[], &new).ok()?;
+    let mut host = given_host(global, "bbb/eee//")?;
+    let (mut out, mut err) = (Vec::<u8>::new(global), Reports::to(Vec::<u8>::new(global)));
     let end = run_links(
         heap,
         &mut rc,
@@ -158,27 +158,27 @@ fn is_run(own: Global, heap: &LocalHeap) -> Option<bool> {
 }
 
 /// Whether the scripts of a change of level have room on a heap to be listed.
-fn is_listed(own: Global, heap: &LocalHeap, change: &str, previous: &str) -> Option<bool> {
-    let previous = line_words(own, previous).ok()?;
-    let new = line_words(own, "S10a S20b K05c K70d").ok()?;
-    match rc_over(own, heap, change, &previous, &new) {
+fn is_listed(global: Global, heap: &LocalHeap, change: &str, previous: &str) -> Option<bool> {
+    let previous = line_words(global, previous).ok()?;
+    let new = line_words(global, "S10a S20b K05c K70d").ok()?;
+    match rc_over(global, heap, change, &previous, &new) {
         Ok(mut rc) => (rc.next() == RcStep::Run("K05c", Arg::Stop)).then_some(true),
         Err(_) => Some(false),
     }
 }
 
-fn outcome_on(own: Global, heap: &LocalHeap, what: &str) -> Option<Outcome> {
+fn outcome_on(global: Global, heap: &LocalHeap, what: &str) -> Option<Outcome> {
     match what {
-        "header" => read_header(own, heap),
-        "plan" => plan(own, heap, false),
-        "print" => plan(own, heap, true),
+        "header" => read_header(global, heap),
+        "plan" => plan(global, heap, false),
+        "print" => plan(global, heap, true),
         "all" => add_all(heap),
         "changes" => change(heap),
-        "keep" => keep(own, heap),
-        "read" => read_kept(own, heap),
-        "run" => is_run(own, heap).map(Outcome::of),
-        "sysv" => is_listed(own, heap, "23", "S10a K30d").map(Outcome::of),
-        _ => is_listed(own, heap, "", "S10a S30d").map(Outcome::of),
+        "keep" => keep(global, heap),
+        "read" => read_kept(global, heap),
+        "run" => is_run(global, heap).map(Outcome::of),
+        "sysv" => is_listed(global, heap, "23", "S10a K30d").map(Outcome::of),
+        _ => is_listed(global, heap, "", "S10a S30d").map(Outcome::of),
     }
 }
 
@@ -199,7 +199,7 @@ const REFUSED: &[(&str, usize)] = &[
 #[test]
 fn what_has_no_room_is_refused(rt: HostRuntime) {
     for (what, least) in REFUSED {
-        let refused = refusals(rt.alloc(), |own, heap| outcome_on(own, heap, what));
+        let refused = refusals(rt.alloc(), |global, heap| outcome_on(global, heap, what));
         assert!(rt; refused > Some(*least), "{what}: {refused:?}");
     }
 }

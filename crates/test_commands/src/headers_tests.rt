@@ -191,25 +191,25 @@ const WHOLE: &[Row] = &[
 ];
 
 /// What is shown of a header, or its fault behind a mark.
-fn shown_text(own: Global, read: Result<&[u8], HeaderFault>) -> Result<Vec<u8>, Memory> {
+fn shown_text(global: Global, read: Result<&[u8], HeaderFault>) -> Result<Vec<u8>, Memory> {
     match read {
-        Ok(shown) => Ok(Vec::from_slice(own, shown)?),
-        Err(fault) => Ok(format!(in own; "! {fault}")?.into_bytes()),
+        Ok(shown) => Ok(Vec::from_slice(global, shown)?),
+        Err(fault) => Ok(format!(in global; "! {fault}")?.into_bytes()),
     }
 }
 
 /// In what the header of a text differs from this; nothing where it is read so.
 fn header_difference(
-    own: Global,
+    global: Global,
     text: &[u8],
     want: Result<&[u8], HeaderFault>,
 ) -> Result<String, Memory> {
-    let got = match header_of(own, own, text) {
-        Ok(header) => shown(own, &header)?,
-        Err(fault) => shown_text(own, Err(fault))?,
+    let got = match header_of(global, global, text) {
+        Ok(header) => shown(global, &header)?,
+        Err(fault) => shown_text(global, Err(fault))?,
     };
-    let want = shown_text(own, want)?;
-    Ok(difference(own, &[("what is read", got.as_slice(), want.as_slice())])?)
+    let want = shown_text(global, want)?;
+    Ok(difference(global, &[("what is read", got.as_slice(), want.as_slice())])?)
 }
 
 #[test]
@@ -243,11 +243,11 @@ const KEYWORDS: &[(&str, &[u8], Keyword)] = &[
 ];
 
 /// The keyword has these words, and is found where it stands a second time, in line 12 of a text, before a bad line.
-fn is_keyword(own: Global, word: &str, shout: &[u8], keyword: Keyword) -> Result<bool, Fail> {
-    let text = joined(own, &[NINE, b"# ", word.as_bytes(), b": x\n?\n", END])?;
-    let told = format!(in own; "{keyword}")?;
+fn is_keyword(global: Global, word: &str, shout: &[u8], keyword: Keyword) -> Result<bool, Fail> {
+    let text = joined(global, &[NINE, b"# ", word.as_bytes(), b": x\n?\n", END])?;
+    let told = format!(in global; "{keyword}")?;
     Ok(
-        header_of(own, own, &text).err() == Some(Twice(keyword))
+        header_of(global, global, &text).err() == Some(Twice(keyword))
             && second_keyword_line(&text, keyword) == Some(12)
             && told.as_str() == word
             && Keyword::read(shout) == Some(keyword)

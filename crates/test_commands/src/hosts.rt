@@ -7,8 +7,8 @@ use std::alloc::{AllocError, Global};
 use test_support::boxed;
 
 /// The fields of a row, parted by `|`.
-pub(crate) fn fields_of<'r>(own: Global, row: &'r str) -> Result<Vec<&'r str>, AllocError> {
-    let mut fields = Vec::new(own);
+pub(crate) fn fields_of<'r>(global: Global, row: &'r str) -> Result<Vec<&'r str>, AllocError> {
+    let mut fields = Vec::new(global);
     for field in row.split('|') {
         fields.push(field)?;
     }
@@ -65,16 +65,16 @@ fn give_others(host: &mut MemoryHost, lates: &str, readings: &str) -> Option<()>
     Some(())
 }
 
-fn new_host(own: Global) -> Result<Box<MemoryHost>, AllocError> {
-    boxed(own, MemoryHost::new(own))
+fn new_host(global: Global) -> Result<Box<MemoryHost>, AllocError> {
+    boxed(global, MemoryHost::new(global))
 }
 
 /// A host that is given this, parted by `/`: replies to starts and to looks, and late answers, each a letter, `l` for
 /// later and `-` for no late answer; and readings of the clock, of which what is no number fails.
-pub(crate) fn given_host(own: Global, given: &str) -> Option<Box<MemoryHost>> {
+pub(crate) fn given_host(global: Global, given: &str) -> Option<Box<MemoryHost>> {
     let mut parts = given.split('/');
     let (starts, looks) = (parts.next()?, parts.next()?);
-    let mut host = new_host(own).ok()?;
+    let mut host = new_host(global).ok()?;
     give_replies(&mut host, starts, looks).ok()?;
     give_others(&mut host, parts.next()?, parts.next()?)?;
     Some(host)
@@ -95,8 +95,8 @@ fn letter_of(call: &Call) -> u8 {
 }
 
 /// The letters of the calls that were made of the host.
-pub(crate) fn calls_of(own: Global, host: &MemoryHost) -> Result<Vec<u8>, AllocError> {
-    let mut letters = Vec::new(own);
+pub(crate) fn calls_of(global: Global, host: &MemoryHost) -> Result<Vec<u8>, AllocError> {
+    let mut letters = Vec::new(global);
     for call in host.calls().unwrap_or(&[]) {
         letters.push(letter_of(call))?;
     }

@@ -30,7 +30,7 @@ impl Hosts<MemoryHost> for OneHost {
 
     ghost opened = { λ _. None };
 
-    ghost own = { λ _ _. ⊤ };
+    ghost conforms = { λ _ _. ⊤ };
 
     fn open(
         &mut self,
@@ -102,12 +102,12 @@ const ROWS: &[&str] = &[
 ];
 
 /// How many clocks, starts and pauses the host was asked for.
-fn counts_of(own: Global, one: &OneHost) -> Option<String> {
-    let letters = letters_of(own, one.host.as_ref()?)?;
+fn counts_of(global: Global, one: &OneHost) -> Option<String> {
+    let letters = letters_of(global, one.host.as_ref()?)?;
     let clocks = letters.matches('C').count();
     let starts = letters.matches('S').count();
     let pauses = letters.matches('P').count();
-    format!(in own; "{clocks} {starts} {pauses}").ok()
+    format!(in global; "{clocks} {starts} {pauses}").ok()
 }
 
 /// The text that is wanted: what was got, where none is asked.
@@ -122,16 +122,16 @@ fn answer_difference(rt: &HostRuntime, row: &str, out: &mut Slow) -> Option<Stri
     let [line, status, calls, inittab, given, printed, reported] = *fields.as_slice() else {
         return None;
     };
-    let mut kept = KeptTexts::new(alloc);
-    kept.keep("tab", inittab.as_bytes()).ok()?;
-    kept.keep("said", SCRIPT).ok()?;
+    let mut stored = KeptTexts::new(alloc);
+    stored.keep("tab", inittab.as_bytes()).ok()?;
+    stored.keep("said", SCRIPT).ok()?;
     let mut hosts = source_of(alloc, given, !calls.ends_with("unprinted"))?;
     let words = line_words(alloc, line).ok()?;
     let mut err = Reports::to(Vec::<u8>::new(alloc));
     let mut traces = OsTraces::new(rt, alloc);
     let ended = run_words(
         rt,
-        &kept,
+        &stored,
         &mut *hosts,
         &mut traces,
         alloc,
@@ -184,8 +184,8 @@ const TRACED: &[(&str, &[u8])] = &[
 /// What the file of the trace has behind a run.
 fn traced(rt: &HostRuntime, line: &str) -> Result<Vec<u8>, Fail> {
     let alloc = rt.alloc();
-    let mut kept = KeptTexts::new(alloc);
-    kept.keep("tab", turns_tests::INITTAB)?;
+    let mut stored = KeptTexts::new(alloc);
+    stored.keep("tab", turns_tests::INITTAB)?;
     let mut hosts = source_of(alloc, "start birth 10", true).ok_or("no host")?;
     let words = line_words(alloc, line)?;
     let mut traces = OsTraces::new(rt, alloc);
@@ -193,7 +193,7 @@ fn traced(rt: &HostRuntime, line: &str) -> Result<Vec<u8>, Fail> {
     let mut err = Reports::to(Vec::<u8>::new(alloc));
     let _ = run_words(
         rt,
-        &kept,
+        &stored,
         &mut *hosts,
         &mut traces,
         alloc,

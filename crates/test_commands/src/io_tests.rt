@@ -39,10 +39,10 @@ fn slow_writers_take_it_all(rt: HostRuntime) {
     }
 }
 
-/// A reader that gives one byte a read, `x`, `left` times. Then it fails, or is at its end.
+/// A reader that gives one byte a read, `x`, `remaining` times. Then it fails, or is at its end.
 #[derive(Drop)]
 struct Drops {
-    left: usize,
+    remaining: usize,
     fails: bool,
 }
 
@@ -51,8 +51,8 @@ impl Read for Drops {
         let [first, ..] = buf else {
             return Ok(0);
         };
-        if self.left > 0 {
-            self.left -= 1;
+        if self.remaining > 0 {
+            self.remaining -= 1;
             *first = b'x';
             return Ok(1);
         }
@@ -88,17 +88,22 @@ fn count_of(read: io::Result<Vec<u8>>) -> Result<usize, ErrorKind> {
     }
 }
 
-fn is_counted(alloc: Global, left: usize, fails: bool, want: Result<usize, ErrorKind>) -> bool {
-    let mut from = Drops { left, fails };
-    count_of(read_all(alloc, &mut from)) == want && from.left == 0
+fn is_counted(
+    alloc: Global,
+    remaining: usize,
+    fails: bool,
+    want: Result<usize, ErrorKind>,
+) -> bool {
+    let mut from = Drops { remaining, fails };
+    count_of(read_all(alloc, &mut from)) == want && from.remaining == 0
 }
 
 #[test]
 fn slow_readers_are_read_to_their_end(rt: HostRuntime) {
-    for (left, fails, want) in READS {
+    for (remaining, fails, want) in READS {
         assert!(rt;
-            is_counted(rt.alloc(), *left, *fails, *want),
-            "{left} bytes"
+            is_counted(rt.alloc(), *remaining, *fails, *want),
+            "{remaining} bytes"
         );
     }
 }
@@ -211,8 +216,8 @@ fn unread_words_are_reported(rt: HostRuntime) {
     for (name, usage, kind, status, report) in UNREAD {
         let error = io::Error::from(*kind);
         let mut err = Reports::to(Vec::<u8>::new(rt.alloc()));
-        let said = report_unread_words(name, usage, &error, &mut err);
-        let is_reported = said == *status && unread_status(&error) == *status;
+        let reported = report_unread_words(name, usage, &error, &mut err);
+        let is_reported = reported == *status && unread_status(&error) == *status;
         assert!(rt;
             is_reported && err.writer().as_slice() == report.as_bytes(),
             "{report}"

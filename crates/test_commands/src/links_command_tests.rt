@@ -96,12 +96,12 @@ const ROWS: &[&str] = &[
      README ABSOLUTE UNNUMBERED ELSEWHERE NET0 NET2 NET3",
 ];
 
-fn kept_texts(own: Global) -> Result<KeptTexts, AllocError> {
-    let mut kept = KeptTexts::new(own);
+fn kept_texts(global: Global) -> Result<KeptTexts, AllocError> {
+    let mut stored = KeptTexts::new(global);
     for (path, text) in TEXTS {
-        kept.keep(path, text)?;
+        stored.keep(path, text)?;
     }
-    Ok(kept)
+    Ok(stored)
 }
 
 /// An entry of a runlevel's folder in a directory.
@@ -127,14 +127,17 @@ struct Links {
 impl Links {
     fn add(
         &mut self,
-        own: Global,
+        global: Global,
         dir: &str,
         level: Level,
         name: &[u8],
         leads: &[u8],
     ) -> Result<(), AllocError> {
-        let dir = String::from_str(own, dir)?;
-        let entry = FolderEntry::new(Vec::from_slice(own, name)?, Vec::from_slice(own, leads)?);
+        let dir = String::from_str(global, dir)?;
+        let entry = FolderEntry::new(
+            Vec::from_slice(global, name)?,
+            Vec::from_slice(global, leads)?,
+        );
         self.links.push(Link { dir, level, entry })?;
         Ok(())
     }
@@ -172,14 +175,14 @@ impl LinkFolders for Links {
     }
 }
 
-fn links_of(own: Global, words: &str) -> Result<Links, AllocError> {
+fn links_of(global: Global, words: &str) -> Result<Links, AllocError> {
     let mut links = Links {
-        links: Vec::new(own),
+        links: Vec::new(global),
     };
     for word in words.split_ascii_whitespace() {
         for (name, dir, level, link, leads) in ENTRIES {
             if *name == word {
-                links.add(own, dir, *level, link.as_bytes(), leads.as_bytes())?;
+                links.add(global, dir, *level, link.as_bytes(), leads.as_bytes())?;
             }
         }
     }
@@ -187,8 +190,14 @@ fn links_of(own: Global, words: &str) -> Result<Links, AllocError> {
 }
 
 /// The folder of a runlevel in a directory holds just those of these entries that are its own, in order.
-fn holds(own: Global, links: &Links, words: &str, dir: &'static str, level: Level) -> Option<bool> {
-    let found = links.entries(own, dir, level).ok()?;
+fn holds(
+    global: Global,
+    links: &Links,
+    words: &str,
+    dir: &'static str,
+    level: Level,
+) -> Option<bool> {
+    let found = links.entries(global, dir, level).ok()?;
     let mut position = 0usize;
     for word in words.split_ascii_whitespace() {
         for (name, its_dir, its_level, link, leads) in ENTRIES {
@@ -204,10 +213,10 @@ fn holds(own: Global, links: &Links, words: &str, dir: &'static str, level: Leve
     Some(position == found.len())
 }
 
-fn hold(own: Global, links: &Links, words: &str) -> bool {
+fn hold(global: Global, links: &Links, words: &str) -> bool {
     for level in [Level::L0, Level::L2, Level::L3] {
         for dir in ["etc", "old"] {
-            if holds(own, links, words, dir, level) != Some(true) {
+            if holds(global, links, words, dir, level) != Some(true) {
                 return false;
             }
         }
@@ -216,8 +225,8 @@ fn hold(own: Global, links: &Links, words: &str) -> bool {
 }
 
 /// Each link that the folders hold, a line each.
-fn held_text(own: Global, links: &Links) -> Option<String> {
-    let mut text = String::from_str(own, "the folders hold:").ok()?;
+fn held_text(global: Global, links: &Links) -> Option<String> {
+    let mut text = String::from_str(global, "the folders hold:").ok()?;
     for link in &links.links {
         let (dir, level) = (&link.dir, char::from(link.level.code()));
         let name = str::from_utf8(link.entry.name()).ok()?;
@@ -229,42 +238,42 @@ fn held_text(own: Global, links: &Links) -> Option<String> {
 
 /// In what the run of a row differs from it, with the line of the version where that is written; nothing where it is as
 /// it says.
-fn run_difference(own: Global, texts: &KeptTexts, row: &str, version: &str) -> Option<String> {
-    let fields = fields_of(own, row).ok()?;
+fn run_difference(global: Global, texts: &KeptTexts, row: &str, version: &str) -> Option<String> {
+    let fields = fields_of(global, row).ok()?;
     let [before, line, room, status, out, err, after] = *fields.as_slice() else {
         return None;
     };
-    let mut links = links_of(own, before).ok()?;
-    let words = line_words(own, line).ok()?;
+    let mut links = links_of(global, before).ok()?;
+    let words = line_words(global, line).ok()?;
     let is_stuck = room.starts_with("stuck ");
     let room = room.trim_start_matches("stuck ").parse::<usize>().ok()?;
-    let mut lines = Slow::new(own, room, true, is_stuck);
-    let mut told = Reports::to(Vec::<u8>::new(own));
+    let mut lines = Slow::new(global, room, true, is_stuck);
+    let mut told = Reports::to(Vec::<u8>::new(global));
     let ended = run_words(
         texts,
         &mut links,
-        own,
+        global,
         &[],
         words.as_slice(),
         &mut lines,
         &mut told,
     );
-    let ended = format!(in own; "{ended}").ok()?;
+    let ended = format!(in global; "{ended}").ok()?;
     let written = if out == "VERSION" { version } else { out };
     let (out, wanted) = (lines.taken.as_slice(), lines.front_of(written));
     let reported = told.writer().as_slice();
-    let other = String::new(own);
-    let other = or_difference(own, other, "standard output", out, wanted)?;
-    let other = or_difference(own, other, "standard error", reported, err.as_bytes())?;
+    let other = String::new(global);
+    let other = or_difference(global, other, "standard output", out, wanted)?;
+    let other = or_difference(global, other, "standard error", reported, err.as_bytes())?;
     let other = or_difference(
-        own,
+        global,
         other,
         "its status",
         ended.as_bytes(),
         status.as_bytes(),
     )?;
-    if other.is_empty() && !hold(own, &links, after) {
-        return held_text(own, &links);
+    if other.is_empty() && !hold(global, &links, after) {
+        return held_text(global, &links);
     }
     Some(other)
 }
@@ -273,8 +282,8 @@ fn run_difference(own: Global, texts: &KeptTexts, row: &str, version: &str) -> O
 fn lines_are_answered(rt: HostRuntime) -> Result<(), Fail> {
     let texts = kept_texts(rt.alloc())?;
     let version = format!(in rt.alloc(); "rclinks {VERSION} ({KIT})\n")?;
-    let told = first_difference(rt.alloc(), ROWS, |own, row| {
-        run_difference(own, &texts, row, &version)
+    let told = first_difference(rt.alloc(), ROWS, |global, row| {
+        run_difference(global, &texts, row, &version)
     })?;
     assert!(rt; told.is_empty(), "{told}");
     Ok(())

@@ -72,15 +72,15 @@ const ROWS: &[Row] = &[
 
 /// The scripts that are run at a change of level, as LSB has it or as sysv-rc has it.
 pub(crate) fn rc_over<'n, A: Allocator + Copy>(
-    own: Global,
+    global: Global,
     alloc: A,
     change: &str,
     previous: &[String],
     new: &'n [String],
 ) -> Result<Box<Rc<'n, A>>, Memory> {
     match change_of(change) {
-        None => Ok(boxed(own, Rc::new(alloc, previous, new)?)?),
-        Some(passage) => Ok(boxed(own, Rc::as_sysv(alloc, passage, previous, new)?)?),
+        None => Ok(boxed(global, Rc::new(alloc, previous, new)?)?),
+        Some(passage) => Ok(boxed(global, Rc::as_sysv(alloc, passage, previous, new)?)?),
     }
 }
 
@@ -117,13 +117,13 @@ fn stray_script<'r>(rc: &mut Rc, runs: &'r str) -> Option<&'r str> {
 }
 
 /// What is handed out otherwise than a row says; nothing where all is as it says.
-fn order_difference(own: Global, row: &Row) -> Result<String, Memory> {
-    let previous = line_words(own, row.1)?;
-    let new = line_words(own, row.2)?;
-    let mut rc = rc_over(own, own, row.0, &previous, &new)?;
+fn order_difference(global: Global, row: &Row) -> Result<String, Memory> {
+    let previous = line_words(global, row.1)?;
+    let new = line_words(global, row.2)?;
+    let mut rc = rc_over(global, global, row.0, &previous, &new)?;
     match stray_script(&mut rc, row.3) {
-        None => Ok(String::new(own)),
-        Some(run) => Ok(format!(in own; "not in its turn: {run} of {}", row.3)?),
+        None => Ok(String::new(global)),
+        Some(run) => Ok(format!(in global; "not in its turn: {run} of {}", row.3)?),
     }
 }
 

@@ -104,42 +104,65 @@ fn wanted_of<'x>(lines: &Slow, out: &'x str, version: &'x str) -> &'x [u8] {
 }
 
 /// In what a run differs from its row, with the line of the version where that is written; nothing where it is as it says.
-fn run_difference(own: Global, row: &str, version: &str) -> Option<String> {
-    let fields = fields_of(own, row).ok()?;
-    let [line, scripts, given, room, status, out, err, calls, kept] = *fields.as_slice() else {
+fn run_difference(global: Global, row: &str, version: &str) -> Option<String> {
+    let fields = fields_of(global, row).ok()?;
+    let [
+        line,
+        scripts,
+        given,
+        room,
+        status,
+        out,
+        err,
+        calls,
+        level_file,
+    ] = *fields.as_slice()
+    else {
         return None;
     };
-    let mut host = given_host(own, given)?;
+    let mut host = given_host(global, given)?;
     let mut level = LevelFile { text: None };
     let folders = RowFolders { scripts };
-    let words = line_words(own, line).ok()?;
-    let mut lines = Slow::new(own, room.parse::<usize>().ok()?, true, false);
-    let mut told = Reports::to(Vec::<u8>::new(own));
+    let words = line_words(global, line).ok()?;
+    let mut lines = Slow::new(global, room.parse::<usize>().ok()?, true, false);
+    let mut told = Reports::to(Vec::<u8>::new(global));
     let ended = run_words(
-        &mut *host, &folders, &mut level, own, words, &mut lines, &mut told,
+        &mut *host, &folders, &mut level, global, words, &mut lines, &mut told,
     );
-    let ended = format!(in own; "{ended}").ok()?;
-    let made = calls_of(own, &host).ok()?;
-    let (err, said) = asked_of(told.writer(), err);
+    let ended = format!(in global; "{ended}").ok()?;
+    let made = calls_of(global, &host).ok()?;
+    let (err, reported) = asked_of(told.writer(), err);
     let held = match &level.text {
         Some(text) => text.as_slice(),
         None => &[],
     };
     let wanted = wanted_of(&lines, out, version);
     let out = lines.taken.as_slice();
-    let told = String::new(own);
-    let told = or_difference(own, told, "standard output", out, wanted)?;
-    let told = or_difference(own, told, "standard error", err, said)?;
-    let told = or_difference(own, told, "its status", ended.as_bytes(), status.as_bytes())?;
-    let told = or_difference(own, told, "its calls", made.as_slice(), calls.as_bytes())?;
-    or_difference(own, told, "the file of the level", held, kept.as_bytes())
+    let told = String::new(global);
+    let told = or_difference(global, told, "standard output", out, wanted)?;
+    let told = or_difference(global, told, "standard error", err, reported)?;
+    let told = or_difference(
+        global,
+        told,
+        "its status",
+        ended.as_bytes(),
+        status.as_bytes(),
+    )?;
+    let told = or_difference(global, told, "its calls", made.as_slice(), calls.as_bytes())?;
+    or_difference(
+        global,
+        told,
+        "the file of the level",
+        held,
+        level_file.as_bytes(),
+    )
 }
 
 #[test]
 fn lines_are_answered(rt: HostRuntime) -> Result<(), Fail> {
     let version = format!(in rt.alloc(); "rc {VERSION} ({KIT})\n")?;
-    let told = first_difference(rt.alloc(), ROWS, |own, row| {
-        run_difference(own, row, &version)
+    let told = first_difference(rt.alloc(), ROWS, |global, row| {
+        run_difference(global, row, &version)
     })?;
     assert!(rt; told.is_empty(), "{told}");
     Ok(())

@@ -117,18 +117,23 @@ fn end_of<'e>(end: RunEnd<'e>, next: RcStep) -> &'e str {
 }
 
 /// The scripts are run or printed: in what that differs from the row; nothing where it doesn't.
-fn end_difference(own: Global, rc: &mut Rc, host: &mut MemoryHost, row: &[&str]) -> Option<String> {
+fn end_difference(
+    global: Global,
+    rc: &mut Rc,
+    host: &mut MemoryHost,
+    row: &[&str],
+) -> Option<String> {
     let [how, _, rooms, end, out, err, calls] = row else {
         return None;
     };
     let (limit, room, told) = rooms_of(rooms)?;
-    let mut lines = Slow::new(own, room, true, *how == "stuck");
-    let mut reports = Reports::to(Slow::new(own, told, true, false));
+    let mut lines = Slow::new(global, room, true, *how == "stuck");
+    let mut reports = Reports::to(Slow::new(global, told, true, false));
     let ended = if how.starts_with("print") {
-        print_links(own, rc, way_of(how), "x", &mut lines)
+        print_links(global, rc, way_of(how), "x", &mut lines)
     } else {
         run_links(
-            own,
+            global,
             rc,
             host,
             way_of(how),
@@ -140,17 +145,17 @@ fn end_difference(own: Global, rc: &mut Rc, host: &mut MemoryHost, row: &[&str])
     };
     let reports = reports.writer().taken.as_slice();
     let got = end_of(ended, rc.next());
-    let made = calls_of(own, host).ok()?;
+    let made = calls_of(global, host).ok()?;
     let lines = lines.taken.as_slice();
-    let told = String::new(own);
-    let told = or_difference(own, told, "standard output", lines, out.as_bytes())?;
-    let told = or_difference(own, told, "standard error", reports, err.as_bytes())?;
-    let told = or_difference(own, told, "its end", got.as_bytes(), end.as_bytes())?;
-    or_difference(own, told, "its calls", made.as_slice(), calls.as_bytes())
+    let told = String::new(global);
+    let told = or_difference(global, told, "standard output", lines, out.as_bytes())?;
+    let told = or_difference(global, told, "standard error", reports, err.as_bytes())?;
+    let told = or_difference(global, told, "its end", got.as_bytes(), end.as_bytes())?;
+    or_difference(global, told, "its calls", made.as_slice(), calls.as_bytes())
 }
 
-fn run_difference(own: Global, row: &str) -> Option<String> {
-    let fields = fields_of(own, row).ok()?;
+fn run_difference(global: Global, row: &str) -> Option<String> {
+    let fields = fields_of(global, row).ok()?;
     let [how, given, .., calls] = fields.as_slice() else {
         return None;
     };
@@ -159,22 +164,22 @@ fn run_difference(own: Global, row: &str) -> Option<String> {
         "timed" => ("S10a", "x/S10a start"),
         _ => ("S10a K05c", "sh x/K05c stop"),
     };
-    let names = line_words(own, names).ok()?;
-    let mut host = given_host(own, given)?;
-    let mut rc = rc_over(own, own, "", &[], &names).ok()?;
+    let names = line_words(global, names).ok()?;
+    let mut host = given_host(global, given)?;
+    let mut rc = rc_over(global, global, "", &[], &names).ok()?;
     if *how == "asked" {
         let _ = rc.next();
     }
-    let told = end_difference(own, &mut rc, &mut host, fields.as_slice())?;
+    let told = end_difference(global, &mut rc, &mut host, fields.as_slice())?;
     if told.is_empty() && !calls.is_empty() && !begins_with(&host, command) {
-        return format!(in own; "its first call doesn't start {command}").ok();
+        return format!(in global; "its first call doesn't start {command}").ok();
     }
     Some(told)
 }
 
 #[test]
 fn scripts_are_run_and_printed(rt: HostRuntime) -> Result<(), Fail> {
-    let told = first_difference(rt.alloc(), ROWS, |own, row| run_difference(own, row))?;
+    let told = first_difference(rt.alloc(), ROWS, |global, row| run_difference(global, row))?;
     assert!(rt; told.is_empty(), "{told}");
     Ok(())
 }

@@ -26,11 +26,11 @@ pub(crate) const END: &[u8] = b"### END INIT INFO\n";
 
 /// The text of a header.
 pub(crate) fn header_of<A: Allocator + Copy>(
-    own: Global,
+    global: Global,
     alloc: A,
     text: &[u8],
 ) -> Result<Box<Header<A>>, HeaderFault> {
-    match boxed(own, rc_header::read(alloc, text)?) {
+    match boxed(global, rc_header::read(alloc, text)?) {
         Ok(header) => Ok(header),
         Err(_) => Err(HeaderFault::Memory),
     }
@@ -47,8 +47,8 @@ fn add_words<A: Allocator>(text: &mut Vec<u8>, words: &[String<A>]) -> Result<()
 }
 
 /// The nine fields of a header, each ended by a slash but the last.
-pub(crate) fn shown<A: Allocator>(own: Global, header: &Header<A>) -> Result<Vec<u8>, Memory> {
-    let mut text = Vec::new(own);
+pub(crate) fn shown<A: Allocator>(global: Global, header: &Header<A>) -> Result<Vec<u8>, Memory> {
+    let mut text = Vec::new(global);
     add_words(&mut text, header.provides())?;
     add_words(&mut text, header.required_start())?;
     add_words(&mut text, header.required_stop())?;
@@ -67,8 +67,8 @@ pub(crate) fn shown<A: Allocator>(own: Global, header: &Header<A>) -> Result<Vec
 }
 
 /// Texts one behind another.
-pub(crate) fn joined(own: Global, texts: &[&[u8]]) -> Result<Vec<u8>, Memory> {
-    let mut all = Vec::new(own);
+pub(crate) fn joined(global: Global, texts: &[&[u8]]) -> Result<Vec<u8>, Memory> {
+    let mut all = Vec::new(global);
     for text in texts {
         all.extend_from_slice(text)?;
     }

@@ -28,7 +28,7 @@ pub(crate) const BRIEF: &[u8] =
 fn run_of(alloc: Global) -> Result<Box<RunWords>, Fail> {
     let words = line_words(alloc, "run --level 3 --turns 3")?;
     match read_words(alloc, words.as_slice()) {
-        Ok(Words::Run(said)) => Ok(boxed(alloc, said)?),
+        Ok(Words::Run(arguments)) => Ok(boxed(alloc, arguments)?),
         _ => Err(Fail::from("no run")),
     }
 }
@@ -41,21 +41,21 @@ fn opening_of(alloc: Global) -> Result<Opening, Fail> {
 /// What is left of the log behind the turns.
 fn left_of<L: EndedLog + Drop>(rt: &HostRuntime, log: L) -> Result<L::Left, Fail> {
     let alloc = rt.alloc();
-    let said = run_of(alloc)?;
+    let arguments = run_of(alloc)?;
     let opening = opening_of(alloc)?;
     // The child lives where nothing else is answered.
     let host = host_of(alloc, alloc, "start birth 10").ok_or("no host")?;
     let mut err = Reports::to(Vec::<u8>::new(alloc));
-    let (_, _, left) = make_turns(
+    let (_, _, log_end) = make_turns(
         rt,
         alloc,
-        &said,
+        &arguments,
         opening,
         Box::into_inner(host),
         log,
         &mut err,
     );
-    Ok(left)
+    Ok(log_end)
 }
 
 /// The writer that is left has the trace, or its brief form.

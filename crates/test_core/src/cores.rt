@@ -44,8 +44,8 @@ fn why_text(why: WhyAwaited) -> &'static str {
 }
 
 /// The text is that of the child: `ID NUMBER WHY`.
-fn is_text_of(awaited: &Awaited, said: &str) -> Option<bool> {
-    let (id, rest) = said.split_once(' ')?;
+fn is_text_of(awaited: &Awaited, value: &str) -> Option<bool> {
+    let (id, rest) = value.split_once(' ')?;
     let (number, why) = rest.split_once(' ')?;
     Some(
         id.as_bytes() == awaited.id.as_bytes()
@@ -56,41 +56,41 @@ fn is_text_of(awaited: &Awaited, said: &str) -> Option<bool> {
 
 /// The core awaits the end of just the children of the text, in their order.
 fn awaits<A: Allocator>(core: &Core<A>, text: &str) -> bool {
-    let mut left = AwaitedChildren::of(core);
-    for said in text.split(", ") {
-        let is_said = match left.next() {
-            Some(awaited) => is_text_of(&awaited, said) == Some(true),
-            None => said == "none",
+    let mut remaining = AwaitedChildren::of(core);
+    for value in text.split(", ") {
+        let is_said = match remaining.next() {
+            Some(awaited) => is_text_of(&awaited, value) == Some(true),
+            None => value == "none",
         };
         if !is_said {
             return false;
         }
     }
-    left.next().is_none()
+    remaining.next().is_none()
 }
 
 /// Whether a reader gives what its line says; none where the line is no reader's.
 fn gives<A: Allocator>(core: &Core<A>, line: &str) -> Option<bool> {
-    let (reader, said) = line.split_once(' ').unwrap_or((line, ""));
+    let (reader, value) = line.split_once(' ').unwrap_or((line, ""));
     match reader {
         "busy" => Some(!core.drained()),
         "drained" => Some(core.drained()),
-        "awaits" => Some(awaits(core, said)),
-        "stage" => Some(core.stage() == read_stage(said.as_bytes())),
+        "awaits" => Some(awaits(core, value)),
+        "stage" => Some(core.stage() == read_stage(value.as_bytes())),
         "goal" => {
-            let (level, secs) = said.split_once(' ')?;
+            let (level, secs) = value.split_once(' ')?;
             let level = read_level(level.as_bytes())?;
             let grace = secs.parse::<u16>().ok()?;
             Some(core.goal() == Goal { level, grace })
         }
         "last" => {
-            let (id, code) = said.split_once(' ')?;
+            let (id, code) = value.split_once(' ')?;
             let end = code.parse::<u8>().ok().map(Status::Exit);
             Some(core.last(&Id::read(id.as_bytes())?) == end)
         }
-        "time" => Some(said.parse::<u64>().ok() == Some(core.time())),
-        "entries" => Some(said.parse::<usize>().ok() == Some(core.table().len())),
-        "records" => Some(said.parse::<usize>().ok() == Some(core.slots().len())),
+        "time" => Some(value.parse::<u64>().ok() == Some(core.time())),
+        "entries" => Some(value.parse::<usize>().ok() == Some(core.table().len())),
+        "records" => Some(value.parse::<usize>().ok() == Some(core.slots().len())),
         _ => None,
     }
 }

@@ -75,8 +75,8 @@ fn codes_of(slot: &Record) -> [u8; 8] {
     ]
 }
 
-fn is_shown(slot: &Record, said: &str) -> bool {
-    let (id, codes) = said.split_once(' ').unwrap_or((said, ""));
+fn is_shown(slot: &Record, value: &str) -> bool {
+    let (id, codes) = value.split_once(' ').unwrap_or((value, ""));
     id.as_bytes() == slot.id().as_bytes() && codes.as_bytes() == codes_of(slot).as_slice()
 }
 
@@ -85,56 +85,56 @@ fn shows<A: Allocator>(slots: &Records<A>, text: &str) -> bool {
     if slots.as_slice().is_empty() {
         return text == "none";
     }
-    let mut left = text.split(", ");
+    let mut remaining = text.split(", ");
     for slot in slots.as_slice() {
-        match left.next() {
-            Some(said) if is_shown(slot, said) => {}
+        match remaining.next() {
+            Some(value) if is_shown(slot, value) => {}
             _ => return false,
         }
     }
-    left.next().is_none()
+    remaining.next().is_none()
 }
 
 /// The starts that are counted are at these times.
 fn has_starts(slot: &Record, times: &str) -> bool {
-    let mut left = slot.starts().iter();
+    let mut remaining = slot.starts().iter();
     for time in times.split(' ') {
-        if left.next().copied() != time.parse::<u64>().ok() {
+        if remaining.next().copied() != time.parse::<u64>().ok() {
             return false;
         }
     }
-    left.next().is_none()
+    remaining.next().is_none()
 }
 
 /// Whether a record has what the reader's line says; none where the line is no reader's.
-fn has(slot: &Record, reader: &str, said: &str) -> Option<bool> {
+fn has(slot: &Record, reader: &str, value: &str) -> Option<bool> {
     match reader {
-        "number" => Some(slot.child() == Some(ChildNumber(said.parse::<u32>().ok()?))),
-        "starts" => Some(has_starts(slot, said)),
-        "held" => Some(slot.held_until() == said.parse::<u64>().ok()),
-        "last" => Some(slot.last() == Some(Status::Exit(said.parse::<u8>().ok()?))),
+        "number" => Some(slot.child() == Some(ChildNumber(value.parse::<u32>().ok()?))),
+        "starts" => Some(has_starts(slot, value)),
+        "held" => Some(slot.held_until() == value.parse::<u64>().ok()),
+        "last" => Some(slot.last() == Some(Status::Exit(value.parse::<u8>().ok()?))),
         _ => None,
     }
 }
 
 /// Whether a reader gives what its line says; none where the line is no reader's.
 fn gives<A: Allocator>(slots: &Records<A>, line: &str) -> Option<bool> {
-    let (reader, said) = line.split_once(' ').unwrap_or((line, ""));
+    let (reader, value) = line.split_once(' ').unwrap_or((line, ""));
     match reader {
         "quiet" => Some(slots.quiet()),
         "busy" => Some(!slots.quiet()),
         "due" => Some(slots.has_due()),
-        "none" => Some(said == "due" && !slots.has_due()),
-        "termed" => Some(slots.first_termed() == said.parse::<u64>().ok()),
+        "none" => Some(value == "due" && !slots.has_due()),
+        "termed" => Some(slots.first_termed() == value.parse::<u64>().ok()),
         "child" => {
-            let (number, id) = said.split_once(' ').unwrap_or((said, ""));
+            let (number, id) = value.split_once(' ').unwrap_or((value, ""));
             let number = ChildNumber(number.parse::<u32>().ok()?);
             Some(slots.by_child(number) == Id::read(id.as_bytes()))
         }
-        "shows" => Some(shows(slots, said)),
+        "shows" => Some(shows(slots, value)),
         _ => {
-            let (id, said) = said.split_once(' ')?;
-            has(slots.by_id(&Id::read(id.as_bytes())?)?, reader, said)
+            let (id, value) = value.split_once(' ')?;
+            has(slots.by_id(&Id::read(id.as_bytes())?)?, reader, value)
         }
     }
 }

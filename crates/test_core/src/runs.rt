@@ -39,11 +39,11 @@ pub(crate) fn stray_line<'r, A: Allocator + Copy, S: Subject<A>>(
     run: &'r str,
 ) -> Option<(usize, &'r str)> {
     let mut count = 0usize;
-    for said in run.split(" / ") {
+    for step in run.split(" / ") {
         count = count.saturating_add(1);
-        let (line, refusal) = said.split_once(" ! ").unwrap_or((said, ""));
+        let (line, refusal) = step.split_once(" ! ").unwrap_or((step, ""));
         if !subject.goes(global, alloc, line, want_of(refusal)) {
-            return Some((count, said));
+            return Some((count, step));
         }
     }
     if subject.rests() {
@@ -71,8 +71,8 @@ pub(crate) fn stray_text(
 ) -> Option<String> {
     match stray {
         None => Some(String::new(global)),
-        Some((number, said)) => {
-            format!(in global; "{what}, line {number}, goes otherwise: {said}").ok()
+        Some((number, step)) => {
+            format!(in global; "{what}, line {number}, goes otherwise: {step}").ok()
         }
     }
 }

@@ -152,8 +152,8 @@ fn are_fields(fields: &CoreFields, want: &CoreFields) -> bool {
         && fields.pending == want.pending
 }
 
-fn is_kept(record: &PlainRecord, kept: &Kept) -> bool {
-    let (id, of_child, flags, of_end, starts) = *kept;
+fn is_kept(record: &PlainRecord, want: &Kept) -> bool {
+    let (id, of_child, flags, of_end, starts) = *want;
     let child = match record.child {
         Some(ChildNumber(number)) => Some(number),
         None => None,
@@ -165,13 +165,13 @@ fn is_kept(record: &PlainRecord, kept: &Kept) -> bool {
         && record.starts.as_slice() == starts
 }
 
-fn are_parts(parts: &Parts, fields: &CoreFields, kept: &[Kept]) -> bool {
-    for (record, kept) in parts.records.iter().zip(kept) {
-        if !is_kept(record, kept) {
+fn are_parts(parts: &Parts, fields: &CoreFields, rows: &[Kept]) -> bool {
+    for (record, want) in parts.records.iter().zip(rows) {
+        if !is_kept(record, want) {
             return false;
         }
     }
-    are_fields(&parts.fields, fields) && parts.records.len() == kept.len()
+    are_fields(&parts.fields, fields) && parts.records.len() == rows.len()
 }
 
 /// The lines of a version, what they say: the fields, the table and the records.
@@ -188,12 +188,12 @@ const SAID: &[Said] = &[
     (2, BUSY, BUSY_HEADS, BUSY_TABLE, BUSY_RECORDS),
 ];
 
-fn is_said(global: Global, said: &Said) -> Result<bool, StateFault> {
-    let (version, lines, fields, table, kept) = said;
+fn is_said(global: Global, row: &Said) -> Result<bool, StateFault> {
+    let (version, lines, fields, table, rows) = row;
     let text = text_of(global, *version, fields.generation, lines)?;
     let parts = parts_of(global, global, text.as_bytes(), fields.generation)?;
     let written = inittab_text::write(global, &parts.table)?;
-    Ok(are_parts(&parts, fields, kept) && written.as_slice() == table.as_bytes())
+    Ok(are_parts(&parts, fields, rows) && written.as_slice() == table.as_bytes())
 }
 
 /// An inittab, what a core over it does, where it does anything, and the fields at which it is then, or others; and the lines
@@ -217,8 +217,8 @@ fn is_written(global: Global, written: &Written) -> Option<bool> {
 
 #[test]
 fn values_are_read_and_written(rt: HostRuntime) {
-    for said in SAID {
-        assert!(rt; is_said(rt.alloc(), said) == Ok(true), "{}", said.1);
+    for row in SAID {
+        assert!(rt; is_said(rt.alloc(), row) == Ok(true), "{}", row.1);
     }
     for written in WRITTEN {
         assert!(rt;

@@ -156,8 +156,13 @@ struct Want {
 }
 
 /// Adds what becomes of a line of a part, by its number.
-fn add_said(want: &mut Want, position: usize, number: usize, said: &[u8]) -> Result<(), Fail> {
-    match said {
+fn add_outcome(
+    want: &mut Want,
+    position: usize,
+    number: usize,
+    outcome: &[u8],
+) -> Result<(), Fail> {
+    match outcome {
         [] => {}
         [b'!', fault @ ..] => {
             let fault = str::from_utf8(fault)?;
@@ -167,7 +172,7 @@ fn add_said(want: &mut Want, position: usize, number: usize, said: &[u8]) -> Res
             )?;
         }
         _ => {
-            want.written.extend_from_slice(said)?;
+            want.written.extend_from_slice(outcome)?;
             want.written.push(b'\n')?;
         }
     }
@@ -178,12 +183,12 @@ fn add_said(want: &mut Want, position: usize, number: usize, said: &[u8]) -> Res
 fn add_part(alloc: Global, want: &mut Want, position: usize, text: &[u8]) -> Result<(), Fail> {
     let mut bytes = Vec::new(alloc);
     for (at, line) in text.split(|byte| *byte == b'\n').enumerate() {
-        let (line, said) = cut(b'>', line).unwrap_or((line, line));
+        let (line, outcome) = cut(b'>', line).unwrap_or((line, line));
         if at > 0 {
             bytes.push(b'\n')?;
         }
         bytes.extend_from_slice(line)?;
-        add_said(want, position, at.saturating_add(1), said)?;
+        add_outcome(want, position, at.saturating_add(1), outcome)?;
     }
     want.parts.push(part_of(alloc, "part", &bytes)?)?;
     Ok(())
@@ -231,13 +236,19 @@ fn table_difference<T: Display>(
     let report = report_of(alloc, faults)?;
     let lines = want.written.split(|byte| *byte == b'\n').count();
     let got = head_text(alloc, table.len(), table.default_level())?;
-    let said = head_text(alloc, lines.saturating_sub(1), want.level)?;
+    let wanted_head = head_text(alloc, lines.saturating_sub(1), want.level)?;
     let (table, wanted) = (written.as_slice(), want.written.as_slice());
     let (report, faults) = (report.as_bytes(), want.faults.as_bytes());
     let told = String::new(alloc);
     let told = or_difference(alloc, told, "its table", table, wanted)?;
     let told = or_difference(alloc, told, "its faults", report, faults)?;
-    Ok(or_difference(alloc, told, "the table", got.as_bytes(), said.as_bytes())?)
+    Ok(or_difference(
+        alloc,
+        told,
+        "the table",
+        got.as_bytes(),
+        wanted_head.as_bytes(),
+    )?)
 }
 
 fn parts_difference(alloc: Global, want: &Want) -> Result<String, Fail> {

@@ -58,8 +58,8 @@ fn goes(global: Global, side: &mut SimulatedSystem, line: &str) -> Option<bool> 
         let (id, answer) = answer_of(&happening_of(global, owed)?)?;
         return Some(side.answer(&id) == Some(answer));
     }
-    let (said, why) = line.split_once(" ! ").unwrap_or((line, ""));
-    let happening = happening_of(global, said)?;
+    let (event_line, why) = line.split_once(" ! ").unwrap_or((line, ""));
+    let happening = happening_of(global, event_line)?;
     if !why.is_empty() {
         return is_refused(global, side, &happening, why);
     }

@@ -313,16 +313,16 @@ const SIZES: [usize; 7] = [1, 2, 3, 4, 7, 20, 1000];
 
 #[test]
 fn a_text_is_judged_however_it_is_cut(rt: HostRuntime) {
-    for (text, said, left) in TEXTS {
+    for (text, finding, open_line) in TEXTS {
         for size in SIZES {
             let got = found_of(rt.alloc(), text, size);
             let is_so = match &got {
-                Some((found, at)) => found.as_str() == *said && *at == *left,
+                Some((found, at)) => found.as_str() == *finding && *at == *open_line,
                 None => false,
             };
             assert!(rt;
                 is_so,
-                "pieces of {size} of {text:?}: {got:?}, not {said:?}, {left}"
+                "pieces of {size} of {text:?}: {got:?}, not {finding:?}, {open_line}"
             );
         }
     }

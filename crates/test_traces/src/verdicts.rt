@@ -208,8 +208,8 @@ fn text_difference(global: Global, text: &str, want: &str) -> Option<String> {
 pub(crate) fn verdict_difference(global: Global, row: &str) -> Option<String> {
     let (trace, verdicts) = row.split_once("| ")?;
     let lines = lines_of(global, trace.trim_ascii_end(), " / ").ok()?;
-    for (change, said) in CHANGES.iter().zip(verdicts.split(" | ")) {
-        for (position, want) in said.split(' ').enumerate() {
+    for (change, verdicts_of) in CHANGES.iter().zip(verdicts.split(" | ")) {
+        for (position, want) in verdicts_of.split(' ').enumerate() {
             let text = changed(global, lines.as_str(), position, *change).ok()?;
             let told = text_difference(global, text.as_str(), want)?;
             if !told.is_empty() {
@@ -242,7 +242,7 @@ fn both_of(global: Global, row: &str) -> Option<(Vec<HappeningIn<Global>>, Strin
 /// What is otherwise than a row says: the brief form of its trace, or the verdict on either and how many happenings are
 /// held back at the end; nothing where nothing is.
 pub(crate) fn brief_difference(global: Global, row: &str) -> Option<String> {
-    let (said, trace) = row.split_once(" | ")?;
+    let (verdict, trace) = row.split_once(" | ")?;
     let (trace, brief) = both_of(global, trace)?;
     let (list, all) = finished(ListLog::new(global), &trace);
     let text = trace_text::print(global, list.as_slice()).ok()?;
@@ -267,7 +267,7 @@ pub(crate) fn brief_difference(global: Global, row: &str) -> Option<String> {
         told,
         "its verdicts",
         got.as_bytes(),
-        said.as_bytes(),
+        verdict.as_bytes(),
     )
     .ok()
 }

@@ -58,12 +58,16 @@ impl HeldBack {
     {
         match &self.look {
             None => self.hold_first(happening),
-            Some(HeldLook::Ordered(own)) => match happening {
-                Happening::Still(id) => self.if_same(id, own, Some(HeldLook::FoundNothing(*own))),
+            Some(HeldLook::Ordered(looked)) => match happening {
+                Happening::Still(id) => self.if_same(
+                    id,
+                    looked,
+                    Some(HeldLook::FoundNothing(*looked)),
+                ),
                 _ => None,
             },
-            Some(HeldLook::FoundNothing(own)) => match happening {
-                Happening::Told(id) => self.if_same(id, own, None),
+            Some(HeldLook::FoundNothing(looked)) => match happening {
+                Happening::Told(id) => self.if_same(id, looked, None),
                 _ => None,
             },
         }
@@ -94,11 +98,11 @@ impl HeldBack {
     }
 
     /// With this look in place of the one that is held, where the two ids are one.
-    fn if_same(&self, id: &Id, own: &Id, look: Option<HeldLook>) -> Option<HeldBack>
-        ensures { result ≡ if same_id id.now own.now
+    fn if_same(&self, id: &Id, looked: &Id, look: Option<HeldLook>) -> Option<HeldBack>
+        ensures { result ≡ if same_id id.now looked.now
             then Some (record self.now { look = look }) else None }
     {
-        if *id == *own {
+        if *id == *looked {
             Some(self.with_look(look))
         } else {
             None

@@ -25,14 +25,14 @@ keeps_call letter.C pending = pending.c
 
 -- the news where one kind, or one letter, is kept or no more
 abbrev pub with_kind : PowerKind → Bool → CallSet → CallSet
-with_kind power.Fail kept pending = record pending { fail = kept }
-with_kind power.FailNow kept pending = record pending { fail_now = kept }
-with_kind power.Ok kept pending = record pending { ok = kept }
+with_kind power.Fail present pending = record pending { fail = present }
+with_kind power.FailNow present pending = record pending { fail_now = present }
+with_kind power.Ok present pending = record pending { ok = present }
 
 abbrev pub with_call : Letter → Bool → CallSet → CallSet
-with_call letter.A kept pending = record pending { a = kept }
-with_call letter.B kept pending = record pending { b = kept }
-with_call letter.C kept pending = record pending { c = kept }
+with_call letter.A present pending = record pending { a = present }
+with_call letter.B present pending = record pending { b = present }
+with_call letter.C present pending = record pending { c = present }
 
 -- something is kept
 abbrev pub has_news : CallSet → Bool

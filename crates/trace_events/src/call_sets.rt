@@ -57,24 +57,24 @@ impl CallSet {
     }
 
     /// News of that kind is in it from here on, or no more.
-    pub fn set_power(&mut self, kind: PowerKind, kept: bool)
-        ensures { self.new ≡ with_kind kind kept self.old }
+    pub fn set_power(&mut self, kind: PowerKind, present: bool)
+        ensures { self.new ≡ with_kind kind present self.old }
     {
         match kind {
-            PowerKind::Fail => self.fail = kept,
-            PowerKind::FailNow => self.fail_now = kept,
-            PowerKind::Ok => self.ok = kept,
+            PowerKind::Fail => self.fail = present,
+            PowerKind::FailNow => self.fail_now = present,
+            PowerKind::Ok => self.ok = present,
         }
     }
 
     /// The letter is in it from here on, or no more.
-    pub fn set_letter(&mut self, letter: Letter, kept: bool)
-        ensures { self.new ≡ with_call letter kept self.old }
+    pub fn set_letter(&mut self, letter: Letter, present: bool)
+        ensures { self.new ≡ with_call letter present self.old }
     {
         match letter {
-            Letter::A => self.a = kept,
-            Letter::B => self.b = kept,
-            Letter::C => self.c = kept,
+            Letter::A => self.a = present,
+            Letter::B => self.b = present,
+            Letter::C => self.c = present,
         }
     }
 }

@@ -16,55 +16,57 @@ use Rattle.trace_files.specs.Filed.{Adds, Filed, HasText, HoldsLook, IsStill, Kn
 use Rattle.trace_files.specs.Filed.{filed_state}
 
 -- files that have the whole text lack nothing
-lacks_none : (trace : List Event) (bytes kept : List ℕ) → bytes ++ kept ≡ trace_text trace → kept ≡ []
-    → LacksLooks trace bytes kept
-lacks_none trace bytes kept whole none = record {
+lacks_none : (trace : List Event) (bytes unwritten : List ℕ) → bytes ++ unwritten ≡ trace_text trace → unwritten ≡ []
+    → LacksLooks trace bytes unwritten
+lacks_none trace bytes unwritten whole none = record {
   written = trace;
   held = [];
   all = append-nil trace;
   of_files = sym whole ∙ ap (λ text. bytes ++ text) none ∙ append-nil bytes;
-  of_kept = sym none;
+  of_unwritten = sym none;
   idle = refl;
 }
 
 -- a happening more
-lacks_more : (trace : List Event) (bytes kept : List ℕ) (h : Event) → is_of_idle_look h ≡ true
-    → LacksLooks trace bytes kept → LacksLooks (trace ++ h ∷ []) bytes (kept ++ event_text h)
-lacks_more trace bytes kept h idle lacks = record {
+lacks_more : (trace : List Event) (bytes unwritten : List ℕ) (h : Event) → is_of_idle_look h ≡ true
+    → LacksLooks trace bytes unwritten → LacksLooks (trace ++ h ∷ []) bytes (unwritten ++ event_text h)
+lacks_more trace bytes unwritten h idle lacks = record {
   written = lacks.written;
   held = lacks.held ++ h ∷ [];
   all = sym (append_assoc lacks.written lacks.held (h ∷ [])) ∙ ap (λ all. all ++ h ∷ []) lacks.all;
   of_files = lacks.of_files;
-  of_kept = trace_text-push lacks.held h ∙ ap (λ text. text ++ event_text h) lacks.of_kept;
+  of_unwritten = trace_text-push lacks.held h ∙ ap (λ text. text ++ event_text h) lacks.of_unwritten;
   idle = list_all-append is_of_idle_look lacks.held (h ∷ []) ∙ and_from (list_all is_of_idle_look lacks.held)
       (is_of_idle_look h && true) lacks.idle (and_from (is_of_idle_look h) true idle refl);
 }
 
-moved : (old new : Option (List ℕ)) (before after : Bool) (kept rest : List ℕ) (trace : List Event)
-    → Keeps (append_known old kept) (append_known new rest)
-    → (after ≡ false → rest ≡ []) → KnowsText before trace old kept → KnowsText after trace new rest
-moved None new before after kept rest trace same empties has = absurd has
-moved (Some xs) None before after kept rest trace same empties has = absurd same
-moved (Some xs) (Some ys) before after kept rest trace same empties has = record {
+moved : (old new : Option (List ℕ)) (before after : Bool) (unwritten rest : List ℕ) (trace : List Event)
+    → Keeps (append_known old unwritten) (append_known new rest)
+    → (after ≡ false → rest ≡ []) → KnowsText before trace old unwritten → KnowsText after trace new rest
+moved None new before after unwritten rest trace same empties has = absurd has
+moved (Some xs) None before after unwritten rest trace same empties has = absurd same
+moved (Some xs) (Some ys) before after unwritten rest trace same empties has = record {
   ranged = has.ranged;
   whole = same ∙ has.whole;
   lacks = λ works. lacks_none trace ys rest (same ∙ has.whole) (empties works);
 }
 
-stood : (old new : Option (List ℕ)) (refused : Bool) (kept : List ℕ) (trace : List Event) → Keeps old new
-    → KnowsText refused trace old kept → KnowsText refused trace new kept
-stood None new refused kept trace same has = absurd has
-stood (Some xs) None refused kept trace same has = absurd same
-stood (Some xs) (Some ys) refused kept trace same has = subst (λ bytes. HasText refused trace bytes kept) (sym same) has
+stood : (old new : Option (List ℕ)) (refused : Bool) (unwritten : List ℕ) (trace : List Event) → Keeps old new
+    → KnowsText refused trace old unwritten → KnowsText refused trace new unwritten
+stood None new refused unwritten trace same has = absurd has
+stood (Some xs) None refused unwritten trace same has = absurd same
+stood (Some xs) (Some ys) refused unwritten trace same has =
+    subst (λ bytes. HasText refused trace bytes unwritten) (sym same) has
 
-added : (old new : Option (List ℕ)) (before after : Bool) (kept rest : List ℕ) (h : Event) (trace : List Event)
-    → is_in_range h ≡ true → Appends (append_known old kept) (append_known new rest) (event_text h)
+added : (old new : Option (List ℕ)) (before after : Bool) (unwritten rest : List ℕ) (h : Event) (trace : List Event)
+    → is_in_range h ≡ true → Appends (append_known old unwritten) (append_known new rest) (event_text h)
     → (after ≡ false
-    → (rest ≡ []) ⊎ (Keeps old new × (is_of_idle_look h ≡ true) × (rest ≡ kept ++ event_text h) × (after ≡ before)))
-    → KnowsText before trace old kept → KnowsText after (trace ++ h ∷ []) new rest
-added None new before after kept rest h trace ranged grown held has = absurd has
-added (Some xs) None before after kept rest h trace ranged grown held has = absurd grown
-added (Some xs) (Some ys) before after kept rest h trace ranged grown held has = record {
+    → (rest ≡ [])
+    ⊎ (Keeps old new × (is_of_idle_look h ≡ true) × (rest ≡ unwritten ++ event_text h) × (after ≡ before)))
+    → KnowsText before trace old unwritten → KnowsText after (trace ++ h ∷ []) new rest
+added None new before after unwritten rest h trace ranged grown held has = absurd has
+added (Some xs) None before after unwritten rest h trace ranged grown held has = absurd grown
+added (Some xs) (Some ys) before after unwritten rest h trace ranged grown held has = record {
   ranged = are_in_range-push trace h has.ranged ranged;
   whole = whole;
   lacks = λ works. by works (held works);
@@ -73,27 +75,27 @@ added (Some xs) (Some ys) before after kept rest h trace ranged grown held has =
     whole : ys ++ rest ≡ trace_text (trace ++ h ∷ [])
     whole = grown ∙ ap (λ text. text ++ event_text h) has.whole ∙ sym (trace_text-push trace h)
 
-    by : after ≡ false → (rest ≡ []) ⊎ ((ys ≡ xs) × (is_of_idle_look h ≡ true) × (rest ≡ kept ++ event_text h)
+    by : after ≡ false → (rest ≡ []) ⊎ ((ys ≡ xs) × (is_of_idle_look h ≡ true) × (rest ≡ unwritten ++ event_text h)
         × (after ≡ before)) → LacksLooks (trace ++ h ∷ []) ys rest
     by works (inl none) = lacks_none (trace ++ h ∷ []) ys rest whole none
     by works (inr (same, idle, text, is)) =
         subst (λ bytes. LacksLooks (trace ++ h ∷ []) bytes rest) (sym same)
-        (subst (λ kept. LacksLooks (trace ++ h ∷ []) xs kept) (sym text)
-        (lacks_more trace xs kept h idle (has.lacks (sym is ∙ works))))
+        (subst (λ unwritten. LacksLooks (trace ++ h ∷ []) xs unwritten) (sym text)
+        (lacks_more trace xs unwritten h idle (has.lacks (sym is ∙ works))))
 
 module _ {S : Type 0} (contents : S → Option (List ℕ)) where
   abbrev Knows : Filed S → List Event → Type 0
-  Knows log trace = KnowsText log.refused trace (contents log.files) log.kept
+  Knows log trace = KnowsText log.refused trace (contents log.files) log.unwritten
 
   knows_moved : (old new : Filed S) (trace : List Event) → Moves contents old new → Knows old trace → Knows new trace
   knows_moved old new trace moves = moved (contents old.files)
-      (contents new.files) old.refused new.refused old.kept new.kept trace moves.all moves.empties
+      (contents new.files) old.refused new.refused old.unwritten new.unwritten trace moves.all moves.empties
 
   knows_still : (old new : Filed S) (trace : List Event) → IsStill contents old new → Knows old trace → Knows new trace
   knows_still old new trace still has =
-      subst (λ kept. KnowsText new.refused trace (contents new.files) kept) (sym still.kept)
-      (subst (λ refused. KnowsText refused trace (contents new.files) old.kept) (sym still.refused)
-      (stood (contents old.files) (contents new.files) old.refused old.kept trace still.files has))
+      subst (λ unwritten. KnowsText new.refused trace (contents new.files) unwritten) (sym still.unwritten)
+      (subst (λ refused. KnowsText refused trace (contents new.files) old.unwritten) (sym still.refused)
+      (stood (contents old.files) (contents new.files) old.refused old.unwritten trace still.files has))
 
   knows_may : (old new : Filed S) (trace : List Event) → MayMove contents old new → Knows old trace → Knows new trace
   knows_may old new trace (inl moves) = knows_moved old new trace moves
@@ -102,14 +104,15 @@ module _ {S : Type 0} (contents : S → Option (List ℕ)) where
   knows_added : (old new : Filed S) (h : Event) (trace : List Event) → is_in_range h ≡ true → Adds contents old new h
       → Knows old trace → Knows new (trace ++ h ∷ [])
   knows_added old new h trace ranged adds =
-      added (contents old.files) (contents new.files) old.refused new.refused old.kept new.kept h trace ranged adds.all
+      added (contents old.files)
+      (contents new.files) old.refused new.refused old.unwritten new.unwritten h trace ranged adds.all
       (λ works. by (adds.held works))
     where
-      by : (new.kept ≡ []) ⊎ HoldsLook contents old new h
-          → (new.kept ≡ []) ⊎ (Keeps (contents old.files) (contents new.files) × (is_of_idle_look h ≡ true)
-          × (new.kept ≡ old.kept ++ event_text h) × (new.refused ≡ old.refused))
+      by : (new.unwritten ≡ []) ⊎ HoldsLook contents old new h
+          → (new.unwritten ≡ []) ⊎ (Keeps (contents old.files) (contents new.files) × (is_of_idle_look h ≡ true)
+          × (new.unwritten ≡ old.unwritten ++ event_text h) × (new.refused ≡ old.refused))
       by (inl none) = inl none
-      by (inr holds) = inr (holds.files, holds.idle, holds.kept, holds.refused)
+      by (inr holds) = inr (holds.files, holds.idle, holds.unwritten, holds.refused)
 
   -- ---- a happening that was taken, or not
 
@@ -129,7 +132,7 @@ module _ {S : Type 0} (contents : S → Option (List ℕ)) where
   taken_ok (Err e) old new log h failed is written = tt
 
   pub still_refl : (log : Filed S) → IsStill contents log log
-  still_refl log = record { files = Keeps-refl (contents log.files); kept = refl; refused = refl; failed = refl }
+  still_refl log = record { files = Keeps-refl (contents log.files); unwritten = refl; refused = refl; failed = refl }
 
   -- a happening was added behind what may have moved, and that was told
   pub written_so : (old mid more last new : Filed S) (h : Event) → MayMove contents old mid → Adds contents mid more h

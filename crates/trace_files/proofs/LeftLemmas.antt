@@ -32,9 +32,9 @@ module _ (call : HostCall) (goal : Goal) (world : List Event) (bytes : List ℕ)
     left = leaves_in call goal held past world last idle left;
   }
 
-  pub files_left : (trace : List Event) (kept : List ℕ) → HasText false trace bytes kept → (bytes ≡ [] → ⊥)
+  pub files_left : (trace : List Event) (unwritten : List ℕ) → HasText false trace bytes unwritten → (bytes ≡ [] → ⊥)
       → Leaves call goal (reverse trace) world → LeavesFiles call goal bytes world
-  files_left trace kept has some left =
+  files_left trace unwritten has some left =
       let lacks = has.lacks refl in
       by (reverse lacks.held) (reverse lacks.written) (all_turned lacks.held lacks.idle)
       (ap trace_text (reverse-reverse lacks.written) ∙ lacks.of_files) some

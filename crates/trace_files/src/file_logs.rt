@@ -19,7 +19,7 @@ use trace_log::{EndedLog, Log, LogFault};
 use trace_text::print_one;
 
 /// How many bytes of a trace are kept while its file can't be written.
-const KEPT_LIMIT: usize = 1_048_576;
+const UNWRITTEN_LIMIT: usize = 1_048_576;
 
 /// How many bytes of looks that found nothing are written at once.
 const WRITE_LENGTH: usize = 16_384;
@@ -38,7 +38,7 @@ pub struct FileLog<'a, R, S> {
     alloc: Global,
     path: &'a str,
     files: S,
-    kept: Vec<u8>,
+    unwritten: Vec<u8>,
     /// Why it could not be written last.
     fault: Option<io::Error>,
     /// At which length in bytes a file is put away, and by how much more where that can't be done.
@@ -57,7 +57,7 @@ impl<'a, R, S> Model for FileLog<'a, R, S> {
 
     ghost view = { λ log. record {
       files = log.files;
-      kept = log.kept.items;
+      unwritten = log.unwritten.items;
       refused = is_some log.fault;
       failed = log.failed;
     } };
@@ -75,7 +75,7 @@ impl<'a, R: Eprint, S: TraceFiles> FileLog<'a, R, S> {
     ) -> FileLog<'a, R, S>
         requires { IfSome (S.contents files) (λ bytes. bytes ≡ []) }
         ensures value { result
-            ≡ record { files = files; kept = []; refused = false; failed = false } }
+            ≡ record { files = files; unwritten = []; refused = false; failed = false } }
         ensures nothing { IfSome (S.contents files)
             (λ _. (filed_state S.contents result).taken []) }
     {
@@ -85,7 +85,7 @@ impl<'a, R: Eprint, S: TraceFiles> FileLog<'a, R, S> {
             alloc,
             path,
             files,
-            kept: Vec::new(alloc),
+            unwritten: Vec::new(alloc),
             fault: None,
             put_away_at: step,
             step,
@@ -122,10 +122,10 @@ impl<'a, R: Eprint, S: TraceFiles> FileLog<'a, R, S> {
     {
         let is_idle = match happening {
             Happening::Asked(_, OrderKind::Look) | Happening::Still(_) => true,
-            Happening::Told(_) => !self.kept.is_empty(),
+            Happening::Told(_) => !self.unwritten.is_empty(),
             _ => false,
         };
-        is_idle && self.kept.len() < WRITE_LENGTH
+        is_idle && self.unwritten.len() < WRITE_LENGTH
     }
 
     /// Writes the lines of a happening, or keeps them. Neither is done where too many bytes are kept.
@@ -134,12 +134,12 @@ impl<'a, R: Eprint, S: TraceFiles> FileLog<'a, R, S> {
         ensures err { OnErr result (self.new ≡ self.old) }
     {
         let line = print_one(self.alloc, happening)?;
-        let length = self.kept.len().saturating_add(line.len());
-        if self.fault.is_some() && length > KEPT_LIMIT {
+        let length = self.unwritten.len().saturating_add(line.len());
+        if self.fault.is_some() && length > UNWRITTEN_LIMIT {
             return Err(LogFault::Device);
         }
         let can_wait = self.can_wait(happening);
-        if self.kept.extend_from_slice(&line).is_err() {
+        if self.unwritten.extend_from_slice(&line).is_err() {
             return Err(LogFault::Memory);
         }
         if !can_wait {
@@ -156,8 +156,8 @@ impl<'a, R: Eprint, S: TraceFiles> FileLog<'a, R, S> {
             self.fault = Some(error);
             return;
         }
-        let (count, fault) = write_front(&mut self.files, &self.kept);
-        drop_front(&mut self.kept, count);
+        let (count, fault) = write_front(&mut self.files, &self.unwritten);
+        drop_front(&mut self.unwritten, count);
         self.fault = fault;
     }
 
@@ -297,7 +297,7 @@ impl<R: Eprint, S: TraceFiles> EndedLog for FileLog<'_, R, S> {
             alloc: _,
             path: _,
             files,
-            kept: _,
+            unwritten: _,
             fault: _,
             put_away_at: _,
             step: _,

@@ -11,7 +11,7 @@ ghost use Rattle.trace_files.specs.Left.{LeavesFiles};
 /// Where init is killed at a call, and the log had taken the trace until then, what is so of that trace is so of the one
 /// whose text its files have, if they refused none of it and have some. It does nothing: its contract is the law.
 pub fn law_of_the_files()
-    ensures { (call : HostCall) (goal : Goal) (world trace : List Event) (bytes kept : List ℕ)
-        → HasText false trace bytes kept → bytes ≢ [] → Leaves call goal (reverse trace) world
+    ensures { (call : HostCall) (goal : Goal) (world trace : List Event) (bytes unwritten : List ℕ)
+        → HasText false trace bytes unwritten → bytes ≢ [] → Leaves call goal (reverse trace) world
         → LeavesFiles call goal bytes world }
 {}

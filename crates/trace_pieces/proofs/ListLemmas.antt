@@ -76,11 +76,11 @@ fits_no_more most taken (oldest ∷ front) piece lacks next is full = (
   append_assoc taken (oldest ∷ []) (front ++ (piece ∷ [])),
 )
 
-behind : (most : ℕ) (taken front : List Piece) (piece : Piece) (lacks : Bool) (next : ℕ) (fits : Bool)
+after : (most : ℕ) (taken front : List Piece) (piece : Piece) (lacks : Bool) (next : ℕ) (fits : Bool)
     → IsFront most taken front lacks → nat_le (length (front ++ (piece ∷ []))) most ≡ fits
     → Behind most taken front piece (most_if fits (kept lacks (front ++ (piece ∷ [])) next)) next
-behind most taken front piece lacks next true is fits = fits_still most taken front piece lacks next is fits
-behind most taken front piece lacks next false is full = fits_no_more most taken front piece lacks next is full
+after most taken front piece lacks next true is fits = fits_still most taken front piece lacks next is fits
+after most taken front piece lacks next false is full = fits_no_more most taken front piece lacks next is full
 
 pub run_kept : (most : ℕ) (taken front : List Piece) (lacks : Bool) (next : ℕ) (lengths : List ℕ)
     → IsFront most taken front lacks
@@ -91,7 +91,7 @@ run_kept most taken front lacks next (bytes ∷ lengths) is =
     let piece : Piece = record { number = next; length = Some bytes } in
     let later = numbered (number_behind next) lengths in
     let fits = nat_le (length (front ++ (piece ∷ []))) most in
-    let so_far = behind most taken front piece lacks (number_behind next) fits is refl in
+    let so_far = after most taken front piece lacks (number_behind next) fits is refl in
     let whole : (so_far.0 ++ so_far.1) ++ later ≡ (taken ++ front) ++ (piece ∷ later) =
     rw so_far.5 (grind (arith, append_assoc)) in
     let rises : nat_le next next ≡ true = le-leb next next (search arith) in

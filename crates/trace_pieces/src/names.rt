@@ -70,8 +70,8 @@ fn name_at(path: &[u8]) -> &[u8]
     ensures { result.now ≡ name_at path.now }
 {
     let mut name = path;
-    while let Some((_, behind)) = cut(b'/', name) {
-        name = behind;
+    while let Some((_, after)) = cut(b'/', name) {
+        name = after;
     }
     name
 }
@@ -80,8 +80,8 @@ fn name_at(path: &[u8]) -> &[u8]
 fn number_in(trace: &[u8], name: &[u8]) -> Option<u64>
     ensures { result ≡ number_in trace.now name.now }
 {
-    let behind = name.strip_prefix(trace)?;
-    read_number(behind.strip_prefix(b".")?)
+    let after = name.strip_prefix(trace)?;
+    read_number(after.strip_prefix(b".")?)
 }
 
 /// Adds the number of the piece that has a name, where one has it.
@@ -101,9 +101,9 @@ fn numbers_among(alloc: Global, trace: &[u8], names: &[u8]) -> Result<Vec<u64>, 
 {
     let mut numbers = Vec::new(alloc);
     let mut rest = names;
-    while let Some((name, behind)) = cut(0, rest) {
+    while let Some((name, after)) = cut(0, rest) {
         add_number(&mut numbers, trace, name)?;
-        rest = behind;
+        rest = after;
     }
     add_number(&mut numbers, trace, rest)?;
     Ok(numbers)

@@ -34,7 +34,7 @@ pub struct TraceReader<'a, R> {
     /// The file behind it: nothing is written to this one any more.
     next: Option<File>,
     /// The pieces that are to be read before what stands at the path, the newest first.
-    behind: Vec<Piece>,
+    later: Vec<Piece>,
     pieces: Option<ReadPieces>,
     /// What was before the first of its files was taken away.
     lacks_front: bool,
@@ -65,7 +65,7 @@ impl<'a, R: Files<File = File>> TraceReader<'a, R> {
             file,
             position: 0,
             next: None,
-            behind: Vec::new(alloc),
+            later: Vec::new(alloc),
             pieces: None,
             lacks_front: false,
         }
@@ -123,7 +123,7 @@ impl<'a, R: Files<File = File>> TraceReader<'a, R> {
         let first = pieces.pop().unwrap_or(last);
         let file = open_piece(rt, alloc, path.as_str(), first)?;
         let mut reader = TraceReader::of(rt, alloc, path, file);
-        reader.behind = pieces;
+        reader.later = pieces;
         reader.pieces = Some(ReadPieces {
             first: first.number,
             last: last.number,
@@ -166,17 +166,17 @@ impl<'a, R: Files<File = File>> TraceReader<'a, R> {
 
     /// The pieces of the list behind the one that has the name of a file, the newest first; none where no piece has it. A
     /// file that was taken away is an error, since the pieces behind it may have been, too.
-    fn behind_file(&self, file: &Metadata) -> io::Result<Vec<Piece>> {
+    fn pieces_after(&self, file: &Metadata) -> io::Result<Vec<Piece>> {
         let path = self.path.as_str();
-        let mut behind = Vec::new(self.alloc);
+        let mut later = Vec::new(self.alloc);
         let Some(listed) = listed_pieces(self.rt, self.alloc, path)? else {
-            return Ok(behind);
+            return Ok(later);
         };
         for piece in listed.pieces.iter().rev() {
             if is_piece(self.rt, self.alloc, path, piece.number, file)? {
-                return Ok(behind);
+                return Ok(later);
             }
-            behind.push(*piece)?;
+            later.push(*piece)?;
         }
         if listed.lacks_front && file.nlink() == 0 {
             return Err(is_taken_since());
@@ -185,7 +185,7 @@ impl<'a, R: Files<File = File>> TraceReader<'a, R> {
     }
 
     /// Opens a piece that stood behind the file in the list.
-    fn open_behind(&self, piece: Piece) -> io::Result<File> {
+    fn open_later(&self, piece: Piece) -> io::Result<File> {
         let path = self.path.as_str();
         match open_piece(self.rt, self.alloc, path, piece) {
             Err(error) if error.kind() == ErrorKind::NotFound && self.is_taken(piece)? => {
@@ -211,20 +211,20 @@ impl<'a, R: Files<File = File>> TraceReader<'a, R> {
 
     /// The file that came to stand behind this one; None where that stands at the path itself, or none does yet.
     fn successor(&mut self) -> io::Result<Option<File>> {
-        if let Some(piece) = self.behind.pop() {
-            return self.open_behind(piece).map(Some);
+        if let Some(piece) = self.later.pop() {
+            return self.open_later(piece).map(Some);
         }
         // The list is read behind that, and so has each piece between the two.
         let Some(found) = self.found()? else {
             return Ok(None);
         };
-        let own = self.file.metadata()?;
-        if are_same(&found.metadata()?, &own) {
-            return self.refuse_begun_anew(&own);
+        let current = self.file.metadata()?;
+        if are_same(&found.metadata()?, &current) {
+            return self.refuse_begun_anew(&current);
         }
-        self.behind = self.behind_file(&own)?;
-        match self.behind.pop() {
-            Some(piece) => self.open_behind(piece).map(Some),
+        self.later = self.pieces_after(&current)?;
+        match self.later.pop() {
+            Some(piece) => self.open_later(piece).map(Some),
             None => Ok(Some(found)),
         }
     }
@@ -291,19 +291,19 @@ fn is_taken_since() -> Error {
 
 /// The path of a trace, or where that is a link beside which no pieces stand, of the file to which it leads.
 fn pieced_path<R: Files>(rt: &R, alloc: Global, path: &str) -> io::Result<String> {
-    let own = String::from_str(alloc, path)?;
+    let copy = String::from_str(alloc, path)?;
     let is_link = fs::symlink_metadata(rt, path).is_ok_and(|found| found.is_symlink());
     if !is_link || has_pieces(rt, alloc, path)? {
-        return Ok(own);
+        return Ok(copy);
     }
     let Ok(file) = rt.canonicalize(alloc, path) else {
-        return Ok(own);
+        return Ok(copy);
     };
     let file = String::from_str(alloc, file.as_path().as_str())?;
     if has_pieces(rt, alloc, file.as_str())? {
         return Ok(file);
     }
-    Ok(own)
+    Ok(copy)
 }
 
 /// Pieces of a trace stand beside it, or their list.
@@ -504,8 +504,8 @@ impl<'a, R: Files<File = File> + Eprint> PiecedFiles<'a, R> {
         match TraceReader::open(self.rt, self.alloc, path) {
             Ok(trace) => Ok(trace),
             Err(error) if self.is_shown && is_of_pieces(&error) => {
-                let own = String::from_str(self.alloc, path)?;
-                let trace = TraceReader::alone(self.rt, self.alloc, own)?;
+                let copy = String::from_str(self.alloc, path)?;
+                let trace = TraceReader::alone(self.rt, self.alloc, copy)?;
                 let program = self.program;
                 let _ = eprintln!(self.rt; "{program}: {error}");
                 Ok(trace)

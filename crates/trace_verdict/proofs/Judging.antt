@@ -170,22 +170,23 @@ left_is : (state : TextState) (trace : List Event) (text over : List ℕ) → le
     → option_map capped (line_left state.reading.lines over) ≡ line_left (newlines (trace_text trace)) over
 left_is state trace text over small read is = grind (arith, next_line)
 
-front : (state : TextState) (trace : List Event) (text : List ℕ) (left : Option ℕ) → length text < 2 ^ 64
+front : (state : TextState) (trace : List Event) (text : List ℕ) (open_line : Option ℕ) → length text < 2 ^ 64
     → HasRead state trace text → is_open state.reading.over ≡ true
-    → left ≡ option_map capped (line_left state.reading.lines state.reading.over) → IsFront trace left text
-front state trace text left small read short is = grind (arith, left_is)
+    → open_line ≡ option_map capped (line_left state.reading.lines state.reading.over) → IsFront trace open_line text
+front state trace text open_line small read short is = grind (arith, left_is)
 
-pub told : (finding : Finding Named) (state : TextState) (text : List ℕ) (left : Option ℕ) → state.finding ≡ finding
-    → length text < 2 ^ 64 → TakenBy finding state text → left ≡ left_of finding
-    (option_map capped (line_left state.reading.lines state.reading.over)) → Answers text finding left state.position
-told Lawful state text left is small taken at =
+pub told : (finding : Finding Named) (state : TextState) (text : List ℕ) (open_line : Option ℕ)
+    → state.finding ≡ finding → length text < 2 ^ 64 → TakenBy finding state text → open_line ≡ left_of finding
+    (option_map capped (line_left state.reading.lines state.reading.over))
+    → Answers text finding open_line state.position
+told Lawful state text open_line is small taken at =
     let judged : Judged state.judging (reverse taken.0) =
     subst (λ f. IsFound f state.judging taken.0) is taken.1.found in
-    (taken.0, front state taken.0 text left small taken.1 taken.2 at, judged.lawful, taken.1.position)
-told (Breach breach) state text left is small taken at = (
+    (taken.0, front state taken.0 text open_line small taken.1 taken.2 at, judged.lawful, taken.1.position)
+told (Breach breach) state text open_line is small taken at = (
   taken.0,
-  front state taken.0 text left small taken.1 taken.2 at,
+  front state taken.0 text open_line small taken.1 taken.2 at,
   subst (λ f. IsFound f state.judging taken.0) is taken.1.found,
   taken.1.position,
 )
-told (Torn number) state text left is small taken at = (taken, at)
+told (Torn number) state text open_line is small taken at = (taken, at)

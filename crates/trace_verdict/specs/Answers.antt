@@ -29,8 +29,8 @@ pub record IsFirst (trace : List Event) (breach : Named) : Type 0 where
 -- what is found of a text, the line at which its last happening isn't finished, and how many are: a line that begins no
 -- happening, else the verdict on the trace that is whole
 abbrev pub Answers : List ℕ → Finding Named → Option ℕ → ℕ → Type 0
-Answers text Lawful left count = (trace : List Event) × IsFront trace left text
+Answers text Lawful open_line count = (trace : List Event) × IsFront trace open_line text
     × (first_breach (reverse trace) ≡ None) × (count ≡ length trace)
-Answers text (Breach breach) left count = (trace : List Event) × IsFront trace left text
+Answers text (Breach breach) open_line count = (trace : List Event) × IsFront trace open_line text
     × IsFirst trace breach × (count ≡ length trace)
-Answers text (Torn number) left count = IsTorn text number × (left ≡ None)
+Answers text (Torn number) open_line count = IsTorn text number × (open_line ≡ None)

@@ -42,12 +42,12 @@ line_left lines [] = None
 line_left lines (byte ∷ over) = Some (lines + 1)
 
 -- the text is that of the trace, and of a happening that isn't finished, at the line that is left, if anything is
-pub record IsFront (trace : List Event) (left : Option ℕ) (text : List ℕ) : Type 0 where
+pub record IsFront (trace : List Event) (open_line : Option ℕ) (text : List ℕ) : Type 0 where
   pub over : List ℕ
   pub are : are_in_range trace ≡ true
   pub whole : trace_text trace ++ over ≡ text
   pub unfinished : is_open over ≡ true
-  pub at : left ≡ line_left (newlines (trace_text trace)) over
+  pub at : open_line ≡ line_left (newlines (trace_text trace)) over
 
 -- the text is that of a trace up to its line of this number, counted from 1, and whatever follows what is there of it,
 -- no happening begins there

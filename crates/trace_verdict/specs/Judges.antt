@@ -63,5 +63,5 @@ Holds old new piece =
 
 -- the line at which it holds a happening that isn't finished
 abbrev pub left_of : Finding Named → Option ℕ → Option ℕ
-left_of (Torn number) left = None
-left_of _ left = left
+left_of (Torn number) open_line = None
+left_of _ open_line = open_line

@@ -105,7 +105,7 @@ impl<A: Allocator + Copy> TextReader<A> {
     }
 
     /// The number of the line at which what it has not read begins; None where it has read all.
-    pub fn left(&self) -> Option<u64>
+    pub fn open_line(&self) -> Option<u64>
         ensures { result ≡ option_map capped (line_left self.now.lines self.now.over) }
     {
         if self.at == self.bytes.len() {

@@ -153,13 +153,13 @@ impl<A: Allocator + Copy> TextJudge<A> {
         Ok(())
     }
 
-    fn left(&self) -> Option<u64>
+    fn open_line(&self) -> Option<u64>
         ensures { result ≡ left_of self.now.finding
             (option_map capped (line_left self.now.reading.lines self.now.reading.over)) }
     {
         match self.finding {
             Finding::Torn(_) => None,
-            _ => self.reader.left(),
+            _ => self.reader.open_line(),
         }
     }
 
@@ -169,7 +169,7 @@ impl<A: Allocator + Copy> TextJudge<A> {
         ensures { (text : List ℕ) → length text < 2 ^ 64 → HasTaken self.now text
             → Answers text result.0.now result.1 result.2 }
     {
-        let left = self.left();
-        (&self.finding, left, self.position)
+        let open_line = self.open_line();
+        (&self.finding, open_line, self.position)
     }
 }

@@ -223,10 +223,10 @@ left_is reading viewing trace text [] small seen is = refl
 left_is reading viewing trace text (byte ∷ over) small seen is =
     ap Some (next_line reading viewing trace text small seen (omega (arith, ap length is)))
 
-pub shown : (stop : Option ViewEnd) (state : TextState) (trace : List Event) (text : List ℕ) (left : Option ℕ)
-    → length text < 2 ^ 64 → TakenBy stop state trace text → left ≡ left_of stop (option_map capped (line_left
-    state.reading.lines state.reading.over)) → IsShown text stop left trace × Viewed state.viewing (reverse trace)
-shown None state trace text left small taken is = (
+pub shown : (stop : Option ViewEnd) (state : TextState) (trace : List Event) (text : List ℕ) (open_line : Option ℕ)
+    → length text < 2 ^ 64 → TakenBy stop state trace text → open_line ≡ left_of stop (option_map capped (line_left
+    state.reading.lines state.reading.over)) → IsShown text stop open_line trace × Viewed state.viewing (reverse trace)
+shown None state trace text open_line small taken is = (
   (
     taken.0.begins,
     record {
@@ -239,4 +239,4 @@ shown None state trace text left small taken is = (
   ),
   taken.0.seen,
 )
-shown (Some stop) state trace text left small taken is = ((taken.begins, (taken.stops, is)), taken.seen)
+shown (Some stop) state trace text open_line small taken is = ((taken.begins, (taken.stops, is)), taken.seen)

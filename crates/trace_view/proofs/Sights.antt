@@ -1,6 +1,6 @@
 -- One happening more is seen by the view and by what else sees it, or all is taken.
 use Rattle.trace_view.proofs.Words.{◌≡◌, ℕ, ◌+◌, ◌^◌, ◌<◌, ◌≤◌, List, [], ◌∷◌, ◌++◌, length, reverse, Option, Some}
-use Rattle.trace_view.proofs.Words.{None, sym, subst, arith, Stage, Event, stage_of, capped, past_push, line_behind}
+use Rattle.trace_view.proofs.Words.{None, sym, subst, arith, Stage, Event, stage_of, capped, past_push, following_line}
 use Rattle.trace_view.proofs.Words.{HasSeenText, IsSeeing, Viewed, TextState, ViewGoesOn, IsAt}
 use Rattle.trace_view.proofs.Lining.{line_here}
 use Rattle.trace_view.proofs.SeenTexts.{seen_at}
@@ -10,7 +10,7 @@ module _ {S : Type 0} (has : S → List Event → Type 0) where
       (line : ℕ) (text : List ℕ) → length text < 2 ^ 64 → next ≡ Some h → old.stop ≡ None
       → length new.reading.over < length old.reading.over → line ≡ capped (old.reading.lines + 1) → ((past : List Event)
       → Viewed old.viewing past → stage ≡ stage_of past) → ((trace : List Event) → ViewGoesOn next old new trace text)
-      → ((past : List Event) → Viewed new.viewing (h ∷ past) → stage ≡ stage_of past → line ≡ line_behind past
+      → ((past : List Event) → Viewed new.viewing (h ∷ past) → stage ≡ stage_of past → line ≡ following_line past
       → has before past → has after (h ∷ past)) → IsSeeing has (record { viewing = old; seen = before }) text
       → IsSeeing has (record { viewing = new; seen = after }) text
   some_seen next h old new before after stage line text small is went shorter at_line stages goes sees at =

@@ -1,7 +1,7 @@
 -- Entries of sound pasts and why each isn't started next, worked: `refl` computes them.
 use Rattle.trace_view.proofs.Words.{◌≡◌, refl, ℕ, true, List, [], ◌∷◌, ◌++◌, codes, Some, Entry, Act, Start, Look, Term}
 use Rattle.trace_view.proofs.Words.{Goal, Event, RanBefore, StageOver, OtherStage, ChildKept, NotCalled, WasStarted}
-use Rattle.trace_view.proofs.Words.{line_at_fault, line_behind, why}
+use Rattle.trace_view.proofs.Words.{line_at_fault, following_line, why}
 use Rattle.init_words.specs.declared.actions.Act.TheVariants as act
 use Rattle.init_words.specs.declared.children.Status.TheVariants.{Exit}
 use Rattle.init_words.specs.declared.levels.Level.{Level}
@@ -102,5 +102,5 @@ twice-ran : why (codes "b") twice ≡ RanBefore
 twice-ran = refl
 
 twice-line : line_at_fault (codes "b") RanBefore twice ≡ Some
-    (line_behind (Asked (codes "b") Start ∷ Enter Boot 5 ∷ NewTable booting ∷ Got (got.Level level.L3 5) ∷ single))
+    (following_line (Asked (codes "b") Start ∷ Enter Boot 5 ∷ NewTable booting ∷ Got (got.Level level.L3 5) ∷ single))
 twice-line = refl

@@ -26,7 +26,7 @@ pub use Rattle.trace_check.specs.State.{at}
 pub use Rattle.trace_verdict.specs.Readers.{capped, Reading, ReadsNext}
 pub use Rattle.trace_view.specs.LastLines.{LinesState, Lined, line_after, kinds_of, names, born_in, early_in}
 pub use Rattle.trace_view.specs.LastLines.{early_line, unborn_in, reaped_in, ordered_in, held_in, last_of, is_table}
-pub use Rattle.trace_view.specs.LastLines.{line_behind, line_at_fault}
+pub use Rattle.trace_view.specs.LastLines.{following_line, line_at_fault}
 pub use Rattle.trace_view.specs.Views.{TextState, IsAt, HasSeen, StopsBy, AtBy, TakenBy, ViewGoesOn, SeesStop, left_of}
 pub use Rattle.trace_view.specs.Views.{may_be, seen_by}
 pub use Rattle.std.proofs.lemmas.Bool.{and_parts, not-true, eqb-true}

@@ -15,8 +15,8 @@ use Rattle.trace_view.specs.Births.{is_early}
 use Rattle.trace_view.specs.Viewing.{newborn_in}
 
 -- the line at which the next happening begins, behind what happened so far
-unfoldable pub line_behind : List Event → ℕ
-line_behind past = newlines (trace_text (reverse past)) + 1
+unfoldable pub following_line : List Event → ℕ
+following_line past = newlines (trace_text (reverse past)) + 1
 
 -- a line, where it is so; else what was there before
 abbrev pub line_after : Bool → ℕ → Option ℕ → Option ℕ
@@ -25,7 +25,7 @@ line_after so line before = if so then Some line else before
 -- the line at which the last happening of a kind begins
 abbrev pub last_line : (Event → Bool) → List Event → Option ℕ
 last_line is [] = None
-last_line is (happening ∷ past) = line_after (is happening) (line_behind past) (last_line is past)
+last_line is (happening ∷ past) = line_after (is happening) (following_line past) (last_line is past)
 
 abbrev pub is_table : Event → Bool
 is_table (NewTable table) = true
@@ -57,7 +57,7 @@ is_reread stage _ = false
 abbrev pub reread_line : List Event → Option ℕ
 reread_line [] = None
 reread_line (happening ∷ past) =
-    line_after (is_reread (stage_of past) happening) (line_behind past) (reread_line past)
+    line_after (is_reread (stage_of past) happening) (following_line past) (reread_line past)
 
 -- the id whose child was born, whose start failed, whose child was reaped, about which an order was given, that is held
 abbrev pub born_in : Event → Option (List ℕ)
@@ -88,7 +88,7 @@ names id (Some other) = same_id id other
 abbrev pub last_of : (Event → Option (List ℕ)) → List ℕ → List Event → Option ℕ
 last_of about id [] = None
 last_of about id (happening ∷ past) =
-    line_after (names id (about happening)) (line_behind past) (last_of about id past)
+    line_after (names id (about happening)) (following_line past) (last_of about id past)
 
 -- the id whose child was born before the first level, by the table in force
 abbrev pub early_in : List Entry → Event → Option (List ℕ)
@@ -99,7 +99,7 @@ early_in table _ = None
 abbrev pub early_line : List ℕ → List Event → Option ℕ
 early_line id [] = None
 early_line id (happening ∷ past) =
-    line_after (names id (early_in (table_of (happening ∷ past)) happening)) (line_behind past) (early_line id past)
+    line_after (names id (early_in (table_of (happening ∷ past)) happening)) (following_line past) (early_line id past)
 
 -- the later of two lines
 abbrev pub later : Option ℕ → Option ℕ → Option ℕ

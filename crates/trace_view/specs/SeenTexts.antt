@@ -26,5 +26,5 @@ SeesOn has false old new text = IsSeeing has old text → HasSeenText has new te
 -- what is shown of a text: one trace, which both have seen
 abbrev pub IsSeen : {S : Type 0} → (S → List Event → Type 0) → List ℕ → Option ViewEnd → Option ℕ → ViewState → S
     → Type 0
-IsSeen has text stop left viewing seen =
-    (trace : List Event) × IsShown text stop left trace × Viewed viewing (reverse trace) × has seen (reverse trace)
+IsSeen has text stop open_line viewing seen =
+    (trace : List Event) × IsShown text stop open_line trace × Viewed viewing (reverse trace) × has seen (reverse trace)

@@ -39,9 +39,9 @@ StopsAt (Torn number) trace text = IsUpTo trace number text
 StopsAt Within trace text = (trace ≡ []) × BeginsWithin text
 
 abbrev pub ShownBy : Option ViewEnd → Option ℕ → List Event → List ℕ → Type 0
-ShownBy None left trace text = IsFront trace left text
-ShownBy (Some stop) left trace text = StopsAt stop trace text × (left ≡ None)
+ShownBy None open_line trace text = IsFront trace open_line text
+ShownBy (Some stop) open_line trace text = StopsAt stop trace text × (open_line ≡ None)
 
 -- what a view shows of a text, by why it goes no further and by the line at which a happening isn't finished
 abbrev pub IsShown : List ℕ → Option ViewEnd → Option ℕ → List Event → Type 0
-IsShown text stop left trace = (begins_run trace ≡ true) × ShownBy stop left trace text
+IsShown text stop open_line trace = (begins_run trace ≡ true) × ShownBy stop open_line trace text

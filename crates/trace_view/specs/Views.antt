@@ -69,5 +69,5 @@ seen_by None happening = Some happening
 
 -- the line at which it holds a happening that isn't finished
 abbrev pub left_of : Option ViewEnd → Option ℕ → Option ℕ
-left_of (Some stop) left = None
-left_of None left = left
+left_of (Some stop) open_line = None
+left_of None open_line = open_line

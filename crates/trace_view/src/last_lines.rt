@@ -2,7 +2,7 @@
 
 ghost use Rattle.std.specs.Prelude.{◌≡◌, ℕ, List, ◌∷◌, OnOk};
 ghost use Rattle.trace_view.specs.Words.{Event, stage_of, at};
-ghost use Rattle.trace_view.specs.LastLines.{Lined, born_in, early_in, held_in, is_entering, is_table, kinds_of, last_line, last_of, later, line_after, line_at_fault, line_behind, names, ordered_in, reaped_in, unborn_in, wish_line};
+ghost use Rattle.trace_view.specs.LastLines.{Lined, born_in, early_in, held_in, is_entering, is_table, kinds_of, last_line, last_of, later, line_after, line_at_fault, following_line, names, ordered_in, reaped_in, unborn_in, wish_line};
 
 use crate::children::{is_early, newborn};
 use crate::rows::{ById, empty_map, of_id};
@@ -159,7 +159,7 @@ impl KindLines {
         line: u64,
         happening: &HappeningIn<B>,
     ) -> KindLines
-        ensures { (past : List Event) → stage ≡ stage_of past → line ≡ line_behind past
+        ensures { (past : List Event) → stage ≡ stage_of past → line ≡ following_line past
             → self ≡ kinds_of past → result ≡ kinds_of (happening.now ∷ past) }
     {
         let line = Some(line);

@@ -122,8 +122,8 @@ pub(crate) fn take_end<A: Allocator, B: Allocator>(
 }
 
 /// What is kept of the id.
-pub(crate) fn of_id<V: Copy, A: Allocator>(kept: &ById<V, A>, id: &Id) -> Option<V>
-    ensures { result ≡ at id.now kept.now.entries }
+pub(crate) fn of_id<V: Copy, A: Allocator>(values: &ById<V, A>, id: &Id) -> Option<V>
+    ensures { result ≡ at id.now values.now.entries }
 {
-    kept.get(id).copied()
+    values.get(id).copied()
 }

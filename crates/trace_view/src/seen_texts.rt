@@ -2,7 +2,7 @@
 
 ghost use Rattle.std.specs.Prelude.{◌≡◌, ◌^◌, ◌<◌, ◌∷◌, List, ℕ, ◌++◌, [], length, true, option_map, IfOk, OnOk};
 ghost use Rattle.trace_view.specs.Words.{Event, broken, stage_of, law_number};
-ghost use Rattle.trace_view.specs.LastLines.{line_behind};
+ghost use Rattle.trace_view.specs.LastLines.{following_line};
 ghost use Rattle.trace_view.specs.SeenTexts.{HasSeenText, IsSeeing, IsSeen, SeesOn};
 ghost use Rattle.trace_view.specs.Viewing.{SeesNext, Viewed};
 
@@ -33,7 +33,7 @@ pub trait TraceObserver<A: Allocator> {
         happening: &HappeningIn<A>,
     ) -> Result<(), Memory>
         ensures { OnOk result ((past : List Event) → Viewed view.now (happening.now ∷ past)
-            → stage ≡ stage_of past → line ≡ line_behind past
+            → stage ≡ stage_of past → line ≡ following_line past
             → has_seen self.old past → has_seen self.new (happening.now ∷ past)) };
 }
 
@@ -134,8 +134,8 @@ impl<S: TraceObserver<A> + Drop, A: Allocator + Copy> ObservedTrace<S, A> {
         ensures { (text : List ℕ) → length text < 2 ^ 64 → HasSeenText S.has_seen self.now text
             → IsSeen S.has_seen text result.0 result.1 self.now.viewing.viewing self.now.seen }
     {
-        let (_, stop, left) = self.view.answer();
-        (stop, left)
+        let (_, stop, open_line) = self.view.answer();
+        (stop, open_line)
     }
 }
 

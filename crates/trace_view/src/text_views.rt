@@ -160,13 +160,13 @@ impl<A: Allocator + Copy> TextView<A> {
         &self.view
     }
 
-    fn left(&self) -> Option<u64>
+    fn open_line(&self) -> Option<u64>
         ensures { result ≡ left_of self.now.stop
             (option_map capped (line_left self.now.reading.lines self.now.reading.over)) }
     {
         match self.stop {
             Some(_) => None,
-            None => self.reader.left(),
+            None => self.reader.open_line(),
         }
     }
 
@@ -177,7 +177,7 @@ impl<A: Allocator + Copy> TextView<A> {
             → HasShown self.now trace text
             → IsShown text result.1 result.2 trace × Viewed result.0.now (reverse trace) }
     {
-        let left = self.left();
-        (&self.view, self.stop, left)
+        let open_line = self.open_line();
+        (&self.view, self.stop, open_line)
     }
 }

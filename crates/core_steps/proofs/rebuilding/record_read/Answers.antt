@@ -4,8 +4,8 @@ use Rattle.core_steps.proofs.rebuilding.record_read.Goals as goal
 
 pub of-requires-clause-ordered : goal.of-requires-clause-ordered
 of-requires-clause-ordered c =
-    let whole : is_whole c.args.kept.now ≡ true = sym c.is_whole.ensures ∙ c.if-not-is_whole.false in
-    let ordered : IsNonDecreasing c.args.kept.now.starts.items =
-    ordered_from_never c.args.kept.now.starts.items (and_parts (are_paired c.args.kept.now.child c.args.kept.now.act)
-    (never_fall c.args.kept.now.starts.items) whole).1 in
+    let whole : is_whole c.args.plain.now ≡ true = sym c.is_whole.ensures ∙ c.if-not-is_whole.false in
+    let ordered : IsNonDecreasing c.args.plain.now.starts.items =
+    ordered_from_never c.args.plain.now.starts.items (and_parts (are_paired c.args.plain.now.child c.args.plain.now.act)
+    (never_fall c.args.plain.now.starts.items) whole).1 in
     rw c.as_slice.ensures.value ordered

@@ -19,4 +19,4 @@ put_all old mid new (time ∷ times) some first more =
 
 pub returns : goal.returns
 returns g c = put_all _ _ _ c.args.starts.now
-    (omega (arith, c.in-len1-up.len_at_least)) c.in_ok-put_behind.ensures c.in_ok-put_more.ensures
+    (omega (arith, c.in-len1-up.len_at_least)) c.in_ok-put_marked.ensures c.in_ok-put_more.ensures

@@ -12,8 +12,8 @@ loop-name-preserved g c =
     let pushed : c.push-in-loop-name.new.self.items ≡ c.loop-name.parts.items ++ part ∷ [] = search rules in
     (more ++ part ∷ [], pushed ∙ ap (λ t. t ++ part ∷ []) c.loop-name.invariant.1)
 
-pub returns-clause-own : goal.returns-clause-own
-returns-clause-own g c = elim c.match-folder.branch [
+pub returns-clause-main_part : goal.returns-clause-main_part
+returns-clause-main_part g c = elim c.match-folder.branch [
   | in-Some+in_ok-name-items+in-None w ↦ (w.loop-name.invariant.0, search rules)
   | in_default w ↦ ([], search rules)
 ]

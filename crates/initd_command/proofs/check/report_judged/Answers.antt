@@ -8,4 +8,4 @@ returns g c =
     let mid = g.E.Reporter.reports c.report_made.new.err in
     let told = reported_text c.format.result (λ text. string_bytes text) (count_message c.args.judged.count) first mid
     c.format.ensures.ok c.report_made.ensures.made c.report_made.ensures.unmade in
-    (first, c.report_within.ensures, mid, told, c.report_left.ensures)
+    (first, c.report_within.ensures, mid, told, c.report_open_line.ensures)

@@ -8,7 +8,8 @@ returns-in-Some g c =
     let judged : Judged = judged_of c.args.judged in
     let out = g.W.Write.contents c.args.out.now in
     let ending = unfinished c.in-Some.line (verdict_of c.args.finding.now) in
-    let cut : cut_at c.args.growing c.args.judged.left ≡ Some c.in-Some.line = sym c.cut_at.ensures ∙ c.in-Some.is in (
+    let cut : cut_at c.args.growing c.args.judged.open_line ≡ Some c.in-Some.line =
+    sym c.cut_at.ensures ∙ c.in-Some.is in (
       ending,
       c.report_unfinished.ensures.status,
       subst (λ at. EndsTold at c.args.finding.now judged ending out out) (sym cut) (refl, refl, Keeps-refl out),

@@ -1,24 +1,25 @@
 use Rattle.initd_command.proofs.Words.{◌≡◌, refl, sym, subst, rules, inl, inr, List, ℕ, Option, Some, None, map}
-use Rattle.initd_command.proofs.Words.{string_bytes, Keeps-refl, KnownTexts, InitdSaid, check_of, judges, initd_read_of}
-use Rattle.initd_command.proofs.Words.{simulation_of, simulates, runs, version, RunSaid, run_of, HostCall, Ending}
-use Rattle.initd_command.proofs.Words.{refused, usage, usage_named, AsksBy, AsksSaid, RunTold, HostSettings}
+use Rattle.initd_command.proofs.Words.{string_bytes, Keeps-refl, KnownTexts, InitdArguments, check_of, judges}
+use Rattle.initd_command.proofs.Words.{initd_read_of}
+use Rattle.initd_command.proofs.Words.{simulation_of, simulates, runs, version, RunArguments, run_of, HostCall, Ending}
+use Rattle.initd_command.proofs.Words.{refused, usage, usage_named, AsksBy, AsksArguments, RunTold, HostSettings}
 use Rattle.initd_command.specs.Runs.{EndsBy, EndsRead}
 use Rattle.initd_command.specs.declared.run.Obstacle.TheVariants.{Memory}
 use Rattle.initd_command.proofs.Ran.{none_asked}
 use Rattle.initd_command.proofs.command.run_words.Goals as goal
 
 -- words that were read end, and ask, by what they say
-by_words : (text_at : KnownTexts) (words : List (List ℕ)) (options : Option InitdSaid)
-    (own : Option HostSettings → Type 0) (ending : Ending) (old new : RunTold)
+by_words : (text_at : KnownTexts) (words : List (List ℕ)) (options : Option InitdArguments)
+    (conforms : Option HostSettings → Type 0) (ending : Ending) (old new : RunTold)
     → initd_read_of words ≡ options → EndsRead text_at words options ending old.out new.out
-    → AsksSaid text_at options own ending old new
-    → EndsBy text_at words ending old.out new.out × AsksBy text_at words own ending old new
-by_words text_at words options own ending old new is ends asks = (
+    → AsksArguments text_at options conforms ending old new
+    → EndsBy text_at words ending old.out new.out × AsksBy text_at words conforms ending old new
+by_words text_at words options conforms ending old new is ends asks = (
   inr (subst (λ s. EndsRead text_at words s ending old.out new.out) (sym is) ends),
-  subst (λ s. AsksSaid text_at s own ending old new) (sym is) asks,
+  subst (λ s. AsksArguments text_at s conforms ending old new) (sym is) asks,
 )
 
-abbrev told : Option (List RunSaid) → Option (List HostCall) → List ℕ → Option (List ℕ) → RunTold
+abbrev told : Option (List RunArguments) → Option (List HostCall) → List ℕ → Option (List ℕ) → RunTold
 told opened calls trace out = record { opened = opened; calls = calls; trace = trace; out = out }
 
 pub returns-in-Ok-Simulate : goal.returns-in-Ok-Simulate
@@ -27,7 +28,7 @@ returns-in-Ok-Simulate g c =
     let is : initd_read_of (map string_bytes c.args.words.items)
     ≡ Some (simulates (simulation_of c.in-Ok-Simulate.options)) = search rules in
     let so = by_words (g.T.Texts.text_at c.args.texts.now) (map string_bytes c.args.words.items)
-    (Some (simulates (simulation_of c.in-Ok-Simulate.options))) (g.S.Hosts.own c.args.hosts.now) ending
+    (Some (simulates (simulation_of c.in-Ok-Simulate.options))) (g.S.Hosts.conforms c.args.hosts.now) ending
     (told (g.S.Hosts.opened c.args.hosts.now) (g.S.Hosts.told c.args.hosts.now) (g.F.Traces.told c.args.traces.now)
     (g.W.Write.contents c.args.out.now))
     (told (g.S.Hosts.opened c.args.hosts.now) (g.S.Hosts.told c.args.hosts.now) (g.F.Traces.told c.args.traces.now)
@@ -40,7 +41,7 @@ returns-in-Ok-Check g c =
     let is : initd_read_of (map string_bytes c.args.words.items) ≡ Some (judges (check_of c.in-Ok-Check.options)) =
     search rules in
     let so = by_words (g.T.Texts.text_at c.args.texts.now) (map string_bytes c.args.words.items)
-    (Some (judges (check_of c.in-Ok-Check.options))) (g.S.Hosts.own c.args.hosts.now) ending
+    (Some (judges (check_of c.in-Ok-Check.options))) (g.S.Hosts.conforms c.args.hosts.now) ending
     (told (g.S.Hosts.opened c.args.hosts.now) (g.S.Hosts.told c.args.hosts.now) (g.F.Traces.told c.args.traces.now)
     (g.W.Write.contents c.args.out.now))
     (told (g.S.Hosts.opened c.args.hosts.now) (g.S.Hosts.told c.args.hosts.now) (g.F.Traces.told c.args.traces.now)
@@ -53,7 +54,7 @@ returns-in-Ok-Run g c =
     let is : initd_read_of (map string_bytes c.args.words.items) ≡ Some (runs (run_of c.in-Ok-Run.options)) =
     search rules in
     let so = by_words (g.T.Texts.text_at c.args.texts.now) (map string_bytes c.args.words.items)
-    (Some (runs (run_of c.in-Ok-Run.options))) (g.S.Hosts.own c.run_files.new.hosts) ending
+    (Some (runs (run_of c.in-Ok-Run.options))) (g.S.Hosts.conforms c.run_files.new.hosts) ending
     (told (g.S.Hosts.opened c.args.hosts.now) (g.S.Hosts.told c.args.hosts.now) (g.F.Traces.told c.args.traces.now)
     (g.W.Write.contents c.args.out.now))
     (told (g.S.Hosts.opened c.run_files.new.hosts) (g.S.Hosts.told c.run_files.new.hosts)
@@ -65,7 +66,7 @@ returns-in-Ok-Version g c =
     let (ending, status, ends, reported) = c.tell_version.ensures in
     let is : initd_read_of (map string_bytes c.args.words.items) ≡ Some (version) = search rules in
     let so = by_words (g.T.Texts.text_at c.args.texts.now) (map string_bytes c.args.words.items) (Some (version))
-    (g.S.Hosts.own c.args.hosts.now) ending
+    (g.S.Hosts.conforms c.args.hosts.now) ending
     (told (g.S.Hosts.opened c.args.hosts.now) (g.S.Hosts.told c.args.hosts.now) (g.F.Traces.told c.args.traces.now)
     (g.W.Write.contents c.args.out.now))
     (told (g.S.Hosts.opened c.args.hosts.now) (g.S.Hosts.told c.args.hosts.now) (g.F.Traces.told c.args.traces.now)
@@ -80,7 +81,7 @@ returns-in-Err-Usage g c =
     let now = told (g.S.Hosts.opened c.args.hosts.now) (g.S.Hosts.told c.args.hosts.now)
     (g.F.Traces.told c.args.traces.now) (g.W.Write.contents c.args.out.now) in
     let so = by_words (g.T.Texts.text_at c.args.texts.now) (map string_bytes c.args.words.items) None
-    (g.S.Hosts.own c.args.hosts.now) end now now none
+    (g.S.Hosts.conforms c.args.hosts.now) end now now none
     (reason, refl, Keeps-refl (g.W.Write.contents c.args.out.now)) (refl, refl) in (
       end,
       c.report_refused.ensures.status,
@@ -98,5 +99,5 @@ returns g c =
       inl (refl, Keeps-refl (g.W.Write.contents c.args.out.now)),
       c.report_memory.ensures.reported,
       none_asked (g.T.Texts.text_at c.args.texts.now) (initd_read_of (map string_bytes c.args.words.items))
-          (g.S.Hosts.own c.args.hosts.now) now,
+          (g.S.Hosts.conforms c.args.hosts.now) now,
     )

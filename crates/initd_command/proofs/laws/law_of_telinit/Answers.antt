@@ -40,12 +40,12 @@ next_of stood block calls p whole long none took =
 
 brings_next : (stood block : List ℕ) → length stood % 384 ≡ 0 → length block ≡ 384
     → BringsNext stood (heard_of block) (stood ++ block)
-brings_next stood block whole long front behind calls p parts passed none took =
-    let fits : length (front ++ behind) % 384 ≡ 0 = subst (λ xs. length xs % 384 ≡ 0) parts whole in
-    let rest : length behind % 384 ≡ 0 = omega (arith, fits, passed, length-append front behind) in
-    next_of behind block calls p rest long none
-    (append_cancel_left front (bytes_of calls) (behind ++ block)
-    (took ∙ ap (λ xs. xs ++ block) parts ∙ append_assoc front behind block))
+brings_next stood block whole long front later calls p parts passed none took =
+    let fits : length (front ++ later) % 384 ≡ 0 = subst (λ xs. length xs % 384 ≡ 0) parts whole in
+    let rest : length later % 384 ≡ 0 = omega (arith, fits, passed, length-append front later) in
+    next_of later block calls p rest long none
+    (append_cancel_left front (bytes_of calls) (later ++ block)
+    (took ∙ ap (λ xs. xs ++ block) parts ∙ append_assoc front later block))
 
 same : (path : List ℕ) → bytes_eq path path ≡ true
 same path = (bytes_eq-Decides path path).1 refl

@@ -47,7 +47,7 @@ returns-clause-ended g c =
           (made table opens),
     )
 
-pub returns-clause-own : goal.returns-clause-own
-returns-clause-own g c =
-    subst (g.S.Hosts.own c.close-is_printed.new.self) c.make_traced-status.ensures.settings
-    c.close-is_printed.ensures.own
+pub returns-clause-conforms : goal.returns-clause-conforms
+returns-clause-conforms g c =
+    subst (g.S.Hosts.conforms c.close-is_printed.new.self) c.make_traced-status.ensures.settings
+    c.close-is_printed.ensures.conforms

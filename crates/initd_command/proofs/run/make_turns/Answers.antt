@@ -11,7 +11,7 @@ pub returns-clause-ended : goal.returns-clause-ended
 returns-clause-ended g c =
     let service = run_of c.args.options.now in
     let state = g.L.Log.state in
-    let has_ended = g.L.EndedLog.has_ended c.end-left.result.0 in
+    let has_ended = g.L.EndedLog.has_ended c.end-log_end.result.0 in
     let notes = c.into_parts-log.result.1 in
     let found = c.into_parts-log.result.2 in
     let began : c.new-edge.result.log ≡ c.new-watched.result =
@@ -30,12 +30,12 @@ returns-clause-ended g c =
     ap (λ (parts : _ × Watched _). parts.1) c.into_parts-host.ensures in
     let parts = c.into_parts-log.ensures.parts ∙ ap (λ (w : Watched _). (w.log, w.notes, w.judgement)) given in
     let tells : (trace : List Event) → now.taken trace
-    → NotesOf notes (reverse trace) × Finds found (reverse trace) × has_ended c.end-left.result.1 trace =
+    → NotesOf notes (reverse trace) × Finds found (reverse trace) × has_ended c.end-log_end.result.1 trace =
     λ trace took. (
       subst (λ (p : _ × Notes × Judgement). NotesOf p.1 (reverse trace)) (sym parts) took.0,
       c.into_parts-log.ensures.found trace
           (subst (λ (w : Watched _). (watched_state state w).taken trace) (sym given) took),
-      c.end-left.ensures.ended trace
+      c.end-log_end.ensures.ended trace
           (subst (λ (p : _ × Notes × Judgement). (state p.0).taken trace) (sym parts) took.2),
     ) in (
       end_of service noted c.ended_with-served.result,
@@ -49,7 +49,7 @@ returns-clause-ended g c =
           let over : (state c.args.log).taken [] → TurnsFrom service.level table calls
           (λ past. (c.ended_with-served.result.logged ≡ true → IsNoted service.result noted past)
           × LogEnds has_ended c.ended_with-served.result.logged (reverse past)) =
-          λ none. noted_over has_ended notes found c.end-left.result.1 c.serve-core.result.1.value first now service
+          λ none. noted_over has_ended notes found c.end-log_end.result.1 c.serve-core.result.1.value first now service
           service.level table c.serve-core.result.0 c.ended_with-served.result c.then_some-judgement.result calls
           c.ended_with-served.ensures c.then_some-judgement.ensures (fresh none) result (ap (λ (p : _ × Notes
           × Judgement). p.1.wanted) parts) c.serve-core.ensures.logged tells opens.distinct made.1 in (

@@ -1,9 +1,10 @@
-use Rattle.initd_command.proofs.Words.{◌≡◌, refl, sym, subst, List, [], ◌∷◌, ℕ, unwrap_or, RunSaid, run_of, IsInWay}
+use Rattle.initd_command.proofs.Words.{◌≡◌, refl, sym, subst, List, [], ◌∷◌, ℕ, unwrap_or, RunArguments, run_of}
+use Rattle.initd_command.proofs.Words.{IsInWay}
 use Rattle.initd_command.proofs.Words.{StandBy, own_paths}
 use Rattle.initd_command.proofs.Ended.{handed_on}
 use Rattle.initd_command.proofs.run.refuse_shared.Goals as goal
 
-stands : (service : RunSaid) (one other a b : List ℕ) → one ≡ a → other ≡ b → StandBy a b (own_paths service)
+stands : (service : RunArguments) (one other a b : List ℕ) → one ≡ a → other ≡ b → StandBy a b (own_paths service)
     → StandBy one other (own_paths service)
 stands service one other a b is was stand = subst (λ x. StandBy x other (own_paths service)) (sym is)
     (subst (λ y. StandBy a y (own_paths service)) (sym was) stand)

@@ -18,7 +18,7 @@ returns-in-Ok g c =
       status,
       inr (c.in-Ok.ensures.apart, (parts, are, read, (taken, spoken, unled ∙ led, capped, end, refl, tells))),
       reported,
-      ran_to text_at service (g.S.Hosts.own c.make_run.new.hosts) run.opening spoken end bytes
+      ran_to text_at service (g.S.Hosts.conforms c.make_run.new.hosts) run.opening spoken end bytes
           (record {
             opened = g.S.Hosts.opened c.args.hosts.now;
             calls = g.S.Hosts.told c.args.hosts.now;
@@ -37,7 +37,7 @@ returns-in-Ok g c =
           grown
           (λ table opening. subst (λ now. Since now (g.S.Hosts.told c.make_run.new.hosts)
           (MakesTraced service table end bytes)) c.in-Ok.ensures.host (ran table opening))
-          (g.H.Host.settings run.host, c.in-Ok.ensures.settings, c.make_run.ensures.own),
+          (g.H.Host.settings run.host, c.in-Ok.ensures.settings, c.make_run.ensures.conforms),
     )
 
 pub returns-in-Err : goal.returns-in-Err

@@ -1,6 +1,6 @@
 use Rattle.initview_lines.proofs.CommonWords.{◌≡◌, ◌++◌, filter, length, map}
 use Rattle.std.proofs.Common.{◌||◌, not}
-use Rattle.initview_lines.specs.Lint.{IsPlace, fault_line_of, has_nameless, is_nameless}
+use Rattle.initview_lines.specs.Lint.{IsCursor, fault_line_of, has_nameless, is_nameless}
 use Rattle.initview_lines.proofs.lint.fault_lines.Given as goal
 
 -- the lines so far, and behind them those of what is left, are the lines of all; and so with the lines without id
@@ -9,7 +9,7 @@ invariant-loop-fault l =
     (l.lines.items ++ map (fault_line_of l.parts) (filter (λ fault. not (is_nameless l.parts fault)) l.rest)
     ≡ map (fault_line_of l.parts) (filter (λ fault. not (is_nameless l.parts fault)) l.faults))
     × ((l.nameless || has_nameless l.parts l.rest) ≡ has_nameless l.parts l.faults)
-    × IsPlace l.parts l.place
+    × IsCursor l.parts l.cursor
 
 abbrev pub decreases-loop-fault : goal.decreases-loop-fault
 decreases-loop-fault l = length l.rest

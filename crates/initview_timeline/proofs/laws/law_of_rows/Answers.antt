@@ -10,7 +10,7 @@ use Rattle.init_words.specs.declared.orders.SignalKind.TheVariants as sig
 use Rattle.initview_timeline.specs.declared.marks.Shown.TheVariants.{Read, Entered, Settled, Born, NotBorn, Ended, Sent}
 use Rattle.initview_timeline.specs.declared.marks.Shown.TheVariants.{Held}
 use Rattle.initview_timeline.specs.declared.rows.State.TheVariants as state
-use Rattle.initview_timeline.specs.Laws.{birth_at, births, is_fault, life_from, lives_drawn, own, says_fault}
+use Rattle.initview_timeline.specs.Laws.{birth_at, births, is_fault, life_from, lives_drawn, id_marks, says_fault}
 use Rattle.initview_timeline.proofs.laws.law_of_rows.Goals as goal
 
 abbrev key : Life → ℕ × ℕ
@@ -48,8 +48,8 @@ no_mark next time (Ended id number status) = refl
 no_mark next time (Sent id signal) = refl
 no_mark next time (Held id) = refl
 
-no_mark_if : (own : Bool) (next time : ℕ) (what : Shown)
-    → lives_drawn (if own then mark_bars next time what else []) ≡ []
+no_mark_if : (id_marks : Bool) (next time : ℕ) (what : Shown)
+    → lives_drawn (if id_marks then mark_bars next time what else []) ≡ []
 no_mark_if true next time what = no_mark next time what
 no_mark_if false next time what = refl
 
@@ -123,8 +123,8 @@ all_births ls (m ∷ marks) =
 
 pub returns-clause-lives : goal.returns-clause-lives
 returns-clause-lives c = λ s id.
-    row_lives (state_of s id (own s id)) s (is_waited id s.entries) (lives_of (own s id)) (Some id) s.marks
-    ∙ all_births [] (own s id)
+    row_lives (state_of s id (id_marks s id)) s (is_waited id s.entries) (lives_of (id_marks s id)) (Some id) s.marks
+    ∙ all_births [] (id_marks s id)
 
 -- a failed life has one sign, and so has each fault among the marks
 count_more : (b : Bool) (p : Piece) (signs : List Piece) (n : ℕ) → length signs ≡ n
@@ -149,9 +149,9 @@ life_faults last (l ∷ ls) =
 
 -- the faults of one mark more
 abbrev with_if : Bool → Bool → ℕ → ℕ
-with_if own fault n = if own then (if fault then 1 + n else n) else n
+with_if id_marks fault n = if id_marks then (if fault then 1 + n else n) else n
 
-same_if : (own : Bool) (n m : ℕ) → m ≡ n → m ≡ with_if own false n
+same_if : (id_marks : Bool) (n m : ℕ) → m ≡ n → m ≡ with_if id_marks false n
 same_if true n m e = e
 same_if false n m e = e
 
@@ -172,8 +172,9 @@ one_mark id next time (Sent i sig.Kill) signs n e = count_more (is_for (Some id)
 one_mark id next time (Held i) signs n e =
     same_if (is_for (Some id) (Held i)) n _ (count_same (is_for (Some id) (Held i)) signs n e)
 
-kept_fault : (own : Bool) (m : TimelineMark) (ms : List TimelineMark)
-    → with_if own (is_fault m) (length (filter is_fault ms)) ≡ length (filter is_fault (if own then m ∷ ms else ms))
+kept_fault : (id_marks : Bool) (m : TimelineMark) (ms : List TimelineMark)
+    → with_if id_marks (is_fault m) (length (filter is_fault ms))
+    ≡ length (filter is_fault (if id_marks then m ∷ ms else ms))
 kept_fault true m ms = kept_more (is_fault m) m (filter is_fault ms)
 kept_fault false m ms = refl
 
@@ -187,6 +188,6 @@ mark_faults last id (m ∷ later) =
 
 pub returns-clause-faults : goal.returns-clause-faults
 returns-clause-faults c = λ s id.
-    length-append (signs_of s.end (lives_of (own s id))) (marks_signs s.end (Some id) s.marks)
-    ∙ ap (λ n. n + length (marks_signs s.end (Some id) s.marks)) (life_faults s.end (lives_of (own s id)))
-    ∙ ap (λ n. length (filter has_failed (lives_of (own s id))) + n) (mark_faults s.end id s.marks)
+    length-append (signs_of s.end (lives_of (id_marks s id))) (marks_signs s.end (Some id) s.marks)
+    ∙ ap (λ n. n + length (marks_signs s.end (Some id) s.marks)) (life_faults s.end (lives_of (id_marks s id)))
+    ∙ ap (λ n. length (filter has_failed (lives_of (id_marks s id))) + n) (mark_faults s.end id s.marks)

@@ -29,11 +29,11 @@ drawn id end pieces bars signs b s =
     ap (λ bs. record { id = id; state = end; pieces = record { bars = bs; signs = pieces.signs } }) b
     ∙ ap (λ ss. record { id = id; state = end; pieces = record { bars = bars; signs = ss } }) s
 
-parts : (s : Scene) (id : List ℕ) (marks own : List TimelineMark) (end : State) (waited : Bool) (lives : List Life)
-    → shown_to id marks ≡ shown_to id s.marks → own ≡ marks_for (Some id) marks → end ≡ state_of s id own
-    → waited ≡ is_waited id s.entries → lives ≡ lives_of own → row_with s id end waited lives
+parts : (s : Scene) (id : List ℕ) (marks id_marks : List TimelineMark) (end : State) (waited : Bool) (lives : List Life)
+    → shown_to id marks ≡ shown_to id s.marks → id_marks ≡ marks_for (Some id) marks → end ≡ state_of s id id_marks
+    → waited ≡ is_waited id s.entries → lives ≡ lives_of id_marks → row_with s id end waited lives
     (marks_bars s.end (Some id) marks) (marks_signs s.end (Some id) marks) ≡ row_of s id
-parts s id marks own end waited lives shown marked ended waits lived =
+parts s id marks id_marks end waited lives shown marked ended waits lived =
     ap (λ bs. row_with s id end waited lives bs (marks_signs s.end (Some id) marks))
     (bars_same id marks s.marks shown s.end)
     ∙ ap (λ ss. row_with s id end waited lives bars ss) (signs_same id marks s.marks shown s.end)
@@ -48,7 +48,7 @@ parts s id marks own end waited lives shown marked ended waits lived =
     signs : List Piece
     signs = marks_signs s.end (Some id) s.marks
 
-    marks_are : own ≡ marks_for (Some id) s.marks
+    marks_are : id_marks ≡ marks_for (Some id) s.marks
     marks_are = marked ∙ own_same id marks s.marks shown
 
 pub returns : goal.returns
@@ -67,7 +67,8 @@ returns c =
     (behind [] (signs_of s.end lives) (marks_signs s.end (Some id) marks) _ _ _
     (c.in_ok-add_due.ensures.signs ∙ ap (λ (p : Drawing). p.signs) c.new-pieces.ensures)
     c.in_ok-add_lives.ensures.signs c.in_ok-add_marks.ensures.signs)
-    ∙ parts s id marks c.in_ok-own.own.items end c.contains.result lives c.requires.shown c.in_ok-own.ensures
+    ∙ parts s id marks c.in_ok-id_marks.id_marks.items end c.contains.result lives c.requires.shown
+    c.in_ok-id_marks.ensures
     (c.state_of-state.ensures ∙ ap (λ o. state_of s id o) c.as_slice-2.ensures.value)
     (c.contains.ensures ∙ c.requires.common.waited id)
     (c.as_slice-3.ensures.value ∙ c.in_ok-lives.ensures ∙ ap lives_of c.as_slice.ensures.value)

@@ -4,7 +4,7 @@ use Rattle.rc_command.proofs.command.read_matches.Goals as goal
 
 pub returns-clause-ok : goal.returns-clause-ok
 returns-clause-ok c =
-    IfOk-weaker c.words_of.result _ _ (λ said is. rows_are (rows_of (found_of c.args.matches.now)) c.is_set.result
+    IfOk-weaker c.words_of.result _ _ (λ arguments is. rows_are (rows_of (found_of c.args.matches.now)) c.is_set.result
     c.read_options.result c.in_ok-seconds.seconds c.in_ok-seconds.ensures.ok c.is_set.ensures c.read_options.ensures
     ∙ is) c.words_of.ensures.ok
 

@@ -1,5 +1,6 @@
-use Rattle.rc_command.proofs.CommonWords.{refl, ◌∙◌, ap, inl, inr, Global, List, String, map, string_bytes, ℕ, RcSaid}
-use Rattle.rc_command.proofs.CommonWords.{said_at, said_of}
+use Rattle.rc_command.proofs.CommonWords.{refl, ◌∙◌, ap, inl, inr, Global, List, String, map, string_bytes, ℕ}
+use Rattle.rc_command.proofs.CommonWords.{RcArguments}
+use Rattle.rc_command.proofs.CommonWords.{arguments_at, arguments_of}
 use Rattle.rc_command.proofs.Reported.{fault_of, reports_asked, runs_asked, said_reports, said_runs}
 use Rattle.rc_command.proofs.running.run_asked.Goals as goal
 
@@ -9,9 +10,9 @@ texts names = map (λ (name : String Global). string_bytes name) names
 pub returns-clause-done : goal.returns-clause-done
 returns-clause-done g c =
     let names_at = g.F.Folders.names_at c.args.folders.now in
-    let run : RcSaid = said_at c.as_str-dir.result.now
-    (record { before = c.in-Ok.before; new = c.args.said.now.new }) c.entering-options.result in
-    reports_asked (g.L.LevelFiles.file_at c.args.levels.now) names_at (said_of c.args.said.now) c.in-Ok.before
+    let run : RcArguments = arguments_at c.as_str-dir.result.now
+    (record { before = c.in-Ok.before; new = c.args.arguments.now.new }) c.entering-options.result in
+    reports_asked (g.L.LevelFiles.file_at c.args.levels.now) names_at (arguments_of c.args.arguments.now) c.in-Ok.before
     c.as_str-dir.result.now c.entering-options.result c.run_names-status.result c.keep_level.result _ _ _ _
     c.in-Ok.ensures.ok c.as_str-dir.ensures.value c.entering-options.ensures c.keep_level.ensures.status
     (λ whole. said_reports names_at run c.as_str-dir.result.now c.as_str-2.result.now c.as_str.result.now
@@ -23,15 +24,16 @@ returns-clause-done g c =
 pub returns-clause-ran : goal.returns-clause-ran
 returns-clause-ran g c = elim c.run_names-status.ensures.ran [
   | inl (fault, same, host) ↦ inl (
-    fault_of (said_of c.args.said.now).file c.run_names-status.result _ _ _ c.keep_level.ensures.status fault,
+    fault_of (arguments_of c.args.arguments.now).file c.run_names-status.result _ _ _ c.keep_level.ensures.status fault,
     same,
     ap g.H.Host.told host,
   )
   | inr some ↦
       (let names_at = g.F.Folders.names_at c.args.folders.now in
-      let run : RcSaid = said_at c.as_str-dir.result.now
-      (record { before = c.in-Ok.before; new = c.args.said.now.new }) c.entering-options.result in
-      inr (runs_asked (g.L.LevelFiles.file_at c.args.levels.now) names_at (said_of c.args.said.now) c.in-Ok.before
+      let run : RcArguments = arguments_at c.as_str-dir.result.now
+      (record { before = c.in-Ok.before; new = c.args.arguments.now.new }) c.entering-options.result in
+      inr
+      (runs_asked (g.L.LevelFiles.file_at c.args.levels.now) names_at (arguments_of c.args.arguments.now) c.in-Ok.before
       c.as_str-dir.result.now c.entering-options.result c.run_names-status.result c.keep_level.result _ _ _ _ _ _ _ _
       c.in-Ok.ensures.ok c.as_str-dir.ensures.value c.entering-options.ensures c.keep_level.ensures.status
       (ap g.E.Reporter.reports c.in-Ok.ensures.silent) (

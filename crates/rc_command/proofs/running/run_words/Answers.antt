@@ -17,8 +17,8 @@ returns-in-Ok-clause-ran g c = λ _.
     elim c.run_asked.ensures.ran
     [ inl (fault, same, told) ↦ inl (inr fault, same, told) | inr ran ↦ inr (_, reads, ran) ]
 
-pub returns-in-Ok-clause-said : goal.returns-in-Ok-clause-said
-returns-in-Ok-clause-said g c = λ _ _. let reads = rw c.as_slice-2.ensures.value at c.in-Ok.ensures.ok in
+pub returns-in-Ok-clause-parsed : goal.returns-in-Ok-clause-parsed
+returns-in-Ok-clause-parsed g c = λ _ _. let reads = rw c.as_slice-2.ensures.value at c.in-Ok.ensures.ok in
     subst IsSome (sym reads) refl
 
 pub returns-clause-refused : goal.returns-clause-refused

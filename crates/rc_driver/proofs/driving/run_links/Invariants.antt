@@ -12,4 +12,4 @@ invariant-loop-ended g l = ((ended : RunEnd) (new : RcState) (after : Output) (t
     × (l.way.seconds ≡ None → l.err ≡ l.fn.err)
 
 abbrev pub decreases-loop-ended : goal.decreases-loop-ended
-decreases-loop-ended g l = length l.rc.left
+decreases-loop-ended g l = length l.rc.remaining

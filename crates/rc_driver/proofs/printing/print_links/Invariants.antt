@@ -8,4 +8,4 @@ invariant-loop-ended g l = (ended : RunEnd) (new : RcState) (after : Option (Lis
     → PrintsLinks l.way l.dir l.fn.rc (g.W.Write.contents l.fn.out) ended new after
 
 abbrev pub decreases-loop-ended : goal.decreases-loop-ended
-decreases-loop-ended g l = length l.rc.left
+decreases-loop-ended g l = length l.rc.remaining

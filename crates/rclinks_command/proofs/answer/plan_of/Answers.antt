@@ -4,7 +4,7 @@ use Rattle.rclinks_command.proofs.Words.{AreScripts, FileFault, HasNoPlan, IsPla
 use Rattle.rclinks_command.proofs.Words.{ReportsFile}
 use Rattle.rclinks_command.proofs.Words.{ReportsPlan, ScriptText, Warns, keeps_going}
 use Rattle.std.proofs.lemmas.Result.{IfOk-weaker, IfErr-weaker}
-use Rattle.rclinks_command.specs.Said.{line_said}
+use Rattle.rclinks_command.specs.LineOptions.{line_options}
 use Rattle.rclinks_command.proofs.ReadingLemmas.{all_read, all_scripts, none_first, refused_first, some_first}
 use Rattle.rclinks_command.proofs.ReportLemmas.{refused_told, tells-then, warned_told}
 use Rattle.rclinks_command.proofs.answer.plan_of.Goals as goal
@@ -32,7 +32,7 @@ returns-clause-told g c = λ plain is.
 pub returns-in-None-clause-planned : goal.returns-in-None-clause-planned
 returns-in-None-clause-planned g c =
     let scripts = c.read_files.new.reading.scripts.items in
-    let all = all_given (keeps_going (line_said c.args.line.now)) (g.T.Texts.text_at c.args.texts.now)
+    let all = all_given (keeps_going (line_options c.args.line.now)) (g.T.Texts.text_at c.args.texts.now)
     (map (λ file. file.now) c.args.line.now.files.now) scripts c.in_ok-faults.faults.items
     (rw c.deref.ensures.value at c.in-None.ensures.value) c.in_ok-faults.ensures.read in
     rw c.if-line.false (IfOk-weaker c.plan_all.result _ _
@@ -42,7 +42,7 @@ returns-in-None-clause-planned g c =
 pub returns-in-None-clause-refused : goal.returns-in-None-clause-refused
 returns-in-None-clause-refused g c =
     let scripts = c.read_files.new.reading.scripts.items in
-    let all = all_given (keeps_going (line_said c.args.line.now)) (g.T.Texts.text_at c.args.texts.now)
+    let all = all_given (keeps_going (line_options c.args.line.now)) (g.T.Texts.text_at c.args.texts.now)
     (map (λ file. file.now) c.args.line.now.files.now) scripts c.in_ok-faults.faults.items
     (rw c.deref.ensures.value at c.in-None.ensures.value) c.in_ok-faults.ensures.read in
     rw c.if-line.false (IfErr-weaker c.plan_all.result _ _
@@ -61,7 +61,7 @@ returns-in-None-clause-told g c = λ plain.
     let first = rw c.deref.ensures.value at c.in-None.ensures.value in
     let all =
     all_given
-    (keeps_going (line_said c.args.line.now)) text_at paths scripts faults first c.in_ok-faults.ensures.read in
+    (keeps_going (line_options c.args.line.now)) text_at paths scripts faults first c.in_ok-faults.ensures.read in
     let warned = warned_told text_at paths faults old c.read_files.new.reading.report.items
     (c.in_ok-faults.ensures.told plain) (none_first faults first) in
     let same = subst (λ report. Warns old report.items) (sym c.add_last.ensures.untold) warned in
@@ -82,7 +82,7 @@ returns-2-clause-refused g c = λ is.
     let faults = c.in_ok-faults.faults.items in
     let fault = c.in-Some-first.fault.now in
     let first = some_first faults fault (rw c.deref.ensures.value at c.in-Some-first.ensures.value) in
-    let reads : ReadsTo (keeps_going (line_said c.args.line.now)) text_at paths scripts faults =
+    let reads : ReadsTo (keeps_going (line_options c.args.line.now)) text_at paths scripts faults =
     c.in_ok-faults.ensures.read in
     inl (refused_first text_at paths reads.0 reads.1 scripts faults first.0 fault reads.2 reads.3 first.1
     (sym c.refusal_for-in-Some-first.ensures ∙ is))

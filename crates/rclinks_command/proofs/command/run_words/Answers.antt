@@ -4,7 +4,7 @@ use Rattle.command_words.proofs.Refusals.{refused_by, reported_by}
 use Rattle.rclinks_command.proofs.AnswerLemmas.{does, does_part, refused, same_line, told}
 use Rattle.rclinks_command.proofs.FreeLine.{is_free_line}
 use Rattle.rclinks_command.specs.Command.{Does, DoesPart, IsRefusedBy, TellsRefused}
-use Rattle.rclinks_command.specs.Said.{line_said}
+use Rattle.rclinks_command.specs.LineOptions.{line_options}
 use Rattle.rclinks_command.specs.declared.command.TheConstants.{SHORT_USAGE, USAGE}
 use Rattle.rclinks_command.proofs.command.run_words.Goals as goal
 
@@ -26,7 +26,7 @@ returns-in-Err-clause-told g c = λ _ is.
 pub returns-clause-done : goal.returns-clause-done
 returns-clause-done g c = λ _ done.
     let asked = asked_by (rows_of (found_of c.in-Ok.matches)) in
-    let said = line_said c.line_of-line.result in
+    let said = line_options c.line_of-line.result in
     let same = same_line asked said (map string_bytes c.args.facilities.now) (map (λ file. file.now)
     c.in-Ok-files_of.files.items) (rw c.as_slice.ensures.value at c.line_of-line.ensures) c.in-Ok-files_of.ensures in (
       _,
@@ -43,7 +43,7 @@ returns-clause-done g c = λ _ done.
 pub returns-clause-refused : goal.returns-clause-refused
 returns-clause-refused g c = λ is.
     let asked = asked_by (rows_of (found_of c.in-Ok.matches)) in
-    let said = line_said c.line_of-line.result in
+    let said = line_options c.line_of-line.result in
     let same = same_line asked said (map string_bytes c.args.facilities.now) (map (λ file. file.now)
     c.in-Ok-files_of.files.items) (rw c.as_slice.ensures.value at c.line_of-line.ensures) c.in-Ok-files_of.ensures in
     inr (
@@ -57,7 +57,7 @@ returns-clause-refused g c = λ is.
 pub returns-clause-told : goal.returns-clause-told
 returns-clause-told g c = λ _ is.
     let asked = asked_by (rows_of (found_of c.in-Ok.matches)) in
-    let said = line_said c.line_of-line.result in
+    let said = line_options c.line_of-line.result in
     let same = same_line asked said (map string_bytes c.args.facilities.now) (map (λ file. file.now)
     c.in-Ok-files_of.files.items) (rw c.as_slice.ensures.value at c.line_of-line.ensures) c.in-Ok-files_of.ensures in
     inr (
@@ -76,7 +76,7 @@ returns-clause-told g c = λ _ is.
 pub returns-clause-part : goal.returns-clause-part
 returns-clause-part g c = λ _.
     let asked = asked_by (rows_of (found_of c.in-Ok.matches)) in
-    let said = line_said c.line_of-line.result in
+    let said = line_options c.line_of-line.result in
     let same = same_line asked said (map string_bytes c.args.facilities.now) (map (λ file. file.now)
     c.in-Ok-files_of.files.items) (rw c.as_slice.ensures.value at c.line_of-line.ensures) c.in-Ok-files_of.ensures in
     elim c.write.ensures.part [

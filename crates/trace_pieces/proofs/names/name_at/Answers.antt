@@ -3,21 +3,21 @@ use Rattle.text_lines.specs.Lines.{cut}
 use Rattle.trace_pieces.proofs.NameLemmas.{cut-shorter, name_at-cut, name_at-whole}
 use Rattle.trace_pieces.proofs.names.name_at.Goals as goal
 
-pub loop-behind-smaller : goal.loop-behind-smaller
-loop-behind-smaller c =
+pub loop-after-smaller : goal.loop-after-smaller
+loop-after-smaller c =
     let front = c.in-Some.field-0-0.now in
-    let behind = c.in-Some.behind.now in
-    let found : cut 47 c.loop-behind.name.now ≡ Some (front, behind) = search rules in
-    cut-shorter 47 c.loop-behind.name.now front behind found
+    let after = c.in-Some.after.now in
+    let found : cut 47 c.loop-after.name.now ≡ Some (front, after) = search rules in
+    cut-shorter 47 c.loop-after.name.now front after found
 
-pub loop-behind-preserved : goal.loop-behind-preserved
-loop-behind-preserved c =
+pub loop-after-preserved : goal.loop-after-preserved
+loop-after-preserved c =
     let front = c.in-Some.field-0-0.now in
-    let behind = c.in-Some.behind.now in
-    let found : cut 47 c.loop-behind.name.now ≡ Some (front, behind) = search rules in
-    sym (name_at-cut c.loop-behind.name.now front behind found) ∙ c.loop-behind.invariant
+    let after = c.in-Some.after.now in
+    let found : cut 47 c.loop-after.name.now ≡ Some (front, after) = search rules in
+    sym (name_at-cut c.loop-after.name.now front after found) ∙ c.loop-after.invariant
 
 pub returns : goal.returns
 returns c =
-    let none : cut 47 c.loop-behind.name.now ≡ None = search rules in
-    sym (name_at-whole c.loop-behind.name.now none) ∙ c.loop-behind.invariant
+    let none : cut 47 c.loop-after.name.now ≡ None = search rules in
+    sym (name_at-whole c.loop-after.name.now none) ∙ c.loop-after.invariant

@@ -8,20 +8,20 @@ use Rattle.trace_pieces.proofs.names.numbers_among.Goals as goal
 pub loop-name-smaller : goal.loop-name-smaller
 loop-name-smaller c =
     let name = c.in-Some.name.now in
-    let behind = c.in-Some.behind.now in
-    let found : cut 0 c.loop-name.rest.now ≡ Some (name, behind) = search rules in
-    cut-shorter 0 c.loop-name.rest.now name behind found
+    let after = c.in-Some.after.now in
+    let found : cut 0 c.loop-name.rest.now ≡ Some (name, after) = search rules in
+    cut-shorter 0 c.loop-name.rest.now name after found
 
 pub loop-name-preserved : goal.loop-name-preserved
 loop-name-preserved c =
     let name = c.in-Some.name.now in
-    let behind = c.in-Some.behind.now in
+    let after = c.in-Some.after.now in
     let before = c.loop-name.numbers.items in
-    let found : cut 0 c.loop-name.rest.now ≡ Some (name, behind) = search rules in
+    let found : cut 0 c.loop-name.rest.now ≡ Some (name, after) = search rules in
     let added : c.add_number.new.numbers.items ≡ before ++ filter_map (number_in c.args.trace.now) (name ∷ []) =
     search rules in
-    ap (λ numbers. numbers ++ numbers_among c.args.trace.now behind) added
-    ∙ numbers-cut c.args.trace.now c.loop-name.rest.now name behind before found ∙ c.loop-name.invariant
+    ap (λ numbers. numbers ++ numbers_among c.args.trace.now after) added
+    ∙ numbers-cut c.args.trace.now c.loop-name.rest.now name after before found ∙ c.loop-name.invariant
 
 pub returns : goal.returns
 returns c =

@@ -21,5 +21,5 @@ pub invariant_of-self-2 : goal.invariant_of-self-2
 invariant_of-self-2 g c =
     let long : length c.read_at.new.request ≡ 384 = c.read_at.ensures.size in
     read_on c.self.inside.fresh (g.F.ChannelFile.told c.self.inside.file) (g.F.ChannelFile.told c.read_at.new.self)
-    c.self.inside.place c.read_at.new.request c.in-Some.end c.self.invariant c.in_ok-read_at.ensures.ok long
+    c.self.inside.progress c.read_at.new.request c.in-Some.end c.self.invariant c.in_ok-read_at.ensures.ok long
     (search rules)

@@ -4,6 +4,7 @@ use Rattle.trace_view.proofs.text_views.TextView.answer.Goals as goal
 
 pub returns : goal.returns
 returns g c = λ trace text small taken.
-    subst (λ (s : TextState). IsShown text s.stop c.left-left.result trace × Viewed s.viewing (reverse trace))
+    subst (λ (s : TextState). IsShown text s.stop c.open_line-open_line.result trace × Viewed s.viewing (reverse trace))
     (sym c.self.view_is)
-    (shown c.args.self.now.stop c.args.self.now trace text c.left-left.result small taken c.left-left.ensures)
+    (shown c.args.self.now.stop c.args.self.now trace text c.open_line-open_line.result small taken
+    c.open_line-open_line.ensures)

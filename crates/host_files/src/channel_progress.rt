@@ -2,14 +2,14 @@
 
 ghost use Rattle.std.specs.Prelude.{◌≡◌, ◌-◌, [], false, nat_le};
 ghost use Rattle.program_io.specs.declared.channel_files.TheConstants.{REQUEST};
-ghost use Rattle.host_files.specs.Channels.{begun, first_place, is_anew, is_another, moved, place_after, place_of};
+ghost use Rattle.host_files.specs.Channels.{begun, first_offset, is_anew, is_another, moved, progress_after, progress_of};
 
 use crate::channel_files::FoundFile;
 use program_io::REQUEST;
 
 /// Where a channel is read on.
 #[derive(Clone, Copy)]
-pub(crate) struct Place {
+pub(crate) struct Progress {
     /// It was looked at.
     pub begun: bool,
     /// How many of its bytes were read, or passed over: those of whole requests.
@@ -20,12 +20,12 @@ pub(crate) struct Place {
     pub file: Option<(u64, u64)>,
 }
 
-impl Place {
+impl Progress {
     /// Nothing was looked at.
-    pub fn unread() -> Place
-        ensures { result ≡ place_of false [] }
+    pub fn unread() -> Progress
+        ensures { result ≡ progress_of false [] }
     {
-        Place {
+        Progress {
             begun: false,
             heard: 0,
             missing: false,
@@ -35,36 +35,36 @@ impl Place {
 
     /// Where it is read on behind a look by which this file stands at the path, or none. Whether the first reading begins
     /// behind the whole requests that stand there then.
-    pub fn after(self, fresh: bool, found: Option<FoundFile>) -> Place
-        ensures { result ≡ place_after fresh found self }
+    pub fn after(self, fresh: bool, found: Option<FoundFile>) -> Progress
+        ensures { result ≡ progress_after fresh found self }
     {
         self.begun(fresh, found).moved(found)
     }
 
-    fn begun(self, fresh: bool, found: Option<FoundFile>) -> Place
+    fn begun(self, fresh: bool, found: Option<FoundFile>) -> Progress
         ensures { result ≡ begun fresh found self }
     {
         if self.begun {
             return self;
         }
-        Place {
+        Progress {
             begun: true,
-            heard: first_place(fresh, found),
+            heard: first_offset(fresh, found),
             ..self
         }
     }
 
-    fn moved(self, found: Option<FoundFile>) -> Place
+    fn moved(self, found: Option<FoundFile>) -> Progress
         ensures { result ≡ moved found self }
     {
         let Some(found) = found else {
-            return Place {
+            return Progress {
                 heard: 0,
                 missing: true,
                 ..self
             };
         };
-        Place {
+        Progress {
             begun: self.begun,
             heard: if self.is_anew(&found) { 0 } else { self.heard },
             missing: false,
@@ -99,8 +99,8 @@ impl Place {
 }
 
 /// Where the first request is read: behind those that stand there, where these are passed over.
-fn first_place(fresh: bool, found: Option<FoundFile>) -> u64
-    ensures { result ≡ first_place fresh found }
+fn first_offset(fresh: bool, found: Option<FoundFile>) -> u64
+    ensures { result ≡ first_offset fresh found }
 {
     match found {
         Some(found) if fresh => found.length - found.length % REQUEST as u64,

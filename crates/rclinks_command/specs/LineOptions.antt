@@ -4,8 +4,8 @@ use Rattle.std.specs.Option.{option_map}
 use Rattle.rclinks_command.specs.Command as command
 use Rattle.rclinks_command.specs.declared.line.Line.{Line}
 
-abbrev pub line_said : Line → command.Line
-line_said line = record {
+abbrev pub line_options : Line → command.Line
+line_options line = record {
   all = line.all;
   skips = line.skips;
   last = line.last;
