@@ -1,7 +1,7 @@
 -- Written forms that are read exactly: what is written is read as it was, and what is read is written so.
 use Rattle.core_text.proofs.CommonWords.{arith, ◌≡◌, ◌⊎◌, inl, inr, ℕ, Bool, true, false, cond, ◌&&◌, ◌==◌, List, []}
 use Rattle.core_text.proofs.CommonWords.{◌∷◌, ◌++◌, Option, Some, None, refl, sym, ap, ◌∙◌, subst, and_parts, and_from}
-use Rattle.core_text.proofs.CommonWords.{or_from, eqb-true, append_assoc, option_and_then_some, same_Some, cut}
+use Rattle.core_text.proofs.CommonWords.{or_from, append_assoc, option_and_then_some, same_Some, cut}
 use Rattle.core_text.proofs.CommonWords.{has_byte, cut-parts, cut-append, has_byte-append, same_id, same_id-is}
 use Rattle.core_text.proofs.CommonWords.{same_id-self, option_map_some, both, both_some, bit, or_word, passes}
 use Rattle.core_text.proofs.CommonWords.{checked_by, pair, pair_read, after_prefix, named_read, or_read, bit_read}
@@ -144,14 +144,6 @@ or_lacks byte none ok write lacks rest (Some x) is = rest x is
 bit_back : (flag : Bool) → bit_read (bit flag) ≡ Some flag
 bit_back true = refl
 bit_back false = refl
-
-bit_by : (byte : ℕ) (flag a b : Bool) → (byte == 48) ≡ a → (byte == 49) ≡ b
-    → cond a (Some false) (cond b (Some true) None) ≡ Some flag → bit flag ≡ byte
-bit_by byte flag true b is other found = let this : false ≡ flag = same_Some false flag found in
-    ap bit (sym this) ∙ sym (eqb-true byte 48 is)
-bit_by byte flag false true not_it is found = let this : true ≡ flag = same_Some true flag found in
-    ap bit (sym this) ∙ sym (eqb-true byte 49 is)
-bit_by byte flag false false not_it other found = absurd (cc)
 
 pub bit_lacks : (byte : ℕ) (flag : Bool) → byte ≡ 10 ⊎ byte ≡ 32 → (bit flag == byte) ≡ false
 bit_lacks byte true is = elim is [ inl e ↦ rw e refl | inr e ↦ rw e refl ]

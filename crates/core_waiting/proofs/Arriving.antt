@@ -546,10 +546,6 @@ split_three : (p q r w : Entry → Bool) → ((e : Entry) → num (p e) + num (q
 split_three p q r w each [] = grind arith
 split_three p q r w each (e ∷ es) = grind (arith, split_three p q r w each es)
 
-num_one : (b : Bool) → num b ≤ 1
-num_one true = omega arith
-num_one false = omega arith
-
 -- of one entry, by its action
 at_boot : (a : Act) (marks : List Mark) (level : Level) (news x : Bool)
     → num (waited_by a && (starts_by a marks (stage.Run level) && wanted_by a true true news)) + num

@@ -147,27 +147,6 @@ why_due goal past it F moves first level news over h = unless it F (due goal pas
   r3 : List Step
   r3 = due_reread past
 
-  r4 : List Step
-  r4 = due_level past
-
-  r5 : List Step
-  r5 = due_news past
-
-  r6 : List Step
-  r6 = due_stops past
-
-  r7 : List Step
-  r7 = due_starts past
-
-  r8 : List Step
-  r8 = due_stage goal past
-
-  r9 : List Step
-  r9 = due_settle past
-
-  r10 : List Step
-  r10 = due_looks past
-
   join : (xs ys : List Step) → Each (Unless it F) xs → Each (Unless it F) ys → Each (Unless it F) (xs ++ ys)
   join xs ys f g = each_append (Unless it F) xs ys f g
 

@@ -2,7 +2,7 @@
 use Rattle.host_trace.proofs.Words.{arith, ◌≡◌, refl, sym, ◌∙◌, ap, subst, ℕ, Bool, true, false, ◌+◌, List, [], ◌∷◌}
 use Rattle.host_trace.proofs.Words.{◌++◌, Option, Ok, Err, list_all, and_parts, Answer, OrderKind, Goal, Event}
 use Rattle.host_trace.proofs.Words.{is_sound, Start, Signal, Late, Clock, TakeBytes, ReadTables, Carry, Announce, Pause}
-use Rattle.host_trace.proofs.Words.{Reply, HostCall, TextRead, LogState, Point, answered, ordered, come, nudged_if}
+use Rattle.host_trace.proofs.Words.{Reply, HostCall, TextRead, LogState, Point, ordered, come, nudged_if}
 use Rattle.host_trace.proofs.Words.{byte_after, bytes_after, handed_if, announced, after, point_after, is_in_place}
 use Rattle.host_trace.proofs.Words.{AreTexts, Counted, IsStateText, meets, is_allowed, are_carried, gone_on, past_of}
 use Rattle.host_trace.proofs.Words.{Took, UpTo, Went, WentWell, has_trace, Leads, Heard, Hears, takes_none}
@@ -23,10 +23,6 @@ module _ (goal : Goal) where
   pub allowed_first : (happening : Event) (so_far : List Event) → is_allowed goal (happening ∷ so_far) ≡ true
       → meets goal happening so_far ≡ true
   allowed_first happening so_far h = (and_parts (meets goal happening so_far) (is_allowed goal so_far) h).0
-
-  pub answered_allowed : (id : List ℕ) (given : Answer) (so_far : List Event)
-      → is_allowed goal (answered id given so_far) ≡ true → is_allowed goal so_far ≡ true
-  answered_allowed id given so_far h = grind arith
 
   pub ordered_allowed : (id : List ℕ) (ask : OrderKind) (reply : Reply) (so_far : List Event)
       → is_allowed goal (ordered id ask reply so_far) ≡ true → is_allowed goal so_far ≡ true

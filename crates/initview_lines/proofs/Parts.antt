@@ -2,7 +2,7 @@
 use Rattle.initview_lines.proofs.CommonWords.{◌≡◌, refl, sym, ap, ◌∙◌, ℕ, ◌+◌, ◌^◌, ◌<◌, ◌≤◌, Bool, true, false, List}
 use Rattle.initview_lines.proofs.CommonWords.{[], ◌∷◌, ◌++◌, length, reverse, Option, Some, None, arith, option_map}
 use Rattle.initview_lines.proofs.CommonWords.{Event, time_of, BeginsNever, line_left, Reading, capped, ReadsNext}
-use Rattle.initview_lines.proofs.CommonWords.{capped_is, lines_push, lines_within, past_push, ViewEnd, ShownBy, StopsAt}
+use Rattle.initview_lines.proofs.CommonWords.{capped_is, lines_push, lines_within, past_push, ViewEnd, ShownBy}
 use Rattle.initview_lines.proofs.CommonWords.{left_of, stops_more, Line, line_at, news_of, HasTold, IsReadOf, IsTelling}
 use Rattle.initview_lines.proofs.CommonWords.{IsToldOf, PartState, ReadBy, TakenBy, TellsOn, part_in}
 use Rattle.std.proofs.Common.{append-nil, append_assoc}
@@ -10,7 +10,6 @@ use Rattle.text_lines.specs.Lines.{newlines}
 use Rattle.trace_text.specs.Lines.{event_text, trace_text}
 use Rattle.trace_text.specs.Texts.{line_count}
 use Rattle.trace_text.proofs.ReadTexts.{trace_text-push, are_in_range-push}
-use Rattle.trace_verdict.specs.Fronts.{is_open}
 use Rattle.trace_verdict.proofs.Fronts.{never_some}
 use Rattle.trace_view.specs.declared.text_views.ViewEnd.TheVariants.{Torn}
 
@@ -29,11 +28,6 @@ at_read : (stop : Option ViewEnd) (reading : Reading) (trace : List Event) (text
     → IsReadOf reading trace text → ReadBy stop reading trace text
 at_read None reading trace text none read = read
 at_read (Some stop) reading trace text none read = absurd (cc)
-
-at_taken : (stop : Option ViewEnd) (reading : Reading) (trace : List Event) (text : List ℕ) → stop ≡ None
-    → IsReadOf reading trace text → is_open reading.over ≡ true → TakenBy stop reading trace text
-at_taken None reading trace text none read waits = (read, waits)
-at_taken (Some stop) reading trace text none read waits = absurd (cc)
 
 -- one happening more
 read_next : (reading new : Reading) (trace : List Event) (text : List ℕ) (h : Event) → length text < 2 ^ 64
@@ -72,16 +66,6 @@ one_told old new time past_lines before after text h went small next later is at
           ∙ ap (λ t. part_in (reverse at.0) ++ line_at t (news_of h [])) now
           ∙ sym (ap part_in (past_push at.0 h)),
     )
-
--- no happening more: none is whole, or none begins
-pub none_told : (old : PartState) (past_lines : List Line) (text : List ℕ) → old.stop ≡ None
-    → is_open old.reading.over ≡ true → IsTelling old past_lines text → HasTold old past_lines text
-none_told old past_lines text went waits at = (
-  at.0,
-  at_taken old.stop old.reading at.0 text went (read_at old.stop old.reading at.0 text went at.1) waits,
-  at.2,
-  at.3,
-)
 
 pub torn_told : (old : PartState) (past_lines : List Line) (text : List ℕ) (number : ℕ) → old.stop ≡ None → length text
     < 2 ^ 64 → number ≡ capped (old.reading.lines + 1) → BeginsNever old.reading.over → IsTelling old past_lines text

@@ -6,10 +6,6 @@ use Rattle.initview_timeline.proofs.Words.{Shown, Read, Entered, Settled, Born, 
 use Rattle.initview_timeline.proofs.Words.{TimelineMark}
 use Rattle.initview_timeline.proofs.Words.{Piece, is_for, marks_for, begins, next_begin, mark_bars, marks_bars}
 use Rattle.initview_timeline.proofs.Words.{mark_signs, marks_signs, is_hold, is_held, shown_to, among, is_near}
-use Rattle.initview_timeline.proofs.Words.{AreShown, Scene, append_assoc, list_any-append, map, or_left, or_right}
-use Rattle.initview_timeline.proofs.Words.{same_id-self}
-use Rattle.std.proofs.lemmas.List.{map-append}
-use Rattle.initview_timeline.specs.declared.rows.Row.{Row}
 use Rattle.initview_timeline.specs.Frames.{plus}
 use Rattle.respawn_limit.specs.declared.TheConstants.{HOLD}
 
@@ -151,34 +147,3 @@ one_more now true true rest total is so_far = rw is so_far
 one_more now true false rest total is so_far = rw is so_far
 one_more now false true rest total is so_far = rw is so_far
 one_more now false false rest total is so_far = rw is so_far
-
--- the halves of some ids, and the rows of both
-module _ (ids front back : List (List ℕ)) (is : ids ≡ front ++ back) where
-  one_of : (id : List ℕ) → (among id front || among id back) ≡ true → among id ids ≡ true
-  one_of id here = ap (among id) is ∙ list_any-append (same_id id) front back ∙ here
-
-  module _ (near marks : List TimelineMark) (s : Scene) (kept : (id : List ℕ) → among id ids ≡ true
-      → shown_to id near ≡ shown_to id marks) (shown : AreShown ids marks s) where
-    pub front_shown : AreShown front near s
-    front_shown id here =
-        let one : among id ids ≡ true = one_of id (or_left (among id front) (among id back) here) in
-        kept id one ∙ shown id one
-
-    pub back_shown : AreShown back near s
-    back_shown id here =
-        let one : among id ids ≡ true = one_of id (or_right (among id front) (among id back) here) in
-        kept id one ∙ shown id one
-
-  pub rows_joined : (f : List ℕ → Row) (rows one two : List Row) → one ≡ rows ++ map f front → two ≡ one ++ map f back
-      → two ≡ rows ++ map f ids
-  rows_joined f rows one two so then =
-      then ∙ ap (λ t. t ++ map f back) so ∙ append_assoc rows (map f front) (map f back)
-      ∙ ap (λ t. rows ++ t) (sym (map-append f front back)) ∙ ap (λ xs. rows ++ map f xs) (sym is)
-
-pub head_shown : (id : List ℕ) (others : List (List ℕ)) (marks : List TimelineMark) (s : Scene)
-    → AreShown (id ∷ others) marks s → shown_to id marks ≡ shown_to id s.marks
-head_shown id others marks s shown = shown id (or_left (same_id id id) (among id others) (same_id-self id))
-
-pub tail_shown : (id : List ℕ) (others : List (List ℕ)) (marks : List TimelineMark) (s : Scene)
-    → AreShown (id ∷ others) marks s → AreShown others marks s
-tail_shown id others marks s shown = λ i one. shown i (or_right (same_id i id) (among i others) one)

@@ -1,12 +1,10 @@
 -- What is kept of a list of children after one more came, those of an id went, or those that are gone are taken away.
 use Rattle.trace_view.proofs.Words.{◌≡◌, refl, sym, ◌∙◌, ap, ℕ, ◌+◌, ◌≤◌, Bool, true, false, not, cond, List, [], ◌∷◌}
-use Rattle.trace_view.proofs.Words.{◌++◌, reverse, find, Option, Some, None, arith, same_id, same_id-is, same_id-flip}
-use Rattle.trace_view.proofs.Words.{same_id-self, Child, is_of, at, append-nil, ◌&&◌}
-use Rattle.trace_view.proofs.Words.{append_assoc}
+use Rattle.trace_view.proofs.Words.{◌++◌, reverse, find, Some, None, arith, same_id, same_id-is, same_id-flip}
+use Rattle.trace_view.proofs.Words.{same_id-self, Child, is_of, at, append-nil}
 use Rattle.std.specs.Prelude.{filter, unwrap_or}
 use Rattle.std.proofs.lemmas.List.{reverse-append}
 use Rattle.std.proofs.lemmas.List.Elements.{filter-append}
-use Rattle.std.proofs.lemmas.List.Folds.{list_all-append}
 use Rattle.trace_view.specs.ChildLists.{IsListed, are_below, stays, staying}
 use Rattle.trace_view.specs.declared.child_lists.Arrival.{Arrival}
 
@@ -126,46 +124,3 @@ push_is gone xs ys zs child next stay marks pushed =
     ap (λ l. staying gone (reverse l)) pushed
     ∙ ap (staying gone) (turned_more ys (record { child = child; number = next }))
     ∙ more_staying gone (reverse ys) child next marks ∙ ap (λ cs. child ∷ cs) stay
-
--- the last of the arrivals is the youngest
-one_staying : (gone : List (List ℕ × ℕ)) (a : Arrival) (xs : List Arrival)
-    → staying gone (a ∷ xs) ≡ cond (stays gone a) (a.child ∷ []) [] ++ staying gone xs
-one_staying gone a xs = grind arith
-
-pub last_staying : (gone : List (List ℕ × ℕ)) (rest before : List Arrival) (a : Arrival) → rest ≡ before ++ a ∷ []
-    → staying gone (reverse rest) ≡ cond (stays gone a) (a.child ∷ []) [] ++ staying gone (reverse before)
-last_staying gone rest before a is =
-    ap (λ l. staying gone (reverse l)) is ∙ ap (staying gone) (turned_more before a)
-    ∙ one_staying gone a (reverse before)
-
-pub staying_next : (gone : List (List ℕ × ℕ)) (rest before : List Arrival) (a : Arrival) (found more whole : List Child)
-    (so : Bool) → rest ≡ before ++ a ∷ [] → so ≡ stays gone a → more ≡ found ++ cond so (a.child ∷ []) []
-    → found ++ staying gone (reverse rest) ≡ whole → more ++ staying gone (reverse before) ≡ whole
-staying_next gone rest before a found more whole so is sos pushes same =
-    ap (λ l. l ++ staying gone (reverse before)) (pushes ∙ ap (λ b. found ++ cond b (a.child ∷ []) []) sos)
-    ∙ append_assoc found (cond (stays gone a) (a.child ∷ []) []) (staying gone (reverse before))
-    ∙ ap (λ l. found ++ l) (sym (last_staying gone rest before a is)) ∙ same
-
-find_one : (p : Child → Bool) (b : Bool) (c : Child) (cs : List Child) → (b && p c) ≡ false
-    → find p (cond b (c ∷ []) [] ++ cs) ≡ find p cs
-find_one p true c cs none = grind arith
-find_one p false c cs none = refl
-
-pub find_next : (p : Child → Bool) (gone : List (List ℕ × ℕ)) (rest before : List Arrival) (a : Arrival)
-    (whole : Option Child) → rest ≡ before ++ a ∷ [] → (stays gone a && p a.child) ≡ false
-    → find p (staying gone (reverse rest)) ≡ whole → find p (staying gone (reverse before)) ≡ whole
-find_next p gone rest before a whole is none same =
-    sym (ap (find p) (last_staying gone rest before a is)
-    ∙ find_one p (stays gone a) a.child (staying gone (reverse before)) none) ∙ same
-
-find_this : (p : Child → Bool) (b : Bool) (c : Child) (cs : List Child) → (b && p c) ≡ true
-    → find p (cond b (c ∷ []) [] ++ cs) ≡ Some c
-find_this p true c cs so = grind arith
-find_this p false c cs so = absurd (cc)
-
-pub find_here : (p : Child → Bool) (gone : List (List ℕ × ℕ)) (rest before : List Arrival) (a : Arrival)
-    (whole : Option Child) → rest ≡ before ++ a ∷ [] → (stays gone a && p a.child) ≡ true
-    → find p (staying gone (reverse rest)) ≡ whole → Some a.child ≡ whole
-find_here p gone rest before a whole is so same =
-    sym (ap (find p) (last_staying gone rest before a is)
-    ∙ find_this p (stays gone a) a.child (staying gone (reverse before)) so) ∙ same
