@@ -1,140 +1,169 @@
--- Parts of a text that is UTF-8 are UTF-8 where they are cut at blanks, tabs, colons and '#'.
-use Rattle.rc_header.proofs.Words.{◌≡◌, ℕ, ◌+◌, Bool, true, false, cond, if◌then◌else◌, not, ◌&&◌, ◌==◌, List, [], ◌∷◌}
-use Rattle.rc_header.proofs.Words.{◌++◌, drop, Option, Some, None, unwrap_or, refl, sym, ap, subst, arith}
-use Rattle.rc_header.proofs.Words.{AllByRecursion, IsUtf8, is_utf8, args_of, block_fault, continued, described}
-use Rattle.rc_header.proofs.Words.{description_of, seen_after, text_at, cut, trim, behind_ascii, behind-utf8, trim-utf8}
-use Rattle.std.specs.Option.{option_map, option_or, option_and_then}
-use Rattle.std.proofs.lemmas.Bool.{and_parts, true≢false, eqb-true}
-use Rattle.std.proofs.lemmas.Str.{IsUtf8-append, IsUtf8-from_ascii, IsUtf8-from_is_utf8, IsUtf8-nil}
-use Rattle.rc_header.specs.declared.keywords.Keyword.{Keyword}
-use Rattle.rc_header.specs.declared.keywords.Keyword.TheVariants as keyword
-use Rattle.rc_header.specs.declared.faults.HeaderFault.{HeaderFault}
-use Rattle.rc_header.specs.Forms.{args_in, body_of, field_of, is_empty_comment, is_indented, is_line, is_word, is_wide}
-use Rattle.rc_header.specs.Forms.{known_of}
-use Rattle.rc_header.specs.Keywords.{keyword_read, same_keyword}
+-- Where a text that is UTF-8 is cut: at blanks, tabs and colons.
+use Rattle.rc_header.proofs.Words.{◌≡◌, ℕ, ◌-◌, ◌<◌, ◌≤◌, Bool, true, false, cond, if◌then◌else◌, ◌&&◌, ◌==◌, List}
+use Rattle.rc_header.proofs.Words.{[], ◌∷◌, ◌++◌, drop, take, length, get_or, Option, Some, None, is_some}
+use Rattle.rc_header.proofs.Words.{refl, sym, ap, subst, ◌∙◌, arith, suc, reverse, MatchOption}
+use Rattle.rc_header.proofs.Words.{IsUtf8, is_utf8, IsCharBoundary, cut, trim, words_of, trim-utf8}
+use Rattle.std.specs.Option.{option_map, option_and_then}
+use Rattle.std.specs.Str.Pattern.{FindsChar}
+use Rattle.std.proofs.Math.Seq.{take-append_seam}
+use Rattle.std.proofs.lemmas.Bool.{and_parts, eqb-true, false_from_ne_true}
+use Rattle.std.proofs.lemmas.List.{take-append-drop, reverse-append, reverse-reverse, length-append, length-take-le}
+use Rattle.std.proofs.lemmas.Str.{IsUtf8-from_is_utf8, is_utf8-from_IsUtf8, IsCharBoundary-from_drop}
+use Rattle.std.proofs.lemmas.Str.{IsCharBoundary-from_take}
+use Rattle.std.proofs.lemmas.Str.Pattern.{finds_char_after}
+use Rattle.text_lines.specs.Lines.{has_byte, is_blank, skip_blanks, trim_end, word_length}
+use Rattle.text_lines.proofs.BlankLemmas.{length-skip_blanks, words_of-next, words_of-none}
 use Rattle.text_lines.proofs.CutLemmas.{cut-parts}
+use Rattle.text_lines.proofs.Utf8Lemmas.{skip_blanks-utf8, word-utf8}
+use Rattle.rc_header.specs.declared.keywords.Keyword.{Keyword}
+use Rattle.rc_header.specs.Forms.{args_in, field_of, is_word, known_of}
+use Rattle.rc_header.specs.Keywords.{keyword_read, same_keyword}
 
--- what a chain of choices that gives something went through
-and_then : {X Y : Type 0} (f : X → Option Y) (o : Option X) (y : Y) → option_and_then f o ≡ Some y
-    → (x : X) × (o ≡ Some x) × (f x ≡ Some y)
-and_then f o y is = grind arith
+pub not_utf8 : (line : List ℕ) → (IsUtf8 line → ⊥) → is_utf8 line ≡ false
+not_utf8 line other = false_from_ne_true (is_utf8 line) (λ is. other (IsUtf8-from_is_utf8 line is))
 
-if_some : {X : Type 0} (b : Bool) (x y : X) → cond b (Some x) None ≡ Some y → x ≡ y
-if_some true x y is = ap (λ o. unwrap_or o x) is
-if_some false x y is = absurd (cc)
+pub utf8_text : (line : List ℕ) → IsUtf8 line → is_utf8 line ≡ true
+utf8_text line utf8 = is_utf8-from_IsUtf8 line utf8
 
-second_of : {K T : Type 0} (o : Option K) (t : T) (known : K × T) → option_map (λ k. (k, t)) o ≡ Some known
-    → t ≡ known.1
-second_of o t known is = grind arith
+-- a text without its leading blanks is the end of the text
+drop_by : (b : ℕ) (text : List ℕ) (x : Bool) → drop (length text - length (skip_blanks text)) text ≡ skip_blanks text
+    → drop (length (b ∷ text) - length (cond x (skip_blanks text) (b ∷ text))) (b ∷ text)
+    ≡ cond x (skip_blanks text) (b ∷ text)
+drop_by b text true rest =
+    let more : length (b ∷ text) - length (skip_blanks text) ≡ suc (length text - length (skip_blanks text)) =
+    omega (arith, length-skip_blanks text) in
+    rw more rest
+drop_by b text false rest = let none : length (b ∷ text) - length (b ∷ text) ≡ 0 = omega arith in rw none refl
 
-body_by : (a b : ℕ) (rest body : List ℕ) (x : Bool) → ((a == 35) && (b == 32)) ≡ x → IsUtf8 (a ∷ b ∷ rest)
-    → cond x (Some rest) None ≡ Some body → IsUtf8 body
-body_by a b rest body true is utf8 same =
+drop-blanks : (text : List ℕ) → drop (length text - length (skip_blanks text)) text ≡ skip_blanks text
+drop-blanks [] = refl
+drop-blanks (b ∷ text) = drop_by b text (is_blank b) (drop-blanks text)
+
+pub blanks_within : (text : List ℕ) → length (skip_blanks text) ≤ length text
+blanks_within text = length-skip_blanks text
+
+pub blanks_cut : (text rest : List ℕ) → IsUtf8 text → rest ≡ skip_blanks text → (length rest ≤ length text)
+    × IsCharBoundary text (length text - length rest) × (drop (length text - length rest) text ≡ skip_blanks text)
+blanks_cut text rest utf8 is =
+    let end = drop-blanks text in
+    rw is (
+      length-skip_blanks text,
+      IsCharBoundary-from_drop text (length text - length (skip_blanks text))
+          (omega arith) (rw end (skip_blanks-utf8 text utf8)),
+      end,
+    )
+
+-- a text without its trailing blanks is the front of the text
+trim_end-front : (text : List ℕ) → (tail : List ℕ) × (text ≡ trim_end text ++ tail)
+unfolding trim_end
+trim_end-front text =
+    let back = reverse text in
+    let count = length back - length (skip_blanks back) in (
+      reverse (take count back),
+      sym (reverse-reverse text) ∙ ap reverse (sym (take-append-drop count back))
+          ∙ reverse-append (take count back) (drop count back)
+          ∙ ap (λ t. reverse t ++ reverse (take count back)) (drop-blanks back),
+    )
+
+pub end_cut : (text rest front : List ℕ) → IsUtf8 text → rest ≡ skip_blanks text → front ≡ trim_end rest
+    → IsCharBoundary rest (length front) × (take (length front) rest ≡ trim text)
+end_cut text rest front utf8 is same =
+    let found = trim_end-front (skip_blanks text) in
+    let lengths = ap length found.1 in
+    let short : length (trim text) ≤ length (skip_blanks text) =
+    omega (arith, lengths, length-append (trim text) found.0) in
+    let whole : take (length (trim text)) (skip_blanks text) ≡ trim text =
+    subst (λ t. take (length (trim text)) t ≡ trim text) (sym found.1) (take-append_seam (trim text) found.0) in
+    rw (same, is) (
+      IsCharBoundary-from_take (skip_blanks text) (length (trim text)) (skip_blanks-utf8 text utf8) short
+          (rw whole (trim-utf8 text utf8)),
+      whole,
+    )
+
+-- the first word is the front of a text without its leading blanks
+word-within : (text : List ℕ) → word_length text ≤ length text
+word-within [] = omega arith
+word-within (b ∷ text) = grind (arith, word-within text)
+
+heads : (word more other : List ℕ) (words others : List (List ℕ)) → word ∷ words ≡ other ∷ others → word ≡ other
+heads word more other words others is = grind arith
+
+some_by : (n : ℕ) → (n ≡ 0 → ⊥) → 0 < n
+some_by n other = omega (arith, other)
+
+word_parts : (text word : List ℕ) (words : List (List ℕ)) → IsUtf8 text → words_of text ≡ word ∷ words → (length word
+    ≡ word_length (skip_blanks text)) × IsCharBoundary (skip_blanks text) (word_length (skip_blanks text))
+    × (words_of text ≡ take (word_length (skip_blanks text)) (skip_blanks text)
+    ∷ words_of (drop (word_length (skip_blanks text)) (skip_blanks text)))
+word_parts text word words utf8 is =
+    let rest = skip_blanks text in
+    let some : 0 < length rest =
+    some_by (length rest) (λ none. absurd (let e = sym is ∙ words_of-none text none in cc)) in
+    let next = words_of-next text some in
+    let word_is = heads word [] (take (word_length rest) rest) words (words_of (drop (word_length rest) rest))
+    (sym is ∙ next) in (
+      ap length word_is ∙ length-take-le (word_length rest) rest (word-within rest),
+      IsCharBoundary-from_take rest
+          (word_length rest) (skip_blanks-utf8 text utf8) (word-within rest)
+          (word-utf8 rest (skip_blanks-utf8 text utf8)).0,
+      next,
+    )
+
+pub word_cut : (text rest word : List ℕ) (words : List (List ℕ)) → IsUtf8 text → rest ≡ skip_blanks text
+    → words_of text ≡ word ∷ words → IsCharBoundary rest (length word)
+    × (words_of text ≡ take (length word) rest ∷ words_of (drop (length word) rest))
+word_cut text rest word words utf8 same is =
+    let found = word_parts text word words utf8 is in
+    rw (same, found.0) (found.1, found.2)
+
+-- a line of a keyword has a colon, and behind the first stands its text
+abbrev Args : Keyword → Option (List ℕ × List ℕ) → Option (List ℕ)
+Args word parts =
+    option_and_then (λ (known : Keyword × List ℕ). if same_keyword word known.0 then Some known.1 else None)
+    (option_and_then (λ (found : List ℕ × List ℕ). option_map (λ k. (k, found.1)) (keyword_read found.0))
+    (option_and_then (λ (found : List ℕ × List ℕ). if is_word found.0 then Some found else None) parts))
+
+parts_by : (word : Keyword) (parts : Option (List ℕ × List ℕ)) (args : List ℕ) → Args word parts ≡ Some args
+    → (left : List ℕ) × (parts ≡ Some (left, args))
+parts_by word None args is = absurd (cc)
+parts_by word (Some (left, right)) args is =
+    let same : right ≡ args = grind arith in
+    (left, ap (λ t. Some (left, t)) same)
+
+args_by : (word : Keyword) (a b : ℕ) (rest args : List ℕ) (x : Bool) → ((a == 35) && (b == 32)) ≡ x
+    → Args word (option_and_then (cut 58) (cond x (Some rest) None)) ≡ Some args
+    → (front : List ℕ) × (a ∷ b ∷ rest ≡ front ++ 58 ∷ args) × (has_byte 58 front ≡ false)
+args_by word a b rest args true is some =
     let both = and_parts (a == 35) (b == 32) is in
-    let first = eqb-true a 35 both.0 in
-    let second = eqb-true b 32 both.1 in
-    subst (λ t. IsUtf8 t) (if_some true rest body same)
-    (behind_ascii b rest (omega arith) (behind_ascii a (b ∷ rest) (omega arith) utf8))
-body_by a b rest body false is utf8 same = absurd (cc)
+    let found = parts_by word (cut 58 rest) args some in
+    let seam = cut-parts 58 rest found.0 args found.1 in
+    rw (eqb-true a 35 both.0, eqb-true b 32 both.1)
+    (35 ∷ 32 ∷ found.0, ap (λ t. 35 ∷ 32 ∷ t) seam.0, seam.1)
+args_by word a b rest args false is some = absurd (cc)
 
-body_of-utf8 : (line body : List ℕ) → IsUtf8 line → body_of line ≡ Some body → IsUtf8 body
-body_of-utf8 [] body utf8 is = absurd (cc)
-body_of-utf8 (a ∷ []) body utf8 is = absurd (cc)
-body_of-utf8 (a ∷ b ∷ rest) body utf8 is = body_by a b rest body ((a == 35) && (b == 32)) refl utf8 is
+args_in-colon : (word : Keyword) (line args : List ℕ) → args_in word line ≡ Some args
+    → (front : List ℕ) × (line ≡ front ++ 58 ∷ args) × (has_byte 58 front ≡ false)
+unfolding args_in known_of field_of
+args_in-colon word [] args is = absurd (cc)
+args_in-colon word (a ∷ []) args is = absurd (cc)
+args_in-colon word (a ∷ b ∷ rest) args is = args_by word a b rest args ((a == 35) && (b == 32)) refl
+    (grind arith)
 
-field_of-utf8 : (line : List ℕ) (parts : List ℕ × List ℕ) → IsUtf8 line → field_of line ≡ Some parts → IsUtf8 parts.1
-unfolding field_of
-field_of-utf8 line parts utf8 is =
-    let outer = and_then (λ body. option_and_then (λ (found : List ℕ × List ℕ). if is_word found.0 then Some found
-    else None) (cut 58 body)) (body_of line) parts is in
-    let inner = and_then (λ (found : List ℕ × List ℕ). if is_word found.0 then Some found else None)
-    (cut 58 outer.0) parts outer.2 in
-    let same = if_some (is_word inner.0.0) inner.0 parts inner.2 in
-    let body = body_of-utf8 line outer.0 utf8 outer.1 in
-    let seam = (cut-parts 58 outer.0 inner.0.0 inner.0.1 inner.1).0 in
-    subst (λ (found : List ℕ × List ℕ). IsUtf8 found.1) same
-    (behind-utf8 inner.0.0 58 inner.0.1 (omega arith) (subst (λ t. IsUtf8 t) seam body))
+lacks_at : (front : List ℕ) (i : ℕ) → has_byte 58 front ≡ false → i < length front → get_or front i 0 ≡ 58 → ⊥
+lacks_at (b ∷ front) (suc i) lacks within is = grind (arith, lacks_at front i)
+lacks_at front i lacks within is = grind arith
 
-known_of-utf8 : (line : List ℕ) (known : Keyword × List ℕ) → IsUtf8 line → known_of line ≡ Some known → IsUtf8 known.1
-unfolding known_of
-known_of-utf8 line known utf8 is =
-    let found = and_then (λ (parts : List ℕ × List ℕ). option_map (λ k. (k, parts.1)) (keyword_read parts.0))
-    (field_of line) known is in
-    subst (λ t. IsUtf8 t) (second_of (keyword_read found.0.0) found.0.1 known found.2)
-    (field_of-utf8 line found.0 utf8 found.1)
+colon_by : (word : Keyword) (line : List ℕ) (o : Option (List ℕ)) (found : Option (ℕ × ℕ)) → args_in word line ≡ o
+    → is_some o ≡ true → FindsChar 58 line found → MatchOption found ⊥ (λ p. Some (drop p.1 line) ≡ o)
+colon_by word line (Some args) None is some finds =
+    let at = args_in-colon word line args is in
+    finds_char_after 58 line at.0 args None finds (omega arith) at.1 (λ i within same. lacks_at at.0 i at.2 within same)
+colon_by word line (Some args) (Some p) is some finds =
+    let at = args_in-colon word line args is in
+    ap Some (finds_char_after 58 line at.0 args (Some p) finds (omega arith) at.1 (λ i within same. lacks_at at.0 i at.2
+    within same)).1
+colon_by word line None found is some finds = absurd (cc)
 
-pub args_in-utf8 : (word : Keyword) (line args : List ℕ) → IsUtf8 line → args_in word line ≡ Some args → IsUtf8 args
-unfolding args_in
-args_in-utf8 word line args utf8 is =
-    let found = and_then (λ (known : Keyword × List ℕ). if same_keyword word known.0 then Some known.1 else None)
-    (known_of line) args is in
-    subst (λ t. IsUtf8 t) (if_some (same_keyword word found.0.0) found.0.1 args found.2)
-    (known_of-utf8 line found.0 utf8 found.1)
-
--- the text behind the colon of a keyword's line
-text_by : (word : Keyword) (lines : List (List ℕ)) (o : Option (List ℕ)) → ((args : List ℕ) → o ≡ Some args
-    → IsUtf8 args) → IsUtf8 (text_at word lines) → IsUtf8 (unwrap_or (option_or o (args_of word lines)) [])
-text_by word lines None here rest = rest
-text_by word lines (Some args) here rest = here args refl
-
-pub text_at-utf8 : (word : Keyword) (block : List (List ℕ)) → AllByRecursion IsUtf8 block → IsUtf8 (text_at word block)
-text_at-utf8 word [] all = IsUtf8-nil
-text_at-utf8 word (line ∷ lines) all = text_by word lines (args_in word line)
-    (λ args is. args_in-utf8 word line args all.0 is) (text_at-utf8 word lines all.1)
-
--- what continues a description
-indented-utf8 : (line : List ℕ) → IsUtf8 line → is_indented line ≡ true → IsUtf8 (drop 1 line)
-indented-utf8 [] utf8 is = absurd (true≢false (sym is))
-indented-utf8 (b ∷ rest) utf8 is =
-    let first = eqb-true b 35 (and_parts (b == 35) (is_wide rest) is).0 in
-    behind_ascii b rest (omega arith) utf8
-
-one_blank : IsUtf8 (32 ∷ [])
-one_blank = IsUtf8-from_ascii (32 ∷ []) (search arith)
-
-continued_by : (line : List ℕ) (lines : List (List ℕ)) (x y : Bool) → is_indented line ≡ y → IsUtf8 line → IsUtf8
-    (continued lines) → IsUtf8 (cond x (continued lines) (cond y (32 ∷ (trim (drop 1 line) ++ continued lines)) []))
-continued_by line lines true y is utf8 rest = rest
-continued_by line lines false true is utf8 rest =
-    let text = trim-utf8 (drop 1 line) (indented-utf8 line utf8 is) in
-    IsUtf8-append (32 ∷ []) (trim (drop 1 line) ++ continued lines) one_blank
-    (IsUtf8-append (trim (drop 1 line)) (continued lines) text rest)
-continued_by line lines false false is utf8 rest = IsUtf8-nil
-
-continued-utf8 : (lines : List (List ℕ)) → AllByRecursion IsUtf8 lines → IsUtf8 (continued lines)
-continued-utf8 [] all = IsUtf8-nil
-continued-utf8 (line ∷ lines) all =
-    continued_by line lines (is_empty_comment line) (is_indented line) refl all.0 (continued-utf8 lines all.1)
-
-described_by : (o : Option (List ℕ)) (more later : List ℕ) → ((args : List ℕ) → o ≡ Some args → IsUtf8 args)
-    → IsUtf8 more → IsUtf8 later → IsUtf8 (described o more later)
-described_by None more later here first second = second
-described_by (Some args) more later here first second =
-    IsUtf8-append (trim args) more (trim-utf8 args (here args refl)) first
-
-pub description_of-utf8 : (block : List (List ℕ)) → AllByRecursion IsUtf8 block → IsUtf8 (description_of block)
-description_of-utf8 [] all = IsUtf8-nil
-description_of-utf8 (line ∷ lines) all =
-    described_by (args_in keyword.Description line) (continued lines) (description_of lines) (λ args is.
-    args_in-utf8 keyword.Description line args all.0 is) (continued-utf8 lines all.1) (description_of-utf8 lines all.1)
-
--- a line without a fault
-line_utf8 : (line : List ℕ) → is_line line ≡ true → IsUtf8 line
-unfolding is_line
-line_utf8 line is = IsUtf8-from_is_utf8 line (and_parts (is_utf8 line) _ is).0
-
-line_by : (line : List ℕ) (x : Bool) (found : HeaderFault) (other : Option HeaderFault) (rest : Option HeaderFault)
-    → is_line line ≡ x → option_or (cond (not x) (Some found) other) rest ≡ None
-    → (IsUtf8 line) × (option_or other rest ≡ None)
-line_by line true found other rest is none = (line_utf8 line is, none)
-line_by line false found other rest is none = absurd (cc)
-
-rest_none : (o p : Option HeaderFault) → option_or o p ≡ None → p ≡ None
-rest_none o p is = grind arith
-
-pub block-utf8 : (seen : List Keyword) (number : ℕ) (block : List (List ℕ)) → block_fault seen number block ≡ None
-    → AllByRecursion IsUtf8 block
-block-utf8 seen number [] none = tt
-block-utf8 seen number (line ∷ lines) none =
-    let parts = line_by line (is_line line) _ _ (block_fault (seen_after seen line) (number + 1) lines) refl none in
-    (parts.0, block-utf8 (seen_after seen line) (number + 1) lines (rest_none _ _ parts.1))
+pub args_in_cut : (word : Keyword) (line : List ℕ) (found : Option (ℕ × ℕ)) → is_some (args_in word line) ≡ true
+    → FindsChar 58 line found → MatchOption found ⊥ (λ p. Some (drop p.1 line) ≡ args_in word line)
+args_in_cut word line found some finds = colon_by word line (args_in word line) found refl some finds

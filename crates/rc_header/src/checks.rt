@@ -1,6 +1,6 @@
 //! The lines of a header, held to LSB Core 5.0 one after another.
 
-ghost use Rattle.std.specs.Prelude.{◌≡◌, ◌<◌, ◌+◌, ◌^◌, [], None, length, OnOk, IfErr};
+ghost use Rattle.std.specs.Prelude.{◌≡◌, ◌<◌, ◌+◌, ◌^◌, [], None, length, map, IfOk, OnOk, IfErr};
 ghost use Rattle.std.specs.List.{list_any};
 ghost use Rattle.rc_header.specs.Faults.{IsDue};
 ghost use Rattle.rc_header.specs.Keywords.{same_keyword};
@@ -8,7 +8,7 @@ ghost use Rattle.rc_header.specs.Blocks.{block_fault, block_in, line_fault, seen
 
 use crate::blocks::block_line;
 use crate::faults::HeaderFault;
-use crate::forms::{is_line, known_of};
+use crate::forms::{known_of, text_of};
 use crate::keywords::Keyword;
 use std::alloc::Allocator;
 
@@ -18,42 +18,49 @@ fn is_seen(seen: &[Keyword], keyword: Keyword) -> bool
     seen.iter().any(|other| keyword.is(*other))
 }
 
-/// Checks a line after others that had these keywords.
-fn check_line<A: Allocator>(
+/// Checks a line after others that had these keywords, and gives its text.
+fn check_line<'t, A: Allocator>(
     seen: &mut Vec<Keyword, A>,
     number: usize,
-    line: &[u8],
-) -> Result<(), HeaderFault>
+    line: &'t [u8],
+) -> Result<&'t str, HeaderFault>
+    ensures text { IfOk result (λ text. text.now ≡ line.now) }
     ensures fine { OnOk result (line_fault seen.old.items number line.now ≡ None) }
     ensures seen { OnOk result (seen.new.items ≡ seen_after seen.old.items line.now) }
     ensures fault { IfErr result (IsDue (line_fault seen.old.items number line.now)) }
 {
-    if !is_line(line) {
+    let Some(text) = text_of(line) else {
         return Err(HeaderFault::BadLine(number));
-    }
+    };
     let Some((keyword, _)) = known_of(line) else {
-        return Ok(());
+        return Ok(text);
     };
     if is_seen(seen.as_slice(), keyword) {
         return Err(HeaderFault::Twice(keyword));
     }
     seen.push(keyword)?;
-    Ok(())
+    Ok(text)
 }
 
-/// Checks the header's lines one by one; the first has the number after this one.
-pub(crate) fn check<A: Allocator>(alloc: A, begin: usize, body: &[u8]) -> Result<(), HeaderFault>
+/// Checks the header's lines one by one, and gives their texts; the first has the number after this one.
+pub(crate) fn check<'t, A: Allocator + Copy>(
+    alloc: A,
+    begin: usize,
+    body: &'t [u8],
+) -> Result<Vec<&'t str, A>, HeaderFault>
     requires { begin + length body.now < 2 ^ 64 }
+    ensures texts { IfOk result (λ lines. map (λ line. line.now) lines.items ≡ block_in body.now) }
     ensures fine { OnOk result (block_fault [] (begin + 1) (block_in body.now) ≡ None) }
     ensures fault { IfErr result (IsDue (block_fault [] (begin + 1) (block_in body.now))) }
 {
+    let mut lines = Vec::new(alloc);
     let mut seen = Vec::new(alloc);
     let mut number = begin;
     let mut rest = body;
     while let Some((line, more)) = block_line(rest) {
         number += 1;
-        check_line(&mut seen, number, line)?;
+        lines.push(check_line(&mut seen, number, line)?)?;
         rest = more;
     }
-    Ok(())
+    Ok(lines)
 }

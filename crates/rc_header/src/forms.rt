@@ -1,11 +1,12 @@
 //! The forms that a line of a header can have.
 
-ghost use Rattle.std.specs.Prelude.{◌≡◌};
+ghost use Rattle.std.specs.Prelude.{◌≡◌, Some, None, is_some, if◌then◌else◌};
 ghost use Rattle.std.specs.Option.{option_map};
 ghost use Rattle.rc_header.specs.Forms.{args_in, body_of, field_of, is_empty_comment, is_indented, is_line, known_of};
 
 use crate::keywords::Keyword;
-use text_lines::{cut, has_blank, is_all_blank, is_utf8};
+use std::str;
+use text_lines::{cut, has_blank, is_all_blank};
 
 /// A `#`, with nothing after it but blanks and tabs.
 pub(crate) fn is_empty_comment(line: &[u8]) -> bool
@@ -50,12 +51,20 @@ fn field_of(line: &[u8]) -> Option<(&[u8], &[u8])>
     Some((word, args))
 }
 
-/// A line that may stand in a header.
-#[tactic(auto, unfolding(crate::specs::Forms::is_line))]
-pub(crate) fn is_line(line: &[u8]) -> bool
-    ensures { result ≡ is_line line.now }
+/// The text of a line that may stand in a header.
+#[tactic(auto, using(crate::proofs::TextLemmas::not_utf8, crate::proofs::TextLemmas::utf8_text), unfolding(crate::specs::Forms::is_line))]
+pub(crate) fn text_of(line: &[u8]) -> Option<&str>
+    ensures { option_map (λ text. text.now) result
+        ≡ (if is_line line.now then Some line.now else None) }
 {
-    is_utf8(line) && (is_empty_comment(line) || is_indented(line) || field_of(line).is_some())
+    let Ok(text) = str::from_utf8(line) else {
+        return None;
+    };
+    if is_empty_comment(line) || is_indented(line) || field_of(line).is_some() {
+        Some(text)
+    } else {
+        None
+    }
 }
 
 /// The keyword of a line that has one of the nine, and the text after its colon.
@@ -68,11 +77,25 @@ pub fn known_of(line: &[u8]) -> Option<(Keyword, &[u8])>
     Some((keyword, args))
 }
 
-/// The text after the colon of a line of this keyword.
+/// The line is one of this keyword.
 #[tactic(auto, unfolding(crate::specs::Forms::args_in))]
-pub(crate) fn args_in(keyword: Keyword, line: &[u8]) -> Option<&[u8]>
+pub(crate) fn has_keyword(keyword: Keyword, line: &[u8]) -> bool
+    ensures { result ≡ is_some (args_in keyword line.now) }
+{
+    match known_of(line) {
+        Some((known, _)) => keyword.is(known),
+        None => false,
+    }
+}
+
+/// The text after the colon of a line of this keyword.
+pub(crate) fn args_in(keyword: Keyword, line: &str) -> Option<&str>
     ensures { option_map (λ args. args.now) result ≡ args_in keyword line.now }
 {
-    let (known, args) = known_of(line)?;
-    if keyword.is(known) { Some(args) } else { None }
+    if has_keyword(keyword, line.as_bytes()) {
+        let (_, args) = line.split_once(':')?;
+        Some(args)
+    } else {
+        None
+    }
 }

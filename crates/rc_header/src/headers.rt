@@ -1,10 +1,10 @@
 //! The header of an init script (LSB Core 5.0).
 
-ghost use Rattle.std.specs.Prelude.{◌≡◌, ◌≢◌, Ok, Err, map, string_bytes, IfOk, IfErr, IfSome};
-ghost use Rattle.std.specs.List.{AllByRecursion};
-ghost use Rattle.std.specs.Str.{IsUtf8};
+ghost use Rattle.std.specs.Prelude.{◌≡◌, ◌≢◌, ◌+◌, ◌<◌, ◌^◌, [], None, Ok, Err, length, map, string_bytes};
+ghost use Rattle.std.specs.Prelude.{IfOk, OnOk, IfErr, IfSome};
 ghost use Rattle.text_lines.specs.Lines.{words_of};
-ghost use Rattle.rc_header.specs.Blocks.{block_in};
+ghost use Rattle.rc_header.specs.Blocks.{block_fault, block_in};
+ghost use Rattle.rc_header.specs.Faults.{IsDue};
 ghost use Rattle.rc_header.specs.HeaderText.{facility_header};
 ghost use Rattle.rc_header.specs.Headers.{frame_fault, header_of, header_read, text_at};
 
@@ -145,30 +145,37 @@ impl<A: Allocator + Copy> Header<A> {
 fn names_of<A: Allocator + Copy>(
     alloc: A,
     keyword: Keyword,
-    body: &[u8],
+    lines: &[&str],
 ) -> Result<Vec<String<A>, A>, Memory>
-    requires { AllByRecursion IsUtf8 (block_in body.now) }
-    ensures { IfOk result (λ words.
-        map string_bytes words.items ≡ words_of (text_at keyword (block_in body.now))) }
+    ensures { IfOk result (λ words. map string_bytes words.items
+        ≡ words_of (text_at keyword (map (λ line. line.now) lines.now))) }
 {
-    words_of(alloc, args_of(keyword, body))
+    words_of(alloc, args_of(keyword, lines))
 }
 
-/// The header in the lines before the one that ends it.
-fn header_of<A: Allocator + Copy>(alloc: A, body: &[u8]) -> Result<Header<A>, Memory>
-    requires { AllByRecursion IsUtf8 (block_in body.now) }
-    ensures { IfOk result (λ header. header ≡ header_of (block_in body.now)) }
+/// The header in the text after the line that begins it, which has this number.
+fn header_of<A: Allocator + Copy>(
+    alloc: A,
+    begin: usize,
+    body: &[u8],
+) -> Result<Header<A>, HeaderFault>
+    requires { begin + length body.now < 2 ^ 64 }
+    ensures header { IfOk result (λ header. header ≡ header_of (block_in body.now)) }
+    ensures fine { OnOk result (block_fault [] (begin + 1) (block_in body.now) ≡ None) }
+    ensures fault { IfErr result (IsDue (block_fault [] (begin + 1) (block_in body.now))) }
 {
+    let checked = check(alloc, begin, body)?;
+    let lines = checked.as_slice();
     Ok(Header {
-        provides: names_of(alloc, Keyword::Provides, body)?,
-        required_start: names_of(alloc, Keyword::RequiredStart, body)?,
-        required_stop: names_of(alloc, Keyword::RequiredStop, body)?,
-        should_start: names_of(alloc, Keyword::ShouldStart, body)?,
-        should_stop: names_of(alloc, Keyword::ShouldStop, body)?,
-        default_start: levels_of(alloc, args_of(Keyword::DefaultStart, body))?,
-        default_stop: levels_of(alloc, args_of(Keyword::DefaultStop, body))?,
-        short_description: short_description_of(alloc, body)?,
-        description: description_of(alloc, body)?,
+        provides: names_of(alloc, Keyword::Provides, lines)?,
+        required_start: names_of(alloc, Keyword::RequiredStart, lines)?,
+        required_stop: names_of(alloc, Keyword::RequiredStop, lines)?,
+        should_start: names_of(alloc, Keyword::ShouldStart, lines)?,
+        should_stop: names_of(alloc, Keyword::ShouldStop, lines)?,
+        default_start: levels_of(alloc, args_of(Keyword::DefaultStart, lines))?,
+        default_stop: levels_of(alloc, args_of(Keyword::DefaultStop, lines))?,
+        short_description: short_description_of(alloc, lines)?,
+        description: description_of(alloc, lines)?,
     })
 }
 
@@ -187,8 +194,7 @@ pub fn read<A: Allocator + Copy>(alloc: A, text: &[u8]) -> Result<Header<A>, Hea
     if !has_end(body) {
         return Err(HeaderFault::NoEnd);
     }
-    check(alloc, number, body)?;
-    let header = header_of(alloc, body)?;
+    let header = header_of(alloc, number, body)?;
     if header.provides.is_empty() {
         return Err(HeaderFault::NoProvides);
     }

@@ -10,6 +10,7 @@ mod headers;
 mod keywords;
 mod pieces;
 mod places;
+mod texts;
 
 pub use blocks::{block_line, find_header};
 pub use faults::HeaderFault;

@@ -6,7 +6,7 @@ ghost use Rattle.rc_header.specs.Blocks.{block_in};
 ghost use Rattle.rc_header.specs.Places.{next_line, second_keyword_line};
 
 use crate::blocks::{block_line, find_header};
-use crate::forms::args_in;
+use crate::forms::has_keyword;
 use crate::keywords::Keyword;
 
 /// The number of the next line of a keyword in what is left of a header, after the line of this number, and the text
@@ -21,7 +21,7 @@ fn next_line(keyword: Keyword, before: usize, body: &[u8]) -> Option<(usize, &[u
     let mut rest = body;
     while let Some((line, more)) = block_line(rest) {
         number += 1;
-        if args_in(keyword, line).is_some() {
+        if has_keyword(keyword, line) {
             return Some((number, more));
         }
         rest = more;

@@ -8,4 +8,4 @@ invariant-loop-word g l = record {
 }
 
 abbrev pub decreases-loop-word : goal.decreases-loop-word
-decreases-loop-word g l = length l.rest
+decreases-loop-word g l = length (words_of l.rest)
