@@ -1,10 +1,11 @@
 -- The command line, and what its words ask is done.
 use Rattle.initview_command.proofs.Words.{◌≡◌, ◌∙◌, [], ◌∷◌, ap, inl, inr, refl, sym, true, false, ℕ, Bool, codes, List}
-use Rattle.initview_command.proofs.Words.{Option, Some, None, subst, unwrap_or, IsSome, option_and_then, Row, all_of}
-use Rattle.initview_command.proofs.Words.{is_simple_and_free, DONE, DEVICE_FAULT, KnownTexts, reason_of, Heard}
-use Rattle.initview_command.proofs.Words.{says_nothing, asked_of, command_line, files_of, folder_of, path_of, what_of}
-use Rattle.initview_command.proofs.Words.{words_said, Writes, KnownWriters, Does, EndsAs, EndsFor, EndsGiven, EndsOf}
-use Rattle.initview_command.proofs.Words.{DoesTimed, EndsOn, EndsWhere, Refuses, local_said}
+use Rattle.initview_command.proofs.Words.{Option, Some, None, subst, IsSome, option_and_then, Row, is_simple_and_free}
+use Rattle.initview_command.proofs.Words.{DONE, DEVICE_FAULT, KnownTexts, reason_of, Heard, says_nothing, PathTexts}
+use Rattle.initview_command.proofs.Words.{asked_of, command_line, local_said, paths_of, what_of, words_said, Writes}
+use Rattle.initview_command.proofs.Words.{KnownWriters, Does, DoesTimed, EndsAs, EndsFor, EndsOf, EndsOn, EndsWhere}
+use Rattle.initview_command.proofs.Words.{Refuses}
+use Rattle.initview_command.proofs.Words.{SaysNothing, all_of, timed, Bor, map, option_map, unwrap_or}
 use Rattle.clap.proofs.OnLiterals.{clap_on_literals}
 use Rattle.command_words.specs.CommandLines.{bare_line, given_by, line_of}
 use Rattle.command_words.specs.declared.faults.WordFault.{WordFault}
@@ -21,40 +22,32 @@ unfolding bare_line line_of clap_on_literals
 is_free_line = refl
 
 module _ (text_at growing_at : KnownTexts) (writers : KnownWriters) (status : ℕ) (old new : Heard) where
-  pub so_done : (rows : List Row) (words : List (List ℕ)) (path : List ℕ) (files : List (List ℕ))
-      (folder : Option (List ℕ)) (local : Bool) (what : Command) (asked : Option Command)
-      → path ≡ path_of what rows words → files ≡ files_of what words → folder ≡ folder_of rows
-      → local ≡ local_said rows → Some what ≡ asked
-      → DoesTimed local text_at growing_at writers path files folder what status old new
-      → EndsFor text_at growing_at writers rows words asked status old new
-  so_done rows words path files folder local what asked e1 e2 e3 e4 e5 done =
-      let Done : List ℕ → List (List ℕ) → Option (List ℕ) → Bool → Type 0 = λ p fs f l.
-      DoesTimed l text_at growing_at writers p fs f what status old new in
-      subst (λ a. EndsFor text_at growing_at writers rows words a status old new) e5
-      (subst (λ p. Done p (files_of what words) (folder_of rows) (local_said rows)) e1
-      (subst (λ fs. Done path fs (folder_of rows) (local_said rows)) e2
-      (subst (λ f. Done path files f (local_said rows)) e3 (subst (λ l. Done path files folder l) e4 done))))
+  -- of words that give rows, by what they ask
+  module _ (rows : List Row) (given : List (List ℕ)) (are : given ≡ words_said rows) where
+    pub ends_for : (asked : Option Command) → asked ≡ what_of rows given
+        → EndsFor text_at growing_at writers rows asked status old new
+        → EndsOf text_at growing_at writers rows status old new
+    ends_for asked is ends =
+        subst (λ a. EndsFor text_at growing_at writers rows a status old new) (is ∙ ap (what_of rows) are) ends
 
-  -- by whether times are to be local
-  module _ (path : List ℕ) (files : List (List ℕ)) (folder : Option (List ℕ)) (what : Command) where
-    pub timed : (local : Bool) → local ≡ true
-        → DoesTimed true text_at growing_at writers path files folder what status old new
-        → DoesTimed local text_at growing_at writers path files folder what status old new
-    timed true is done = done
-    timed false is done = absurd (cc)
+    -- where something is asked
+    module _ (what : Command) (local : Bool) (asked : Some what ≡ what_of rows given) (is : local ≡ local_said rows)
+      where
+        pub so_done : (middle : Heard) (paths : PathTexts) → paths ≡ paths_of what rows given
+            → middle ≡ timed local old → Does text_at growing_at writers paths what status middle new
+            → EndsOf text_at growing_at writers rows status old new
+        so_done middle paths named same done =
+            ends_for (Some what) asked (subst (λ l. DoesTimed l text_at growing_at writers
+            (paths_of what rows (words_said rows)) what status old new) is
+            (inl
+            (subst (λ now. Does text_at growing_at writers (paths_of what rows (words_said rows)) what status now new)
+            same (subst (λ p. Does text_at growing_at writers p what status middle new)
+            (named ∙ ap (paths_of what rows) are) done))))
 
-    pub untimed : (local : Bool) → local ≡ false → Does text_at growing_at writers path files folder what status old new
-        → DoesTimed local text_at growing_at writers path files folder what status old new
-    untimed true is done = absurd (cc)
-    untimed false is done = done
-
-  pub words_given : (rows : List Row) (words : List (List ℕ)) (given : Option (List (List ℕ)))
-      → given ≡ all_of (codes "WORD") rows → unwrap_or given [] ≡ words
-      → EndsGiven text_at growing_at writers rows words status old new
-      → EndsOf text_at growing_at writers rows status old new
-  words_given rows words given all are ends =
-      subst (λ ws. EndsGiven text_at growing_at writers rows ws status old new)
-      (sym are ∙ ap (λ ws. unwrap_or ws []) all) ends
+        pub zone_unread : local ≡ true → status ≡ DEVICE_FAULT → SaysNothing old new
+            → EndsOf text_at growing_at writers rows status old new
+        zone_unread local_asked failed nothing =
+            ends_for (Some what) asked (inr (sym is ∙ local_asked, failed, nothing))
 
   -- by whether the version is asked for
   pub version_done : (words : List (List ℕ)) (asks : Bool) → asks ≡ true
@@ -97,8 +90,18 @@ pub asked_none : (words : List (List ℕ)) (rows : List Row) → given_by comman
     → asked_of words ≡ None → what_of rows (words_said rows) ≡ None
 asked_none words rows given none = sym (ap (option_and_then (λ r. what_of r (words_said r))) given) ∙ none
 
-pub words_none : (rows : List Row) (words : List (List ℕ)) (given : Option (List (List ℕ)))
-    → given ≡ all_of (codes "WORD") rows → unwrap_or given [] ≡ words
-    → what_of rows (words_said rows) ≡ None → what_of rows words ≡ None
-words_none rows words given all are none =
-    ap (what_of rows) (sym are ∙ ap (λ ws. unwrap_or ws []) all) ∙ none
+-- the words that are given, and none where none are
+words_or_none : (given : Option (Bor (List (Bor (List ℕ))))) (none : Bor (List (Bor (List ℕ))))
+    (all : Option (List (List ℕ))) → option_map (λ ws. map (λ word. word.now) ws.now) given ≡ all → none.now ≡ []
+    → map (λ word. word.now) (unwrap_or given none).now ≡ unwrap_or all []
+words_or_none None none all is empty = ap (map (λ word. word.now)) empty ∙ ap (λ words. unwrap_or words []) is
+words_or_none (Some words) none all is empty = ap (λ words. unwrap_or words []) is
+
+pub words_given : (rows : List Row) (given : Option (Bor (List (Bor (List ℕ)))))
+    (none words : Bor (List (Bor (List ℕ))))
+    → words ≡ unwrap_or given none → none.now ≡ []
+    → option_map (λ ws. map (λ word. word.now) ws.now) given ≡ all_of (codes "WORD") rows
+    → map (λ word. word.now) words.now ≡ words_said rows
+words_given rows given none words is empty all =
+    ap (λ (ws : Bor (List (Bor (List ℕ)))). map (λ word. word.now) ws.now) is
+    ∙ words_or_none given none (all_of (codes "WORD") rows) all empty

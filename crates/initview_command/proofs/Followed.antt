@@ -22,22 +22,24 @@ use Rattle.initview_command.specs.declared.following.Reader.TheVariants.{Run, Pa
 use Rattle.initview_command.specs.Following.{start_of}
 
 -- the lines of what a reader has taken, and of a text that goes on behind the line at which it stopped
-pub lines_of : (reader : Reader) (said : List Line) (text : List ℕ) → length text < 2 ^ 64 → HasLines reader said text
-    → (stop : Option ViewEnd) × (line : Option ℕ) × AreLinesOf (judges reader) text stop line said
-lines_of (Run state) said text small has = said_of state said text small has
-lines_of (Part state) said text small has =
+pub lines_of : (reader : Reader) (past_lines : List Line) (text : List ℕ) → length text < 2 ^ 64
+    → HasLines reader past_lines text
+    → (stop : Option ViewEnd) × (line : Option ℕ) × AreLinesOf (judges reader) text stop line past_lines
+lines_of (Run state) past_lines text small has = said_of state past_lines text small has
+lines_of (Part state) past_lines text small has =
     let line : Option ℕ = left_of state.stop (option_map capped (line_left state.reading.lines state.reading.over)) in
-    (state.stop, line, told_of state said text line small refl has)
+    (state.stop, line, told_of state past_lines text line small refl has)
 
-told_more : (text more : List ℕ) (stop : Option ViewEnd) (line : Option ℕ) (said : List Line) → is_some stop ≡ true
-    → IsToldOf text stop line said → IsToldOf (text ++ more) stop line said
-told_more text more None line said is so = absurd (cc)
-told_more text more (Some stop) line said is so = (so.0, (stops_more stop so.0 text more so.1.0, so.1.1), so.2)
+told_more : (text more : List ℕ) (stop : Option ViewEnd) (line : Option ℕ) (past_lines : List Line)
+    → is_some stop ≡ true → IsToldOf text stop line past_lines → IsToldOf (text ++ more) stop line past_lines
+told_more text more None line past_lines is so = absurd (cc)
+told_more text more (Some stop) line past_lines is so = (so.0, (stops_more stop so.0 text more so.1.0, so.1.1), so.2)
 
-lines_more : (judged : Bool) (text more : List ℕ) (stop : Option ViewEnd) (line : Option ℕ) (said : List Line)
-    → is_some stop ≡ true → AreLinesOf judged text stop line said → AreLinesOf judged (text ++ more) stop line said
-lines_more true text more stop line said is so = said_more text more stop line said is so
-lines_more false text more stop line said is so = told_more text more stop line said is so
+lines_more : (judged : Bool) (text more : List ℕ) (stop : Option ViewEnd) (line : Option ℕ) (past_lines : List Line)
+    → is_some stop ≡ true → AreLinesOf judged text stop line past_lines
+    → AreLinesOf judged (text ++ more) stop line past_lines
+lines_more true text more stop line past_lines is so = said_more text more stop line past_lines is so
+lines_more false text more stop line past_lines is so = told_more text more stop line past_lines is so
 
 -- the reader for a text is that of what comes
 pub for_more : (last : Option ℕ) (old new : Reader) (text piece : List ℕ) → judges new ≡ judges old
@@ -50,21 +52,24 @@ for_text : (last : Option ℕ) (reader : Reader) (text : List ℕ) → IsFor las
 for_text last reader text is = ap (is_judged last) (sym (append-nil text)) ∙ is []
 
 as_asked : (last : Option ℕ) (reader : Reader) (text : List ℕ) (stop : Option ViewEnd) (line : Option ℕ)
-    (said : List Line) → IsFor last reader text → AreLinesOf (judges reader) text stop line said
-    → AreLinesOf (is_judged last text) text stop line said
-as_asked last reader text stop line said is so =
-    subst (λ j. AreLinesOf j text stop line said) (sym (for_text last reader text is)) so
+    (past_lines : List Line) → IsFor last reader text → AreLinesOf (judges reader) text stop line past_lines
+    → AreLinesOf (is_judged last text) text stop line past_lines
+as_asked last reader text stop line past_lines is so =
+    subst (λ j. AreLinesOf j text stop line past_lines) (sym (for_text last reader text is)) so
 
 -- a reader takes one piece more, and its lines stand behind those before
 abbrev pub Takes : Reader → Reader → List ℕ → List Line → List Line → Type 0
 Takes old new piece before lines =
-    (said : List Line) (text : List ℕ) → length (text ++ piece) < 2 ^ 64 → HasLines old (said ++ before) text
-    → HasLines new (said ++ lines) (text ++ piece)
+    (past_lines : List Line) (text : List ℕ) → length (text ++ piece) < 2 ^ 64
+    → HasLines old (past_lines ++ before) text → HasLines new (past_lines ++ lines) (text ++ piece)
 
-lines_then : (old new : Reader) (text piece : List ℕ) (said none lines : List Line) → none ≡ [] → length (text ++ piece)
-    < 2 ^ 64 → Takes old new piece none lines → HasLines old said text → HasLines new (said ++ lines) (text ++ piece)
-lines_then old new text piece said none lines is small takes has =
-    takes said text small (subst (λ s. HasLines old s text) (sym (append-nil said) ∙ ap (λ n. said ++ n) (sym is)) has)
+lines_then : (old new : Reader) (text piece : List ℕ) (past_lines none lines : List Line) → none ≡ []
+    → length (text ++ piece)
+    < 2 ^ 64 → Takes old new piece none lines → HasLines old past_lines text
+    → HasLines new (past_lines ++ lines) (text ++ piece)
+lines_then old new text piece past_lines none lines is small takes has =
+    takes past_lines text small
+    (subst (λ s. HasLines old s text) (sym (append-nil past_lines) ∙ ap (λ n. past_lines ++ n) (sym is)) has)
 
 behind_hidden : (old new : Reader) (text piece : List ℕ) (hidden shown none lines : List Line) → none ≡ []
     → length (text ++ piece) < 2 ^ 64 → Takes old new piece none lines → HasLines old (hidden ++ shown) text
@@ -81,7 +86,7 @@ piece_written start old new text piece none lines before after is small same tak
   has.0 ++ lines,
   for_more start.last old new text piece same has.1,
   behind_hidden old new text piece start.hidden has.0 none lines is small takes has.2,
-  says_then start.said before after has.0 lines has.3 appends,
+  says_then start.heard before after has.0 lines has.3 appends,
 )
 
 -- a part of them was written
@@ -98,13 +103,13 @@ piece_part start old new text piece none lines before after is small same takes 
       ([], append-nil (text ++ piece)),
       as_asked start.last new (text ++ piece) so.0 so.1 (start.hidden ++ (has.0 ++ lines))
           (for_more start.last old new text piece same has.1) so.2,
-      front_then start.said before after has.0 lines has.3 part,
+      front_then start.heard before after has.0 lines has.3 part,
     )
 
 -- the lines of all that was taken were written
-pub written_part : (start : Start) (left : Option (List ℕ)) (reader : Reader) (text : List ℕ) (now : Heard)
-    → length text < 2 ^ 64 → BeginsAllOf left text → HasWritten start reader text now → WritesPart start left now
-written_part start left reader text now small begins has =
+pub written_part : (start : Start) (input : Option (List ℕ)) (reader : Reader) (text : List ℕ) (now : Heard)
+    → length text < 2 ^ 64 → BeginsAllOf input text → HasWritten start reader text now → WritesPart start input now
+written_part start input reader text now small begins has =
     let so = lines_of reader (start.hidden ++ has.0) text small has.2 in (
       text,
       has.0,
@@ -112,7 +117,7 @@ written_part start left reader text now small begins has =
       so.1,
       begins,
       as_asked start.last reader text so.0 so.1 (start.hidden ++ has.0) has.1 so.2,
-      front_whole start.said now has.0 has.3,
+      front_whole start.heard now has.0 has.3,
     )
 
 pub piece_unseen : (start : Start) (reader : Reader) (text piece : List ℕ) (now : Heard)
@@ -122,49 +127,51 @@ piece_unseen start reader text piece now small has =
     (piece, refl) has
 
 -- what a reader gave begins what it had
-pub begins : (left now : Option (List ℕ)) (text : List ℕ) → Consumes left now text → BeginsAllOf left text
+pub begins : (input now : Option (List ℕ)) (text : List ℕ) → Consumes input now text → BeginsAllOf input text
 begins None now text consumed = tt
 begins (Some known) None text consumed = absurd consumed
 begins (Some known) (Some rest) text consumed = (rest, sym consumed)
 
-begins_more : (left now : Option (List ℕ)) (text front : List ℕ) → Consumes left now text
-    → BeginsAllOf (Some text) front → BeginsAllOf left front
+begins_more : (input now : Option (List ℕ)) (text front : List ℕ) → Consumes input now text
+    → BeginsAllOf (Some text) front → BeginsAllOf input front
 begins_more None now text front consumed begins = tt
 begins_more (Some known) None text front consumed begins = absurd consumed
 begins_more (Some known) (Some rest) text front consumed begins =
     (begins.0 ++ rest, sym (append_assoc front begins.0 rest) ∙ ap (λ t. t ++ rest) begins.1 ∙ sym consumed)
 
 -- a part of the lines of what it gave is one of the lines of what it had
-pub part_of : (start : Start) (left now : Option (List ℕ)) (text : List ℕ) (new : Heard) → Consumes left now text
-    → WritesPart start (Some text) new → WritesPart start left new
-part_of start left now text new consumed part =
-    (part.0, part.1, part.2, part.3, begins_more left now text part.0 consumed part.4, part.5, part.6)
+pub part_of : (start : Start) (input now : Option (List ℕ)) (text : List ℕ) (new : Heard) → Consumes input now text
+    → WritesPart start (Some text) new → WritesPart start input new
+part_of start input now text new consumed part =
+    (part.0, part.1, part.2, part.3, begins_more input now text part.0 consumed part.4, part.5, part.6)
 
 -- at its end, or where the reader goes no further
-all_taken : (left now after : Option (List ℕ)) (text : List ℕ) → Consumes left now text → Consumes now after []
-    → IsAtEnd after → IsAllOf left text
+all_taken : (input now after : Option (List ℕ)) (text : List ℕ) → Consumes input now text → Consumes now after []
+    → IsAtEnd after → IsAllOf input text
 all_taken None now after text consumed none ended = tt
 all_taken (Some known) None after text consumed none ended = absurd consumed
 all_taken (Some known) (Some rest) None text consumed none ended = absurd none
 all_taken (Some known) (Some rest) (Some more) text consumed none ended =
     sym (append-nil text) ∙ ap (λ t. text ++ t) (sym (none ∙ ended)) ∙ sym consumed
 
-pub all_read : (start : Start) (left now after : Option (List ℕ)) (stop : Option ViewEnd) (line : Option ℕ)
-    (reader : Reader) (text : List ℕ) (new : Heard) → Consumes left now text → Consumes now after [] → IsAtEnd after
-    → ((said : List Line) → HasLines reader said text → AreLinesOf (judges reader) text stop line said)
-    → HasWritten start reader text new → WritesAll start left stop line new
-all_read start left now after stop line reader text new consumed none ended so has = (
+pub all_read : (start : Start) (input now after : Option (List ℕ)) (stop : Option ViewEnd) (line : Option ℕ)
+    (reader : Reader) (text : List ℕ) (new : Heard) → Consumes input now text → Consumes now after [] → IsAtEnd after
+    → ((past_lines : List Line) → HasLines reader past_lines text
+    → AreLinesOf (judges reader) text stop line past_lines)
+    → HasWritten start reader text new → WritesAll start input stop line new
+all_read start input now after stop line reader text new consumed none ended so has = (
   text,
   has.0,
-  all_taken left now after text consumed none ended,
+  all_taken input now after text consumed none ended,
   as_asked start.last reader text stop line (start.hidden ++ has.0) has.1 (so (start.hidden ++ has.0) has.2),
   has.3,
 )
 
-pub all_stopped : (start : Start) (left now : Option (List ℕ)) (stop : Option ViewEnd) (line : Option ℕ)
-    (reader : Reader) (text : List ℕ) (new : Heard) → is_some stop ≡ true → Consumes left now text
-    → ((said : List Line) → HasLines reader said text → AreLinesOf (judges reader) text stop line said)
-    → HasWritten start reader text new → WritesAll start left stop line new
+pub all_stopped : (start : Start) (input now : Option (List ℕ)) (stop : Option ViewEnd) (line : Option ℕ)
+    (reader : Reader) (text : List ℕ) (new : Heard) → is_some stop ≡ true → Consumes input now text
+    → ((past_lines : List Line) → HasLines reader past_lines text
+    → AreLinesOf (judges reader) text stop line past_lines)
+    → HasWritten start reader text new → WritesAll start input stop line new
 all_stopped start None now stop line reader text new is consumed so has = (
   text,
   has.0,
@@ -196,7 +203,7 @@ if_err P Q (Err error) so is = so is
 nothing : IsSaidOf [] None None []
 nothing = ([], (refl, record { over = []; are = refl; whole = refl; unfinished = refl; at = refl }), refl, refl)
 
-none_of : (left : Option (List ℕ)) → BeginsAllOf left []
+none_of : (input : Option (List ℕ)) → BeginsAllOf input []
 none_of None = tt
 none_of (Some known) = (known, refl)
 
@@ -204,35 +211,35 @@ none_judged : (last : Option ℕ) → AreLinesOf (is_judged last []) [] None Non
 none_judged None = nothing
 none_judged (Some count) = nothing
 
-none_hidden : (last : Option ℕ) (left : Option (List ℕ)) → IsHidden last left []
-none_hidden None left = refl
-none_hidden (Some count) left = ([], [], None, None, none_of left, nothing, omega (arith))
+none_hidden : (last : Option ℕ) (input : Option (List ℕ)) → IsHidden last input []
+none_hidden None input = refl
+none_hidden (Some count) input = ([], [], None, None, none_of input, nothing, omega (arith))
 
-pub none_part : (last : Option ℕ) (left : Option (List ℕ)) (now : Heard) → FollowsPart last left now now
-none_part last left now =
-    ([], none_hidden last left, ([], [], None, None, none_of left, none_judged last, front_none now []))
+pub none_part : (last : Option ℕ) (input : Option (List ℕ)) (now : Heard) → FollowsPart last input now now
+none_part last input now =
+    ([], none_hidden last input, ([], [], None, None, none_of input, none_judged last, front_none now []))
 
-pub none_all : (last : Option ℕ) (left : Option (List ℕ)) (now : Heard) → IsAllOf left []
-    → FollowsAll last left None None now now
-none_all last left now all = ([], none_hidden last left, ([], [], all, none_judged last, says_nothing now))
+pub none_all : (last : Option ℕ) (input : Option (List ℕ)) (now : Heard) → IsAllOf input []
+    → FollowsAll last input None None now now
+none_all last input now all = ([], none_hidden last input, ([], [], all, none_judged last, says_nothing now))
 
 -- nothing is said behind a part
-pub part_still : (last : Option ℕ) (left : Option (List ℕ)) (old mid new : Heard) → FollowsPart last left old mid
-    → SaysNothing mid new → FollowsPart last left old new
-part_still last left old mid new (hidden, is, (text, shown, stop, line, begins, are, front)) nothing =
+pub part_still : (last : Option ℕ) (input : Option (List ℕ)) (old mid new : Heard) → FollowsPart last input old mid
+    → SaysNothing mid new → FollowsPart last input old new
+part_still last input old mid new (hidden, is, (text, shown, stop, line, begins, are, front)) nothing =
     (hidden, is, (text, shown, stop, line, begins, are, front_still old mid new shown front nothing))
 
 -- all lines are written from the first on
-pub from_first : (left : Option (List ℕ)) (reader : Reader) (now : Heard) → judges reader ≡ true → HasLines reader [] []
-    → HasFollowed (start_of None [] now) left reader left now
+pub from_first : (input : Option (List ℕ)) (reader : Reader) (now : Heard) → judges reader ≡ true
+    → HasLines reader [] [] → HasFollowed (start_of None [] now) input reader input now
 from_first None reader now is has = ([], tt, omega (arith), ([], (λ more. sym is), has, says_nothing now))
 from_first (Some known) reader now is has = ([], refl, omega (arith), ([], (λ more. sym is), has, says_nothing now))
 
 -- lines that are kept: all but the last are dropped
-pub kept_last : (limit count : ℕ) (left remaining : Option (List ℕ)) (reader : Reader) (lines front last : List Line)
-    → lines ≡ front ++ last → length front ≡ length lines - count → MayKeep limit count left reader lines remaining
-    → HasKept limit count left reader last remaining
-kept_last limit count left remaining reader lines front last are few (text, hidden, consumed, short, is, has, kept) = (
+pub kept_last : (limit count : ℕ) (input remaining : Option (List ℕ)) (reader : Reader) (lines front last : List Line)
+    → lines ≡ front ++ last → length front ≡ length lines - count → MayKeep limit count input reader lines remaining
+    → HasKept limit count input reader last remaining
+kept_last limit count input remaining reader lines front last are few (text, hidden, consumed, short, is, has, kept) = (
   text,
   hidden ++ front,
   consumed,
@@ -252,12 +259,13 @@ kept_last limit count left remaining reader lines front last are few (text, hidd
 )
 
 -- those of a piece more stand behind them
-pub kept_more : (limit count : ℕ) (left now after : Option (List ℕ)) (old new : Reader) (piece : List ℕ)
+pub kept_more : (limit count : ℕ) (input now after : Option (List ℕ)) (old new : Reader) (piece : List ℕ)
     (before lines all : List Line) → limit + PIECE_LIMIT < 2 ^ 64 → all ≡ before ++ lines → length piece ≤ PIECE_LIMIT
-    → Consumes now after piece → judges new ≡ judges old → ((said : List Line) (text : List ℕ)
-    → length (text ++ piece) < 2 ^ 64 → HasLines old said text → HasLines new (said ++ lines) (text ++ piece))
-    → HasKept limit count left old before now → MayKeep (limit + PIECE_LIMIT) count left new all after
-kept_more limit count left now after old new piece before lines all small are short more same takes
+    → Consumes now after piece → judges new ≡ judges old → ((past_lines : List Line) (text : List ℕ)
+    → length (text ++ piece) < 2 ^ 64 → HasLines old past_lines text
+    → HasLines new (past_lines ++ lines) (text ++ piece))
+    → HasKept limit count input old before now → MayKeep (limit + PIECE_LIMIT) count input new all after
+kept_more limit count input now after old new piece before lines all small are short more same takes
     (text, hidden, consumed, few, for, has, kept) =
     let long : length (text ++ piece) ≤ limit + PIECE_LIMIT = omega (arith, few, short, length-append text piece) in (
       text ++ piece,
@@ -277,18 +285,18 @@ kept_more limit count left now after old new piece before lines all small are sh
       ),
     )
 
-pub kept_there : (limit count : ℕ) (left remaining : Option (List ℕ)) (reader : Reader) (lines : List Line)
-    → limit ≤ there_limit → HasKept limit count left reader lines remaining
-    → HasKept there_limit count left reader lines remaining
-kept_there limit count left remaining reader lines within (text, hidden, consumed, few, is, has, kept) =
+pub kept_there : (limit count : ℕ) (input remaining : Option (List ℕ)) (reader : Reader) (lines : List Line)
+    → limit ≤ there_limit → HasKept limit count input reader lines remaining
+    → HasKept there_limit count input reader lines remaining
+kept_there limit count input remaining reader lines within (text, hidden, consumed, few, is, has, kept) =
     (text, hidden, consumed, omega (arith, few, within), is, has, kept)
 
-pub kept_none : (limit count : ℕ) (left now after : Option (List ℕ)) (reader : Reader) (lines : List Line)
-    → Consumes now after [] → HasKept limit count left reader lines now → HasKept limit count left reader lines after
-kept_none limit count left now after reader lines none (text, hidden, consumed, few, is, has, kept) = (
+pub kept_none : (limit count : ℕ) (input now after : Option (List ℕ)) (reader : Reader) (lines : List Line)
+    → Consumes now after [] → HasKept limit count input reader lines now → HasKept limit count input reader lines after
+kept_none limit count input now after reader lines none (text, hidden, consumed, few, is, has, kept) = (
   text,
   hidden,
-  subst (Consumes left after) (append-nil text) (Consumes-trans _ _ _ _ _ consumed none),
+  subst (Consumes input after) (append-nil text) (Consumes-trans _ _ _ _ _ consumed none),
   few,
   is,
   has,
@@ -296,13 +304,13 @@ kept_none limit count left now after reader lines none (text, hidden, consumed, 
 )
 
 -- the first piece has its reader
-pub first_kept : (count : ℕ) (left now : Option (List ℕ)) (old new : Reader) (piece : List ℕ) (none lines : List Line)
-    → none ≡ [] → 0 < length piece → length piece ≤ PIECE_LIMIT → Consumes left now piece
+pub first_kept : (count : ℕ) (input now : Option (List ℕ)) (old new : Reader) (piece : List ℕ) (none lines : List Line)
+    → none ≡ [] → 0 < length piece → length piece ≤ PIECE_LIMIT → Consumes input now piece
     → judges old ≡ begins_run piece → judges new ≡ judges old → HasLines old [] [] → Takes old new piece none lines
-    → MayKeep PIECE_LIMIT count left new lines now
-first_kept count left now old new [] none lines is some short consumed judged same has takes =
+    → MayKeep PIECE_LIMIT count input new lines now
+first_kept count input now old new [] none lines is some short consumed judged same has takes =
     absurd (omega (arith, some))
-first_kept count left now old new (byte ∷ piece) none lines is some short consumed judged same has takes = (
+first_kept count input now old new (byte ∷ piece) none lines is some short consumed judged same has takes = (
   byte ∷ piece,
   [],
   consumed,
@@ -313,36 +321,37 @@ first_kept count left now old new (byte ∷ piece) none lines is some short cons
 )
 
 -- the kept lines are said, and those that come behind them
-pub kept_said : (count : ℕ) (left now : Option (List ℕ)) (reader : Reader) (lines : List Line) (old new : Heard)
-    → Says old new lines → (kept : HasKept there_limit count left reader lines now)
-    → HasFollowed (start_of (Some count) kept.1 old) left reader now new
-kept_said count left now reader lines old new said kept = (kept.0, kept.2, kept.3, (lines, kept.4, kept.5, said))
+pub kept_said : (count : ℕ) (input now : Option (List ℕ)) (reader : Reader) (lines : List Line) (old new : Heard)
+    → Says old new lines → (kept : HasKept there_limit count input reader lines now)
+    → HasFollowed (start_of (Some count) kept.1 old) input reader now new
+kept_said count input now reader lines old new says kept = (kept.0, kept.2, kept.3, (lines, kept.4, kept.5, says))
 
-pub kept_hidden : (count : ℕ) (left now : Option (List ℕ)) (reader : Reader) (lines : List Line)
-    → (kept : HasKept there_limit count left reader lines now) → IsHidden (Some count) left kept.1
-kept_hidden count left now reader lines kept =
+pub kept_hidden : (count : ℕ) (input now : Option (List ℕ)) (reader : Reader) (lines : List Line)
+    → (kept : HasKept there_limit count input reader lines now) → IsHidden (Some count) input kept.1
+kept_hidden count input now reader lines kept =
     let so = lines_of reader (kept.1 ++ lines) kept.0 (omega (arith, kept.3)) kept.5 in (
       kept.0,
       lines,
       so.0,
       so.1,
-      begins left now kept.0 kept.2,
+      begins input now kept.0 kept.2,
       as_asked (Some count) reader kept.0 so.0 so.1 (kept.1 ++ lines) kept.4 so.2,
       kept.6,
     )
 
-pub kept_part : (count : ℕ) (left now : Option (List ℕ)) (reader : Reader) (lines : List Line) (old new : Heard)
-    → SaysFront old new lines → HasKept there_limit count left reader lines now → FollowsPart (Some count) left old new
-kept_part count left now reader lines old new front kept =
+pub kept_part : (count : ℕ) (input now : Option (List ℕ)) (reader : Reader) (lines : List Line) (old new : Heard)
+    → SaysFront old new lines → HasKept there_limit count input reader lines now
+    → FollowsPart (Some count) input old new
+kept_part count input now reader lines old new front kept =
     let so = lines_of reader (kept.1 ++ lines) kept.0 (omega (arith, kept.3)) kept.5 in (
       kept.1,
-      kept_hidden count left now reader lines kept,
+      kept_hidden count input now reader lines kept,
       (
         kept.0,
         lines,
         so.0,
         so.1,
-        begins left now kept.0 kept.2,
+        begins input now kept.0 kept.2,
         as_asked (Some count) reader kept.0 so.0 so.1 (kept.1 ++ lines) kept.4 so.2,
         front,
       ),

@@ -1,18 +1,14 @@
--- What is written of a trace, and where nothing is.
-use Rattle.initview_command.proofs.Words.{◌≡◌, ◌⊎◌, Bool, true, false, inl, inr, subst, ℕ, List, reverse, Option, Heard}
-use Rattle.initview_command.proofs.Words.{SaysNothing, front_none, says_nothing, DONE, REFUSED, DEVICE_FAULT, IsTextAt}
-use Rattle.initview_command.proofs.Words.{arith}
-use Rattle.initview_command.proofs.Words.{KnownTexts, Event, ViewState, Viewed, ViewEnd, Line, Shows, ShowsBy, ShowsOf}
-use Rattle.initview_command.proofs.Words.{Writes, is_within, FailsBy, fault_status, IsWriterAt, KnownWriters, Writer}
+-- What is answered of a trace and of files, and where nothing is written.
+use Rattle.initview_command.proofs.Words.{◌≡◌, ◌∙◌, Bool, true, false, ap, inl, inr, refl, subst, ℕ, List}
+use Rattle.initview_command.proofs.Words.{reverse, Option, Ok, Err, Heard, front_none, DONE, REFUSED, DEVICE_FAULT}
+use Rattle.initview_command.proofs.Words.{arith, IsTextAt, KnownTexts, Event, ViewState, Viewed, ViewEnd, Line, Answer}
+use Rattle.initview_command.proofs.Words.{Gives, Shows, Writes, is_within, unless_within, FailsBy, fault_status}
+use Rattle.initview_command.proofs.Words.{IsWriterAt, KnownWriters, Writer, PathTexts, NamedText, AreFiles, AnswersOf}
+use Rattle.initview_command.proofs.Words.{Answers, IsRefused, ShowsWith, ShowsWithFiles}
+use Rattle.initview_command.specs.declared.asking.TableQuestion.{TableQuestion}
 use Rattle.inittab_text.specs.declared.faults.TableFault.{TableFault}
 use Rattle.inittab_text.specs.declared.faults.TableFault.TheVariants as fault
 use Rattle.trace_view.specs.SeenTexts.{IsSeen}
-
--- what was written of a text is what is said of it
-pub writes_as : (text said : List Line) (given ends status : ℕ) (old new : Heard) → text ≡ said → given ≡ ends
-    → Writes text given status old new → Writes said ends status old new
-writes_as text said given ends status old new same is written =
-    subst (λ e. Writes said e status old new) is (subst (λ t. Writes t given status old new) same written)
 
 -- memory that ran out: nothing was said
 pub none_written : (lines : List Line) (ends status : ℕ) (now : Heard) → status ≡ DEVICE_FAULT
@@ -23,38 +19,63 @@ none_written lines ends status now is = inr (inl is, front_none now lines)
 pub not_done : (X : Type 0) (status : ℕ) → status ≡ DEVICE_FAULT → status ≡ DONE → X
 not_done X status failed done = absurd (omega (arith, failed, done))
 
+-- lines and a status are the answer
+pub gives_as : (lines : List Line) (status : ℕ) (given : List Line × ℕ) → lines ≡ given.0 → status ≡ given.1
+    → ◌≡◌ {A = Answer} (Ok (lines, status)) (Ok given)
+gives_as lines status given same is = ap (λ l. Ok (l, status)) same ∙ ap (λ s. Ok (given.0, s)) is
+
 -- a text that begins within a run is refused, and any other answered
-refused_by : (within : Bool) (answer : List Line × ℕ) (status : ℕ) (now : Heard) → within ≡ true → status ≡ REFUSED
-    → ShowsBy within answer status now now
-refused_by true answer status now is ends = (ends, says_nothing now)
-refused_by false answer status now is ends = absurd (cc)
+pub refused : (within : Bool) (given : List Line × ℕ) → within ≡ true → Err REFUSED ≡ unless_within within given
+refused true given is = refl
+refused false given is = absurd (cc)
 
-pub refused : (stop : Option ViewEnd) (answer : List Line × ℕ) (status : ℕ) (now : Heard) → is_within stop ≡ true
-    → status ≡ REFUSED → ShowsOf stop answer status now now
-refused stop answer status now is ends = refused_by (is_within stop) answer status now is ends
+pub answered : (within : Bool) (answer : Answer) (given : List Line × ℕ) → within ≡ false → answer ≡ Ok given
+    → answer ≡ unless_within within given
+answered true answer given is so = absurd (cc)
+answered false answer given is so = so
 
-answered_by : (within : Bool) (answer : List Line × ℕ) (status : ℕ) (old new : Heard) → within ≡ false
-    → Writes answer.0 answer.1 status old new → ShowsBy within answer status old new
-answered_by true answer status old new is written = absurd (cc)
-answered_by false answer status old new is written = written
-
-pub answered : (stop : Option ViewEnd) (answer : List Line × ℕ) (status : ℕ) (old new : Heard) → is_within stop ≡ false
-    → Writes answer.0 answer.1 status old new → ShowsOf stop answer status old new
-answered stop answer status old new is written = answered_by (is_within stop) answer status old new is written
-
--- what is shown of a text that was taken
+-- what is answered of a text that was taken
 pub shows : {S : Type 0} (has : S → List Event → Type 0) (text_at : KnownTexts) (writers : KnownWriters)
-    (path text : List ℕ) (gives : Writer → Option ViewEnd → List Event → List Line × ℕ) (view : ViewState) (seen : S)
-    (writer : Writer) (stop : Option ViewEnd) (left : Option ℕ) (status : ℕ) (old new : Heard)
-    → IsTextAt text_at path text → IsWriterAt writers path writer → IsSeen has text stop left view seen
-    → ((past : List Event) → Viewed view past → has seen past → ShowsOf stop (gives writer stop past) status old new)
-    → Shows text_at writers path gives status old new
-shows has text_at writers path text gives view seen writer stop left status old new at by is of =
-    inl (text, writer, stop, left, is.0, at, by, is.1, is.2.judged.lawful, of (reverse is.0) is.2 is.3)
+    (path text : List ℕ) (gives : Gives) (view : ViewState) (seen : S) (writer : Writer) (stop : Option ViewEnd)
+    (unfinished : Option ℕ) (answer : Answer)
+    → IsTextAt text_at path text → IsWriterAt writers path writer → IsSeen has text stop unfinished view seen
+    → ((past : List Event) → Viewed view past → has seen past
+    → answer ≡ unless_within (is_within stop) (gives writer stop past))
+    → Shows text_at writers path gives answer
+shows has text_at writers path text gives view seen writer stop unfinished answer at by is of =
+    inl (text, writer, stop, unfinished, is.0, at, by, is.1, is.2.judged.lawful, of (reverse is.0) is.2 is.3)
 
--- files that are refused, or memory that runs out
-pub fails_by : (X Not : Type 0) (why : TableFault) (status : ℕ) (now : Heard) → FailsBy Not why → status ≡ fault_status
-    why → ((status ≡ DEVICE_FAULT) × SaysNothing now now → X) → X ⊎ ((status ≡ REFUSED) × Not × SaysNothing now now)
-fails_by X Not fault.Memory status now fails is none = inl (none (is, says_nothing now))
-fails_by X Not fault.TooLong status now fails is none = inr (is, fails, says_nothing now)
-fails_by X Not fault.Parts status now fails is none = inr (is, fails, says_nothing now)
+-- so where files belong to the question: they are answered, or refused, or memory runs out
+module _ (text_at : KnownTexts) (writers : KnownWriters) (paths : PathTexts) (gives : List NamedText → Gives)
+    (AreRefused : List NamedText → Type 0) (answer : Answer) where
+  pub with_files : (read files : List NamedText) → AreFiles text_at paths read → files ≡ read
+      → ShowsWith text_at writers paths files gives AreRefused answer
+      → ShowsWithFiles text_at writers paths gives AreRefused answer
+  with_files read files are same shown =
+      inl (read, are, subst (λ fs. ShowsWith text_at writers paths fs gives AreRefused answer) same shown)
+
+  pub shown_with : (files : List NamedText) (given : Gives) → given ≡ gives files
+      → Shows text_at writers paths.path given answer → ShowsWith text_at writers paths files gives AreRefused answer
+  shown_with files given same shown = inl (subst (λ gs. Shows text_at writers paths.path gs answer) same shown)
+
+  pub no_table : (files : List NamedText) (why : TableFault) → answer ≡ Err (fault_status why)
+      → FailsBy (AreRefused files) why → ShowsWith text_at writers paths files gives AreRefused answer
+  no_table files fault.Memory is fails = inl (inr is)
+  no_table files fault.TooLong is fails = inr (is, fails)
+  no_table files fault.Parts is fails = inr (is, fails)
+
+-- so of files alone
+pub answers : (text_at : KnownTexts) (paths : PathTexts) (asked : TableQuestion) (answer : Answer)
+    (read parts : List NamedText) → AreFiles text_at paths read → parts ≡ read → AnswersOf asked parts answer
+    → Answers text_at paths asked answer
+answers text_at paths asked answer read parts are same of =
+    inl (read, are, subst (λ ps. AnswersOf asked ps answer) same of)
+
+pub no_answer : (text_at : KnownTexts) (paths : PathTexts) (asked : TableQuestion) (answer : Answer)
+    (read parts : List NamedText) (why : TableFault) → AreFiles text_at paths read → parts ≡ read
+    → answer ≡ Err (fault_status why) → FailsBy (IsRefused asked parts) why → Answers text_at paths asked answer
+no_answer text_at paths asked answer read parts fault.Memory are same is fails = inr is
+no_answer text_at paths asked answer read parts fault.TooLong are same is fails =
+    answers text_at paths asked answer read parts are same (inr (is, fails))
+no_answer text_at paths asked answer read parts fault.Parts are same is fails =
+    answers text_at paths asked answer read parts are same (inr (is, fails))

@@ -11,16 +11,18 @@ pub use Rattle.command_words.specs.Faults.{reason_of, ReportsUsage}
 pub use Rattle.initview_lines.specs.Saying.{Heard, Says, SaysFront, SaysNothing, with_local_times}
 pub use Rattle.initview_lines.proofs.SayingLemmas.{says_nothing, front_none, front_still, front_then, front_whole}
 pub use Rattle.initview_lines.proofs.SayingLemmas.{says_then}
-pub use Rattle.initview_command.specs.Asking.{asked_of, command_line, files_of, folder_of, local_said, path_of, what_of}
-pub use Rattle.initview_command.specs.Asking.{words_said}
-pub use Rattle.initview_command.specs.Showing.{Writes, Shows, ShowsBy, ShowsOf, is_within}
+pub use Rattle.initview_command.specs.Asking.{PathTexts, asked_of, command_line, local_said, path_texts, paths_of}
+pub use Rattle.initview_command.specs.Asking.{what_of, words_said}
+pub use Rattle.initview_command.specs.Refusals.{fault_status, refusal_status}
+pub use Rattle.initview_command.specs.Showing.{Answer, Gives, Shows, Writes, answer_value, is_within, unless_within}
 pub use Rattle.initview_command.specs.Writers.{KnownWriters, IsWriterAt, present}
-pub use Rattle.initview_command.specs.Endings.{Does, DoesTimed, EndsAs, EndsFor, EndsGiven, EndsOf, EndsOn, EndsWhere}
-pub use Rattle.initview_command.specs.Endings.{Refuses}
+pub use Rattle.initview_command.specs.Endings.{Does, DoesTimed, EndsAs, EndsFor, EndsOf, EndsOn, EndsWhere, Refuses}
+pub use Rattle.initview_command.specs.Endings.{timed}
 pub use Rattle.std.proofs.lemmas.List.{drop_more, length-take, drop_all}
 pub use Rattle.init_words.specs.Parts.{NamedText}
-pub use Rattle.initview_command.specs.Tables.{AreFilesAt, old_of, FailsBy, fault_status, level_asked, plan_by, table_in}
-pub use Rattle.initview_command.specs.Tables.{AreMissing, answer_of}
+pub use Rattle.initview_command.specs.Tables.{AreFilesAt, AreFiles, old_of, FailsBy, level_asked, plan_by, table_in}
+pub use Rattle.initview_command.specs.Tables.{Answers, AnswersOf, AreMissing, IsAnswer, IsRefused, answer_of}
+pub use Rattle.initview_command.specs.WithFiles.{ShowsWith, ShowsWithFiles}
 pub use Rattle.std.specs.Io.KnownBytes.{Consumes, IsAtEnd}
 pub use Rattle.std.proofs.KnownBytes.{Consumes-trans}
 pub use Rattle.program_io.specs.declared.takers.TheConstants.{PIECE_LIMIT, PIECES_LIMIT}

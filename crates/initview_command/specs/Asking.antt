@@ -1,6 +1,6 @@
 -- What a command line asks: options with their values stand anywhere, and the first of the other words is the command.
 use Rattle.std.specs.Prelude.{ℕ, suc, ◌+◌, Bool, true, false, not, ◌&&◌, ◌||◌, ◌==◌, if◌then◌else◌, List, [], ◌∷◌}
-use Rattle.std.specs.Prelude.{codes, length, Option, Some, None, option_and_then, unwrap_or}
+use Rattle.std.specs.Prelude.{codes, length, map, Option, Some, None, option_and_then, unwrap_or}
 use Rattle.std.specs.List.{list_all}
 use Rattle.std.specs.Option.{is_some, option_map}
 use Rattle.std.specs.Str.{bytes_eq}
@@ -18,6 +18,7 @@ use Rattle.initview_command.specs.declared.asking.TraceQuery.{TraceQuery}
 use Rattle.initview_command.specs.declared.asking.TraceQuery.TheVariants as question
 use Rattle.initview_command.specs.declared.asking.TableQuestion.{TableQuestion}
 use Rattle.initview_command.specs.declared.asking.TableQuestion.TheVariants as table
+use Rattle.initview_command.specs.declared.asking.Paths.{Paths}
 use Rattle.initview_command.specs.declared.asking.TheConstants.{LAST_LIMIT, OPTIONS}
 use Rattle.initview_command.specs.declared.asking.Command.{Command}
 use Rattle.initview_command.specs.declared.asking.Command.TheVariants.{Show, Draw, Follow, Explain, Reload, Timing}
@@ -210,33 +211,49 @@ abbrev pub asked_of : List Text → Option Command
 asked_of words = option_and_then (λ rows. what_of rows (words_said rows)) (given_by command_line words)
 
 -- the path of the trace, or the folders of programs; and the paths of the files of inittabs
-abbrev pub second_of : List Text → Text
-second_of (first ∷ second ∷ words) = second
-second_of _ = []
+abbrev pub second_word : List Text → Text
+second_word (first ∷ second ∷ words) = second
+second_word _ = []
 
-abbrev pub third_of : List Text → Text
-third_of (first ∷ second ∷ third ∷ words) = third
-third_of _ = []
+abbrev pub third_word : List Text → Text
+third_word (first ∷ second ∷ third ∷ words) = third
+third_word _ = []
 
-abbrev pub behind_three : List Text → List Text
-behind_three (first ∷ second ∷ third ∷ words) = words
-behind_three _ = []
+abbrev pub after_third : List Text → List Text
+after_third (first ∷ second ∷ third ∷ words) = words
+after_third _ = []
 
-abbrev pub behind_one : List Text → List Text
-behind_one (first ∷ words) = words
-behind_one [] = []
+abbrev pub after_first : List Text → List Text
+after_first (first ∷ words) = words
+after_first [] = []
 
 abbrev pub path_of : Command → List Row → List Text → Text
 path_of (Reload level) rows words = value_said (codes "--trace") rows
 path_of (Timing level) rows words = value_said (codes "--trace") rows
 path_of (Tables question) rows words = value_said (codes "--programs") rows
-path_of (Explain id) rows words = third_of words
-path_of _ rows words = second_of words
+path_of (Explain id) rows words = third_word words
+path_of _ rows words = second_word words
 
 abbrev pub files_of : Command → List Text → List Text
-files_of (Explain id) words = behind_three words
-files_of _ words = behind_one words
+files_of (Explain id) words = after_third words
+files_of _ words = after_first words
 
--- the folder of an inittab's further files
-abbrev pub folder_of : List Row → Option Text
-folder_of rows = first_of (codes "--inittab-dir") rows
+-- these, and the folder of an inittab's further files
+pub record PathTexts : Type 0 where
+  pub path : Text
+  pub files : List Text
+  pub folder : Option Text
+
+abbrev pub paths_of : Command → List Row → List Text → PathTexts
+paths_of what rows words = record {
+  path = path_of what rows words;
+  files = files_of what words;
+  folder = first_of (codes "--inittab-dir") rows;
+}
+
+abbrev pub path_texts : Paths → PathTexts
+path_texts paths = record {
+  path = paths.path.now;
+  files = map (λ file. file.now) paths.files.now;
+  folder = option_map (λ folder. folder.now) paths.folder;
+}

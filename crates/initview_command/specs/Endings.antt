@@ -1,5 +1,5 @@
 -- How initview ends on its words, and what it wrote.
-use Rattle.std.specs.Prelude.{◌≡◌, ◌⊎◌, ℕ, Bool, true, false, List, [], ◌∷◌, codes, Option, Some, None}
+use Rattle.std.specs.Prelude.{◌≡◌, ◌⊎◌, ℕ, Bool, true, false, if◌then◌else◌, List, [], ◌∷◌, codes, Option, Some, None}
 use Rattle.initview_command.specs.Words.{DONE, REFUSED, DEVICE_FAULT, KnownTexts, asks_version, given_by, version_line}
 use Rattle.initview_command.specs.Words.{Heard, SaysNothing, with_local_times}
 use Rattle.clap.specs.Words.{Row}
@@ -7,65 +7,59 @@ use Rattle.initview_lines.specs.declared.lines.Line.TheVariants as line
 use Rattle.initview_command.specs.declared.asking.Command.{Command}
 use Rattle.initview_command.specs.declared.asking.Command.TheVariants.{Show, Draw, Follow, Explain, Reload, Timing}
 use Rattle.initview_command.specs.declared.asking.Command.TheVariants.{Tables}
-use Rattle.initview_command.specs.Asking.{command_line, files_of, folder_of, local_said, path_of, what_of, words_said}
-use Rattle.initview_command.specs.Charting.{drawing}
+use Rattle.initview_command.specs.Asking.{PathTexts, command_line, local_said, paths_of, what_of, words_said}
+use Rattle.initview_command.specs.Charting.{drawing_by}
 use Rattle.initview_command.specs.Explaining.{explained_with}
 use Rattle.initview_command.specs.Following.{Follows}
 use Rattle.initview_command.specs.Planning.{timing_with}
 use Rattle.initview_command.specs.Reloading.{reload_with}
-use Rattle.initview_command.specs.Showing.{Shows, Writes, answer_by, stop_status}
+use Rattle.initview_command.specs.Showing.{Shows, Writes, WritesOne, answer_by}
 use Rattle.initview_command.specs.Tables.{Answers, AreNone, NoneOf}
 use Rattle.initview_command.specs.WithFiles.{ShowsWithFiles}
 use Rattle.initview_command.specs.Writers.{KnownWriters}
 
 -- what is asked of the trace at a path, or of files, is done
-abbrev pub Does : KnownTexts → KnownTexts → KnownWriters → List ℕ → List (List ℕ) → Option (List ℕ) → Command → ℕ
-    → Heard → Heard → Type 0
-Does text_at growing_at writers path files folder (Show question) status old new =
-    Shows text_at writers path (answer_by question) status old new
-Does text_at growing_at writers path files folder (Draw form) status old new =
-    Shows text_at writers path (λ writer stop past. (drawing form past ∷ [], stop_status stop)) status old new
-Does text_at growing_at writers path files folder (Follow last) status old new =
-    Follows last (growing_at path) status old new
-Does text_at growing_at writers path files folder (Explain id) status old new =
-    ShowsWithFiles text_at writers path files folder (explained_with path id) AreNone status old new
-Does text_at growing_at writers path files folder (Reload level) status old new =
-    ShowsWithFiles text_at writers path files folder (λ parts writer. reload_with level parts) NoneOf status old new
-Does text_at growing_at writers path files folder (Timing level) status old new =
-    ShowsWithFiles text_at writers path files folder (λ parts writer. timing_with level parts) AreNone status old new
-Does text_at growing_at writers path files folder (Tables question) status old new =
-    Answers text_at files folder question status old new
+abbrev pub Does : KnownTexts → KnownTexts → KnownWriters → PathTexts → Command → ℕ → Heard → Heard → Type 0
+Does text_at growing_at writers paths (Show question) status old new =
+    WritesOne (Shows text_at writers paths.path (answer_by question)) status old new
+Does text_at growing_at writers paths (Draw form) status old new =
+    WritesOne (Shows text_at writers paths.path (drawing_by form)) status old new
+Does text_at growing_at writers paths (Follow last) status old new =
+    Follows last (growing_at paths.path) status old new
+Does text_at growing_at writers paths (Explain id) status old new =
+    WritesOne (ShowsWithFiles text_at writers paths (explained_with paths.path id) AreNone) status old new
+Does text_at growing_at writers paths (Reload level) status old new =
+    WritesOne (ShowsWithFiles text_at writers paths (λ parts writer. reload_with level parts) NoneOf) status old new
+Does text_at growing_at writers paths (Timing level) status old new =
+    WritesOne (ShowsWithFiles text_at writers paths (λ parts writer. timing_with level parts) AreNone) status old new
+Does text_at growing_at writers paths (Tables question) status old new =
+    WritesOne (Answers text_at paths question) status old new
 
 -- words are refused, or memory ran out, and nothing was written
 abbrev pub Refuses : ℕ → Heard → Heard → Type 0
 Refuses status old new = ((status ≡ REFUSED) ⊎ (status ≡ DEVICE_FAULT)) × SaysNothing old new
 
--- so with local times, where these are asked for; or then the zone was not read, and nothing was written
-abbrev pub DoesTimed : Bool → KnownTexts → KnownTexts → KnownWriters → List ℕ → List (List ℕ) → Option (List ℕ)
-    → Command → ℕ → Heard → Heard → Type 0
-DoesTimed false text_at growing_at writers path files folder what status old new =
-    Does text_at growing_at writers path files folder what status old new
-DoesTimed true text_at growing_at writers path files folder what status old new =
-    Does text_at growing_at writers path files folder what status (with_local_times old) new
-    ⊎ ((status ≡ DEVICE_FAULT) × SaysNothing old new)
+-- times are local, where that is asked for
+abbrev pub timed : Bool → Heard → Heard
+timed local now = if local then with_local_times now else now
+
+-- what is asked is done with such times; or the zone was not read, and nothing was written
+abbrev pub DoesTimed : Bool → KnownTexts → KnownTexts → KnownWriters → PathTexts → Command → ℕ → Heard → Heard
+    → Type 0
+DoesTimed local text_at growing_at writers paths what status old new =
+    Does text_at growing_at writers paths what status (timed local old) new
+    ⊎ ((local ≡ true) × (status ≡ DEVICE_FAULT) × SaysNothing old new)
 
 -- so of what a command line gives, by its options and words; where they ask nothing it is refused
-abbrev pub EndsFor : KnownTexts → KnownTexts → KnownWriters → List Row → List (List ℕ) → Option Command → ℕ
-    → Heard → Heard → Type 0
-EndsFor text_at growing_at writers rows words (Some what) status old new =
-    DoesTimed (local_said rows) text_at growing_at writers (path_of what rows words) (files_of what words)
-    (folder_of rows) what status old new
-EndsFor text_at growing_at writers rows words None status old new = Refuses status old new
-
-abbrev pub EndsGiven : KnownTexts → KnownTexts → KnownWriters → List Row → List (List ℕ) → ℕ → Heard
-    → Heard → Type 0
-EndsGiven text_at growing_at writers rows words status old new =
-    EndsFor text_at growing_at writers rows words (what_of rows words) status old new
+abbrev pub EndsFor : KnownTexts → KnownTexts → KnownWriters → List Row → Option Command → ℕ → Heard → Heard → Type 0
+EndsFor text_at growing_at writers rows (Some what) status old new =
+    DoesTimed (local_said rows) text_at growing_at writers (paths_of what rows (words_said rows)) what status old new
+EndsFor text_at growing_at writers rows None status old new = Refuses status old new
 
 abbrev pub EndsOf : KnownTexts → KnownTexts → KnownWriters → List Row → ℕ → Heard → Heard
     → Type 0
 EndsOf text_at growing_at writers rows status old new =
-    EndsGiven text_at growing_at writers rows (words_said rows) status old new
+    EndsFor text_at growing_at writers rows (what_of rows (words_said rows)) status old new
 
 -- so of words that don't ask for the version; words that are no command line are refused
 abbrev pub EndsWhere : KnownTexts → KnownTexts → KnownWriters → Option (List Row) → ℕ → Heard

@@ -1,7 +1,11 @@
--- What initview reports of words that it refuses.
+-- What initview reports of words that it refuses, and its exit status where it has no answer.
 use Rattle.std.specs.Prelude.{◌≡◌, ◌⊎◌, ◌++◌, ℕ, codes}
 use Rattle.initview_command.specs.Words.{Text, ReportsUsage, REFUSED, DEVICE_FAULT, HasReported, ReportList}
+use Rattle.inittab_text.specs.declared.faults.TableFault.{TableFault}
+use Rattle.inittab_text.specs.declared.faults.TableFault.TheVariants as fault
 use Rattle.initview_command.specs.declared.command.TheConstants.{USAGE}
+use Rattle.initview_command.specs.declared.telling.Refusal.{Refusal}
+use Rattle.initview_command.specs.declared.telling.Refusal.TheVariants as refusal
 
 -- the line of a command's usage
 abbrev pub usage_line : Text → Text
@@ -16,3 +20,14 @@ ReportsRefusal status old new =
     ((status ≡ REFUSED) × (usage : Text)
     × ReportsUsage (codes "initview") USAGE.now (usage_line usage) old new)
     ⊎ ((status ≡ DEVICE_FAULT) × HasReported old new memory_line)
+
+-- the exit status where there is no answer
+abbrev pub fault_status : TableFault → ℕ
+fault_status fault.Memory = DEVICE_FAULT
+fault_status fault.TooLong = REFUSED
+fault_status fault.Parts = REFUSED
+
+abbrev pub refusal_status : Refusal → ℕ
+refusal_status (refusal.Table fault) = fault_status fault
+refusal_status refusal.Within = REFUSED
+refusal_status _ = DEVICE_FAULT

@@ -1,6 +1,6 @@
 -- What is written of a trace, and the exit status.
 use Rattle.std.specs.Prelude.{◌≡◌, ◌⊎◌, ℕ, Bool, true, false, if◌then◌else◌, List, [], ◌∷◌, reverse, Option, Some, None}
-use Rattle.std.specs.Prelude.{is_some}
+use Rattle.std.specs.Prelude.{is_some, Result, Ok, Err, Vec}
 use Rattle.initview_command.specs.Words.{DONE, REFUSED, UNLAWFUL, DEVICE_FAULT, IsTextAt, KnownTexts, Event, ViewEnd}
 use Rattle.initview_command.specs.Words.{Heard, Says, SaysFront, SaysNothing}
 use Rattle.trace_events.specs.Lawful.{first_breach}
@@ -15,13 +15,15 @@ use Rattle.initview_command.specs.declared.asking.TraceQuery.{TraceQuery}
 use Rattle.initview_command.specs.declared.asking.TraceQuery.TheVariants as question
 use Rattle.initview_command.specs.declared.growing.Writer.{Writer}
 use Rattle.initview_command.specs.declared.growing.Writer.TheVariants.{Nobody}
+use Rattle.initview_command.specs.declared.telling.Refusal.{Refusal}
+use Rattle.initview_command.specs.Refusals.{refusal_status}
 use Rattle.initview_command.specs.Writers.{IsWriterAt, KnownWriters, present}
 
 -- the answer to a question, by the past of a trace
-abbrev pub said : TraceQuery → List Event → List Line
-said (question.Status shape) past = status_in shape past
-said (question.Row id shape) past = row_at shape past id ∷ []
-said (question.Left shape) past = left_in shape past
+abbrev pub answer_lines : TraceQuery → List Event → List Line
+answer_lines (question.Status shape) past = status_in shape past
+answer_lines (question.Row id shape) past = row_at shape past id ∷ []
+answer_lines (question.Left shape) past = left_in shape past
 
 -- the exit statuses of the action `status` in the LSB: it runs, which is unknown where no init writes the trace; it
 -- doesn't; it is unknown
@@ -50,7 +52,7 @@ status_by _ writer stop past = stop_status stop
 -- the answer and the exit status, of a trace as it stands by now
 abbrev pub answer_by : TraceQuery → Writer → Option ViewEnd → List Event → List Line × ℕ
 answer_by question writer stop past =
-    (said question (present writer stop past), status_by question writer stop (present writer stop past))
+    (answer_lines question (present writer stop past), status_by question writer stop (present writer stop past))
 
 -- lines were not all said: the output failed or memory ran out; or nobody reads them any more, and all is well
 abbrev pub EndsUnsaid : ℕ → Heard → Type 0
@@ -61,25 +63,42 @@ abbrev pub Writes : List Line → ℕ → ℕ → Heard → Heard → Type 0
 Writes lines ends status old new =
     ((status ≡ ends) × Says old new lines) ⊎ (EndsUnsaid status new × SaysFront old new lines)
 
--- so of an answer and its exit status; a text that begins within a run is refused, and nothing was written
+-- lines and the exit status; or the exit status alone, where there is no answer
+abbrev pub Answer : Type 0
+Answer = Result (List Line × ℕ) ℕ
+
+abbrev pub answer_value : {A : Type 0} → Result (Vec Line A × ℕ) Refusal → Answer
+answer_value (Ok given) = Ok (given.0.items, given.1)
+answer_value (Err refusal) = Err (refusal_status refusal)
+
+-- an answer was written, and nothing where there is none
+abbrev pub WritesAnswer : Answer → ℕ → Heard → Heard → Type 0
+WritesAnswer (Ok given) status old new = Writes given.0 given.1 status old new
+WritesAnswer (Err ends) status old new = (status ≡ ends) × SaysNothing old new
+
+-- so of one that is as is said here
+abbrev pub WritesOne : (Answer → Type 0) → ℕ → Heard → Heard → Type 0
+WritesOne IsAnswer status old new = (answer : Answer) × IsAnswer answer × WritesAnswer answer status old new
+
+-- a text that begins within a run is refused
 abbrev pub is_within : Option ViewEnd → Bool
 is_within (Some Within) = true
 is_within _ = false
 
-abbrev pub ShowsBy : Bool → List Line × ℕ → ℕ → Heard → Heard → Type 0
-ShowsBy true answer status old new = (status ≡ REFUSED) × SaysNothing old new
-ShowsBy false answer status old new = Writes answer.0 answer.1 status old new
+abbrev pub unless_within : Bool → List Line × ℕ → Answer
+unless_within true given = Err REFUSED
+unless_within false given = Ok given
 
-abbrev pub ShowsOf : Option ViewEnd → List Line × ℕ → ℕ → Heard → Heard → Type 0
-ShowsOf stop answer status old new = ShowsBy (is_within stop) answer status old new
+-- what is answered and the exit status, by who writes the trace, why it is shown no further, and its past
+abbrev pub Gives : Type 0
+Gives = Writer → Option ViewEnd → List Event → List Line × ℕ
 
 -- so of what a view shows of the text at the path, which breaks no law, and is written by whom its lock names; or it
--- was not read, and nothing was written
-abbrev pub Shows : KnownTexts → KnownWriters → List ℕ → (Writer → Option ViewEnd → List Event → List Line × ℕ) → ℕ
-    → Heard → Heard → Type 0
-Shows text_at writers path gives status old new =
-    ((text : List ℕ) × (writer : Writer) × (stop : Option ViewEnd) × (left : Option ℕ) × (trace : List Event)
+-- was not read, or memory ran out
+abbrev pub Shows : KnownTexts → KnownWriters → List ℕ → Gives → Answer → Type 0
+Shows text_at writers path gives answer =
+    ((text : List ℕ) × (writer : Writer) × (stop : Option ViewEnd) × (unfinished : Option ℕ) × (trace : List Event)
     × IsTextAt text_at path text × IsWriterAt writers path writer
-    × IsShown text stop left trace × (first_breach (reverse trace) ≡ None)
-    × ShowsOf stop (gives writer stop (reverse trace)) status old new)
-    ⊎ ((status ≡ DEVICE_FAULT) × SaysNothing old new)
+    × IsShown text stop unfinished trace × (first_breach (reverse trace) ≡ None)
+    × (answer ≡ unless_within (is_within stop) (gives writer stop (reverse trace))))
+    ⊎ (answer ≡ Err DEVICE_FAULT)

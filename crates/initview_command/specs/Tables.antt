@@ -1,8 +1,9 @@
 -- What is written of inittabs, and the exit status.
-use Rattle.std.specs.Prelude.{◌≡◌, ◌⊎◌, ℕ, true, List, [], ◌∷◌, ◌++◌, take, drop, Option, Some, None, unwrap_or}
+use Rattle.std.specs.Prelude.{◌≡◌, ◌⊎◌, ℕ, true, List, [], ◌∷◌, ◌++◌, take, drop, Option, Some, None, unwrap_or, Ok}
+use Rattle.std.specs.Prelude.{Err}
 use Rattle.std.specs.List.{list_all}
 use Rattle.initview_command.specs.Words.{DONE, REFUSED, DEVICE_FAULT, IsTextAt, KnownTexts, Entry, Level, NamedText}
-use Rattle.initview_command.specs.Words.{texts_of, is_missing, Heard, SaysNothing}
+use Rattle.initview_command.specs.Words.{texts_of, is_missing}
 use Rattle.init_words.specs.declared.levels.Level.TheVariants.{S}
 use Rattle.inittab_text.specs.declared.faults.TableFault.{TableFault}
 use Rattle.inittab_text.specs.declared.faults.TableFault.TheVariants as fault
@@ -15,7 +16,8 @@ use Rattle.initview_lines.specs.declared.lint.Findings.TheVariants as found
 use Rattle.initview_lines.specs.Changes.{changes_in}
 use Rattle.initview_lines.specs.Lint.{lint_in}
 use Rattle.initview_lines.specs.Plans.{plan_in}
-use Rattle.initview_command.specs.Showing.{Writes}
+use Rattle.initview_command.specs.Asking.{PathTexts}
+use Rattle.initview_command.specs.Showing.{Answer}
 use Rattle.initview_command.specs.declared.asking.TableQuestion.{TableQuestion}
 use Rattle.initview_command.specs.declared.asking.TableQuestion.TheVariants as table
 
@@ -32,9 +34,9 @@ IsFolderBehind None own parts = parts ≡ own
 IsFolderBehind (Some folder) own parts = (more : List NamedText) × (parts ≡ own ++ more)
 
 -- so behind the files of the paths
-abbrev pub AreFiles : KnownTexts → List (List ℕ) → Option (List ℕ) → List NamedText → Type 0
-AreFiles text_at paths folder parts =
-    (own : List NamedText) × AreFilesAt text_at paths own × IsFolderBehind folder own parts
+abbrev pub AreFiles : KnownTexts → PathTexts → List NamedText → Type 0
+AreFiles text_at paths parts =
+    (own : List NamedText) × AreFilesAt text_at paths.files own × IsFolderBehind paths.folder own parts
 
 -- 1 with faults, 2 with warnings alone
 abbrev pub found_status : Findings → ℕ
@@ -99,22 +101,14 @@ FailsBy refused fault.Memory = Unit {0}
 FailsBy refused fault.TooLong = refused
 FailsBy refused fault.Parts = refused
 
--- the exit status where there is none
-abbrev pub fault_status : TableFault → ℕ
-fault_status fault.Memory = DEVICE_FAULT
-fault_status fault.TooLong = REFUSED
-fault_status fault.Parts = REFUSED
+-- files are answered so; or there are too many, or too long ones
+abbrev pub AnswersOf : TableQuestion → List NamedText → Answer → Type 0
+AnswersOf asked parts answer =
+    ((missing : List LineWarning) × AreMissing asked missing × (answer ≡ Ok (answer_of asked missing parts)))
+    ⊎ ((answer ≡ Err REFUSED) × IsRefused asked parts)
 
--- the answer was written; or there are too many files, or too long ones, and nothing was written
-abbrev pub AnswersOf : TableQuestion → List NamedText → ℕ → Heard → Heard → Type 0
-AnswersOf asked parts status old new =
-    ((missing : List LineWarning) × AreMissing asked missing
-    × Writes (answer_of asked missing parts).0 (answer_of asked missing parts).1 status old new)
-    ⊎ ((status ≡ REFUSED) × IsRefused asked parts × SaysNothing old new)
-
--- so of the files at the paths; or one was not read, and nothing was written
-abbrev pub Answers : KnownTexts → List (List ℕ) → Option (List ℕ) → TableQuestion → ℕ → Heard
-    → Heard → Type 0
-Answers text_at paths folder asked status old new =
-    ((parts : List NamedText) × AreFiles text_at paths folder parts × AnswersOf asked parts status old new)
-    ⊎ ((status ≡ DEVICE_FAULT) × SaysNothing old new)
+-- so of the files at the paths; or one was not read, or memory ran out
+abbrev pub Answers : KnownTexts → PathTexts → TableQuestion → Answer → Type 0
+Answers text_at paths asked answer =
+    ((parts : List NamedText) × AreFiles text_at paths parts × AnswersOf asked parts answer)
+    ⊎ (answer ≡ Err DEVICE_FAULT)

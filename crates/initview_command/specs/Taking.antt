@@ -10,25 +10,25 @@ use Rattle.initview_command.specs.Following.{HasLines, HasWritten, IsAllOf, IsFo
 abbrev pub there_limit : ℕ
 there_limit = PIECE_LIMIT * (PIECES_LIMIT + 1)
 
--- what was taken of what was left, and its lines were written
+-- what was taken of the input, and its lines were written
 abbrev pub HasFollowed : Start → Option (List ℕ) → Reader → Option (List ℕ) → Heard → Type 0
-HasFollowed start left reader remaining now =
-    (text : List ℕ) × Consumes left remaining text × (length text ≤ there_limit) × HasWritten start reader text now
+HasFollowed start input reader remaining now =
+    (text : List ℕ) × Consumes input remaining text × (length text ≤ there_limit) × HasWritten start reader text now
 
--- what was taken of what was left, so many bytes at most, of whose lines these are kept: the last so many, or more
+-- what was taken of the input, so many bytes at most, of whose lines these are kept: the last so many, or more
 abbrev pub MayKeep : ℕ → ℕ → Option (List ℕ) → Reader → List Line → Option (List ℕ) → Type 0
-MayKeep limit count left reader lines remaining =
-    (text : List ℕ) × (hidden : List Line) × Consumes left remaining text × (length text ≤ limit)
+MayKeep limit count input reader lines remaining =
+    (text : List ℕ) × (hidden : List Line) × Consumes input remaining text × (length text ≤ limit)
     × IsFor (Some count) reader text × HasLines reader (hidden ++ lines) text
     × (length hidden ≤ length (hidden ++ lines) - count)
 
 abbrev pub HasKept : ℕ → ℕ → Option (List ℕ) → Reader → List Line → Option (List ℕ) → Type 0
-HasKept limit count left reader lines remaining =
-    (text : List ℕ) × (hidden : List Line) × Consumes left remaining text × (length text ≤ limit)
+HasKept limit count input reader lines remaining =
+    (text : List ℕ) × (hidden : List Line) × Consumes input remaining text × (length text ≤ limit)
     × IsFor (Some count) reader text × HasLines reader (hidden ++ lines) text
     × (length hidden ≡ length (hidden ++ lines) - count)
 
 -- what has read the first piece, where there is one
 abbrev pub FirstReader : Option Reader → Option (List ℕ) → Option (List ℕ) → List Line → Type 0
-FirstReader None left remaining lines = IsAllOf left []
-FirstReader (Some reader) left remaining lines = (count : ℕ) → MayKeep PIECE_LIMIT count left reader lines remaining
+FirstReader None input remaining lines = IsAllOf input []
+FirstReader (Some reader) input remaining lines = (count : ℕ) → MayKeep PIECE_LIMIT count input reader lines remaining

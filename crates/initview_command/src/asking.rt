@@ -4,7 +4,7 @@
 ghost use Rattle.std.specs.Prelude.{◌≡◌, map, string_bytes, IfErr, IfOk, IsSome, None, Some};
 ghost use Rattle.std.specs.List.{list_all};
 ghost use Rattle.initview_command.specs.Words.{found_of, rows_of, given_by, text_of, reason_of};
-ghost use Rattle.initview_command.specs.Asking.{asked, asked_by, behind_one, behind_three, belongs, command_line, diff_of, draw_of, draw_takes, explain_of, explained, files_of, form_said, is_given, last_of, last_said, level_in, level_said, lint_of, path_of, plain_of, plan_of, second_of, shape_said, show_of, table_takes, tables_of, takes, third_of, trace_takes, what_of, which_said};
+ghost use Rattle.initview_command.specs.Asking.{asked, asked_by, belongs, command_line, diff_of, draw_of, draw_takes, explain_of, explained, files_of, form_said, is_given, last_of, last_said, level_in, level_said, lint_of, path_of, path_texts, paths_of, plain_of, plan_of, shape_said, show_of, table_takes, tables_of, takes, trace_takes, what_of, which_said};
 
 use crate::charting::{Form, WIDTH, width_of};
 use clap::ArgMatches;
@@ -55,6 +55,17 @@ pub enum Command {
     /// What is started on the way to the level, and how long what init waits for took in the trace.
     Timing(Option<Level>),
     Tables(TableQuestion),
+}
+
+/// Where what is asked about stands.
+#[derive(Clone, Copy)]
+pub(crate) struct Paths<'m, 'a> {
+    /// The path of the trace, or the folders of programs.
+    pub(crate) path: &'a str,
+    /// The paths of the files of inittabs.
+    pub(crate) files: &'m [&'a str],
+    /// The folder of further ones.
+    pub(crate) folder: Option<&'a str>,
 }
 
 /// The options of all commands, and the words.
@@ -374,67 +385,46 @@ pub(crate) fn what_of(matches: &ArgMatches, words: &[&str]) -> Option<Command>
     }
 }
 
-fn second_of<'a>(words: &[&'a str]) -> &'a str
-    ensures { result.now ≡ second_of (map (λ word. word.now) words.now) }
-{
-    match words {
-        [_, second, ..] => *second,
-        _ => "",
-    }
-}
-
-fn third_of<'a>(words: &[&'a str]) -> &'a str
-    ensures { result.now ≡ third_of (map (λ word. word.now) words.now) }
-{
-    match words {
-        [_, _, third, ..] => *third,
-        _ => "",
-    }
-}
-
-fn behind_one<'m, 'a>(words: &'m [&'a str]) -> &'m [&'a str]
-    ensures { map (λ word. word.now) result.now
-        ≡ behind_one (map (λ word. word.now) words.now) }
-{
-    match words {
-        [_, rest @ ..] => rest,
-        _ => &[],
-    }
-}
-
-fn behind_three<'m, 'a>(words: &'m [&'a str]) -> &'m [&'a str]
-    ensures { map (λ word. word.now) result.now
-        ≡ behind_three (map (λ word. word.now) words.now) }
-{
-    match words {
-        [_, _, _, rest @ ..] => rest,
-        _ => &[],
-    }
-}
-
 /// The path of the trace, or the folders of programs.
-pub(crate) fn path_of<'a>(what: &Command, matches: &ArgMatches<'a>, words: &[&'a str]) -> &'a str
+fn path_of<'a>(what: &Command, matches: &ArgMatches<'a>, words: &[&'a str]) -> &'a str
     ensures { result.now ≡ path_of what.now (rows_of (found_of matches.now))
         (map (λ word. word.now) words.now) }
 {
-    match what {
-        Command::Reload(_) => value_of(matches, "--trace"),
-        Command::Timing(_) => value_of(matches, "--trace"),
-        Command::Tables(_) => value_of(matches, "--programs"),
-        Command::Explain(_) => third_of(words),
-        Command::Show(_) => second_of(words),
-        Command::Draw(_) => second_of(words),
-        Command::Follow(_) => second_of(words),
+    match (what, words) {
+        (Command::Reload(_) | Command::Timing(_), _) => value_of(matches, "--trace"),
+        (Command::Tables(_), _) => value_of(matches, "--programs"),
+        (Command::Explain(_), [_, _, trace, ..]) => *trace,
+        (Command::Explain(_), _) => "",
+        (_, [_, trace, ..]) => *trace,
+        _ => "",
     }
 }
 
 /// The paths of the files of inittabs.
-pub(crate) fn files_of<'m, 'a>(what: &Command, words: &'m [&'a str]) -> &'m [&'a str]
+fn files_of<'m, 'a>(what: &Command, words: &'m [&'a str]) -> &'m [&'a str]
     ensures { map (λ word. word.now) result.now
         ≡ files_of what.now (map (λ word. word.now) words.now) }
 {
-    match what {
-        Command::Explain(_) => behind_three(words),
-        _ => behind_one(words),
+    match (what, words) {
+        (Command::Explain(_), [_, _, _, files @ ..]) => files,
+        (Command::Explain(_), _) => &[],
+        (_, [_, files @ ..]) => files,
+        _ => &[],
+    }
+}
+
+/// What is named by options and words that ask this.
+pub(crate) fn paths_of<'m, 'a>(
+    what: &Command,
+    matches: &ArgMatches<'a>,
+    words: &'m [&'a str],
+) -> Paths<'m, 'a>
+    ensures { path_texts result ≡ paths_of what.now (rows_of (found_of matches.now))
+        (map (λ word. word.now) words.now) }
+{
+    Paths {
+        path: path_of(what, matches, words),
+        files: files_of(what, words),
+        folder: word_of(matches, "--inittab-dir"),
     }
 }

@@ -69,14 +69,11 @@ fn draw(alloc: Global, form: Form, marks: &Marks, view: &TraceView) -> Result<Li
 }
 
 impl Query for Form {
-    ghost use Rattle.std.specs.Prelude.{◌∷◌, []};
-    ghost use Rattle.initview_command.specs.Charting.{drawing};
-    ghost use Rattle.initview_command.specs.Showing.{stop_status};
+    ghost use Rattle.initview_command.specs.Charting.{drawing_by};
 
     type Seen = Marks;
 
-    ghost gives = { λ form path writer stop past.
-        (drawing form past ∷ [], stop_status stop) };
+    ghost gives = { λ form path. drawing_by form };
 
     fn answer(
         self,

@@ -1,28 +1,27 @@
 //! The words of `initview`, and what it does for them.
 
-ghost use Rattle.std.specs.Prelude.{◌≡◌, ◌∷◌, [], codes, false, true, map, option_map, string_bytes, None};
-ghost use Rattle.initview_command.specs.Words.{asks_version, found_of, rows_of, version_line, DONE};
+ghost use Rattle.std.specs.Prelude.{◌≡◌, ◌∷◌, [], codes, false, true, map, string_bytes, None, OnErr, OnOk};
+ghost use Rattle.initview_command.specs.Words.{asks_version, version_line, DONE, SaysNothing};
 ghost use Rattle.initview_lines.specs.declared.lines.Line.TheVariants as line;
-ghost use Rattle.initview_command.specs.Asking.{asked_of, what_of, words_said};
+ghost use Rattle.initview_command.specs.Asking.{asked_of, path_texts};
 ghost use Rattle.initview_command.specs.Refusals.{ReportsRefusal};
-ghost use Rattle.initview_command.specs.Endings.{Does, DoesTimed, EndsBy, EndsGiven, EndsOf};
+ghost use Rattle.initview_command.specs.Endings.{Does, EndsBy, timed};
 ghost use Rattle.initview_command.specs.Showing.{Writes};
 
-use crate::asking::{Command, files_of, matched, path_of, what_of};
-use crate::explaining::ReasonOf;
+use crate::asking::{Command, Paths, matched, paths_of, what_of};
+use crate::explaining::why_answer;
 use crate::following::follow_file;
 use crate::growing::LiveTraces;
-use crate::planning::TimingTo;
+use crate::planning::timing_answer;
 use crate::refusals::{report_fault, report_refusal};
-use crate::reloading::ReloadTo;
-use crate::showing::{show_file, write_answer};
-use crate::tables::show_files;
+use crate::reloading::reload_answer;
+use crate::showing::{say_lines, trace_answer, write};
+use crate::tables::tables_answer;
 use crate::telling::{report_memory, report_zone};
-use crate::with_files::show_with_files;
-use clap::ArgMatches;
-use command_words::{is_set, is_version, word_of, words_of, write_version};
+use command_words::{is_set, is_version, words_of, write_version};
 use initview_lines::{Says, text_line};
-use program_io::{DONE, Reporter, Texts};
+use jiff::Error;
+use program_io::{DONE, Reporter, Reports, Texts};
 use std::alloc::Global;
 
 /// What is told where help is asked for, and of words that are not read. Its lines up to the last that begins with
@@ -102,10 +101,19 @@ pub fn run_words<T: Texts, G: LiveTraces, S: Says, E: Reporter>(
     if is_version(words) {
         return say_version(alloc, out, err);
     }
-    match matched(alloc, words) {
-        Ok(matches) => run_matches(texts, growing, alloc, &matches, out, err),
-        Err(fault) => report_fault(alloc, &fault, words, err),
+    let matches = match matched(alloc, words) {
+        Ok(matches) => matches,
+        Err(fault) => return report_fault(alloc, &fault, words, err),
+    };
+    let words = words_of(&matches, "WORD").unwrap_or(&[]);
+    let Some(command) = what_of(&matches, words) else {
+        return report_refusal(alloc, &matches, words, err);
+    };
+    if let Err(error) = use_times(is_set(&matches, "--local"), out) {
+        return report_zone(error, err);
     }
+    let paths = paths_of(&command, &matches, words);
+    run_asked(texts, growing, alloc, command, &paths, out, err)
 }
 
 /// Says the version, and gives the exit status.
@@ -119,146 +127,63 @@ fn say_version<S: Says, E: Reporter>(alloc: Global, out: &mut S, err: &mut E) ->
         return report_memory(err);
     }
     match text_line(alloc, text) {
-        Ok(lines) => write_answer(alloc, lines, DONE, out, err),
+        Ok(lines) => say_lines(alloc, lines, DONE, out, err),
         Err(_) => report_memory(err),
     }
 }
 
-/// Runs initview on what its words give.
-fn run_matches<T: Texts, G: LiveTraces, S: Says, E: Reporter>(
-    texts: &T,
-    growing: &G,
-    alloc: Global,
-    matches: &ArgMatches,
-    out: &mut S,
-    err: &mut E,
-) -> u8
-    ensures ends { EndsOf (T.text_at texts.now) (G.text_at growing.now) (G.writer_at growing.now)
-        (rows_of (found_of matches.now)) result (S.said out.old) (S.said out.new) }
-    ensures refused { what_of (rows_of (found_of matches.now))
-        (words_said (rows_of (found_of matches.now))) ≡ None
-        → ReportsRefusal result (E.reports err.old) (E.reports err.new) }
-{
-    match words_of(matches, "WORD") {
-        Some(words) => run_given(texts, growing, alloc, matches, words, out, err),
-        None => run_given(texts, growing, alloc, matches, &[], out, err),
-    }
-}
-
-/// The same, by the words that are no options.
-fn run_given<'a, T: Texts, G: LiveTraces, S: Says, E: Reporter>(
-    texts: &T,
-    growing: &G,
-    alloc: Global,
-    matches: &ArgMatches<'a>,
-    words: &[&'a str],
-    out: &mut S,
-    err: &mut E,
-) -> u8
-    ensures ends { EndsGiven (T.text_at texts.now) (G.text_at growing.now) (G.writer_at growing.now)
-        (rows_of (found_of matches.now)) (map (λ word. word.now) words.now)
-        result (S.said out.old) (S.said out.new) }
-    ensures refused { what_of (rows_of (found_of matches.now)) (map (λ word. word.now) words.now)
-        ≡ None → ReportsRefusal result (E.reports err.old) (E.reports err.new) }
-{
-    match what_of(matches, words) {
-        Some(what) => {
-            let path = path_of(&what, matches, words);
-            let files = files_of(&what, words);
-            let folder = word_of(matches, "--inittab-dir");
-            let is_local = is_set(matches, "--local");
-            run_timed(
-                texts, growing, alloc, is_local, what, path, files, folder, out, err,
-            )
-        }
-        None => report_refusal(alloc, matches, words, err),
-    }
-}
-
-/// Does what is asked, with times that are local where that is asked for too.
-fn run_timed<T: Texts, G: LiveTraces, S: Says, E: Reporter>(
-    texts: &T,
-    growing: &G,
-    alloc: Global,
-    is_local: bool,
-    what: Command,
-    path: &str,
-    files: &[&str],
-    folder: Option<&str>,
-    out: &mut S,
-    err: &mut E,
-) -> u8
-    ensures { DoesTimed is_local (T.text_at texts.now) (G.text_at growing.now)
-        (G.writer_at growing.now) path.now
-        (map (λ file. file.now) files.now) (option_map (λ path. path.now) folder.entry) what
-        result (S.said out.old) (S.said out.new) }
+/// Has times in the system's zone, where these are asked for.
+fn use_times<S: Says>(is_local: bool, out: &mut S) -> Result<(), Error>
+    ensures ok { OnOk result (S.said out.new ≡ timed is_local (S.said out.old)) }
+    ensures err { OnErr result
+        ((is_local ≡ true) × SaysNothing (S.said out.old) (S.said out.new)) }
 {
     if is_local {
-        return run_local(texts, growing, alloc, what, path, files, folder, out, err);
-    }
-    run_asked(texts, growing, alloc, what, path, files, folder, out, err)
-}
-
-/// The same with local times.
-fn run_local<T: Texts, G: LiveTraces, S: Says, E: Reporter>(
-    texts: &T,
-    growing: &G,
-    alloc: Global,
-    what: Command,
-    path: &str,
-    files: &[&str],
-    folder: Option<&str>,
-    out: &mut S,
-    err: &mut E,
-) -> u8
-    ensures { DoesTimed true (T.text_at texts.now) (G.text_at growing.now)
-        (G.writer_at growing.now) path.now
-        (map (λ file. file.now) files.now) (option_map (λ path. path.now) folder.entry) what
-        result (S.said out.old) (S.said out.new) }
-{
-    match out.use_local_times() {
-        Ok(()) => run_asked(texts, growing, alloc, what, path, files, folder, out, err),
-        Err(error) => report_zone(error, err),
+        out.use_local_times()
+    } else {
+        Ok(())
     }
 }
 
-/// Does what is asked of the trace at a path, or of files and the programs of folders.
+/// Does what is asked, and gives the exit status.
 fn run_asked<T: Texts, G: LiveTraces, S: Says, E: Reporter>(
     texts: &T,
     growing: &G,
     alloc: Global,
     what: Command,
-    path: &str,
-    files: &[&str],
-    folder: Option<&str>,
+    paths: &Paths,
     out: &mut S,
     err: &mut E,
 ) -> u8
-    ensures { Does (T.text_at texts.now) (G.text_at growing.now)
-        (G.writer_at growing.now) path.now
-        (map (λ file. file.now) files.now) (option_map (λ path. path.now) folder.entry) what
-        result (S.said out.old) (S.said out.new) }
+    ensures { Does (T.text_at texts.now) (G.text_at growing.now) (G.writer_at growing.now)
+        (path_texts paths.now) what result (S.said out.old) (S.said out.new) }
 {
+    let mut remarks = Reports::to(Vec::new(alloc));
     match what {
-        Command::Show(question) => show_file(texts, growing, alloc, path, question, out, err),
-        Command::Draw(form) => show_file(texts, growing, alloc, path, form, out, err),
-        Command::Follow(last) => follow_file(growing, alloc, path, last, out, err),
+        Command::Follow(last) => follow_file(growing, alloc, paths.path, last, out, err),
+        Command::Show(query) => {
+            let answer = trace_answer(texts, growing, alloc, paths.path, query, &mut remarks);
+            write(alloc, answer, &remarks, out, err)
+        }
+        Command::Draw(form) => {
+            let answer = trace_answer(texts, growing, alloc, paths.path, form, &mut remarks);
+            write(alloc, answer, &remarks, out, err)
+        }
         Command::Explain(id) => {
-            let asked = ReasonOf { id };
-            show_with_files(texts, growing, alloc, path, files, folder, &asked, out, err)
+            let answer = why_answer(texts, growing, alloc, paths, id, &mut remarks);
+            write(alloc, answer, &remarks, out, err)
         }
         Command::Reload(level) => {
-            let asked = ReloadTo { level };
-            show_with_files(texts, growing, alloc, path, files, folder, &asked, out, err)
+            let answer = reload_answer(texts, growing, alloc, paths, level, &mut remarks);
+            write(alloc, answer, &remarks, out, err)
         }
         Command::Timing(level) => {
-            let asked = TimingTo { level };
-            show_with_files(texts, growing, alloc, path, files, folder, &asked, out, err)
+            let answer = timing_answer(texts, growing, alloc, paths, level, &mut remarks);
+            write(alloc, answer, &remarks, out, err)
         }
         Command::Tables(question) => {
-            show_files(
-                texts, growing, alloc, path, files, folder, question, out, err,
-            )
+            let answer = tables_answer(texts, growing, alloc, paths, question, &mut remarks);
+            write(alloc, answer, &remarks, out, err)
         }
     }
 }

@@ -2,28 +2,28 @@
 
 ghost use Rattle.std.specs.Prelude.{◌≡◌, List, IfOk, IfErr};
 ghost use Rattle.initview_command.specs.Words.{Event, Viewed};
-ghost use Rattle.initview_command.specs.Explaining.{explanation, files_lines};
+ghost use Rattle.initview_command.specs.Asking.{path_texts};
+ghost use Rattle.initview_command.specs.Explaining.{explained_with, explanation, files_lines};
+ghost use Rattle.initview_command.specs.Showing.{answer_value};
 ghost use Rattle.initview_command.specs.Tables.{AreNone, FailsBy};
+ghost use Rattle.initview_command.specs.WithFiles.{ShowsWithFiles};
 
-use crate::presence::show_present;
-use crate::showing::{Answer, Query, TraceOutcome, stop_status};
-use crate::with_files::NeedsFiles;
+use crate::asking::Paths;
+use crate::growing::LiveTraces;
+use crate::presence::{show_present, tell_writer};
+use crate::showing::{Answer, Query, Remarks, TraceOutcome, stop_status, trace_answer};
+use crate::tables::read_files;
+use crate::telling::Refusal;
 use init_words::{Id, Memory, Part};
 use inittab_text::TableFault;
 use initview_lines::{Chain, Line, chain_of, id_lines, why_lines};
-use program_io::Reporter;
+use program_io::Texts;
 use std::alloc::{AllocError, Global};
 use trace_view::{LastLines, ObservedTrace, TraceView};
 
-/// Why the id isn't started is asked, with what the files have of it.
+/// Why the id isn't started is asked, and this is told of it behind the answer.
 #[derive(Drop)]
-pub(crate) struct ReasonOf {
-    pub(crate) id: Id,
-}
-
-/// The same, and this is told of it behind the answer.
-#[derive(Drop)]
-pub(crate) struct Reason {
+struct Reason {
     id: Id,
     told: Vec<Line>,
 }
@@ -52,8 +52,8 @@ impl Query for Reason {
     ghost gives = { λ asked path writer stop past.
         explained path asked.id asked.told.items writer stop past };
 
-    fn asks_writer(&self) -> bool {
-        true
+    fn remark(&self, _view: &TraceView, shown: &TraceOutcome, remarks: &mut Remarks) {
+        tell_writer(shown, remarks);
     }
 
     fn answer(
@@ -65,8 +65,8 @@ impl Query for Reason {
         let Reason { id, mut told } = self;
         let chain = chain_of(text.view(), text.seen(), id);
         show_present(text, shown.writer, shown.stop)?;
-        let said = explanation(alloc, shown.path, &mut told, text.view(), &chain)?;
-        Ok((said, stop_status(shown.stop)))
+        let lines = explanation(alloc, shown.path, &mut told, text.view(), &chain)?;
+        Ok((lines, stop_status(shown.stop)))
     }
 }
 
@@ -86,23 +86,21 @@ fn files_lines(alloc: Global, files: &[Part], id: &Id) -> Result<Vec<Line>, Tabl
     }
 }
 
-impl NeedsFiles for ReasonOf {
-    ghost use Rattle.initview_command.specs.Explaining.{explained_with};
-    ghost use Rattle.initview_command.specs.Tables.{AreNone};
-
-    type Asked = Reason;
-
-    ghost gives = { λ asked path files. explained_with path asked.id files };
-
-    ghost AreRefused = { AreNone };
-
-    fn with_files<E: Reporter>(
-        &self,
-        alloc: Global,
-        files: &mut [Part],
-        _err: &mut E,
-    ) -> Result<Reason, TableFault> {
-        let told = files_lines(alloc, files, &self.id)?;
-        Ok(Reason { id: self.id, told })
-    }
+/// Why the id isn't started next, with what the files have of it.
+pub(crate) fn why_answer<'a, T: Texts, G: LiveTraces>(
+    texts: &T,
+    growing: &G,
+    alloc: Global,
+    paths: &Paths<'_, 'a>,
+    id: Id,
+    remarks: &mut Remarks,
+) -> Result<Answer, Refusal<'a>>
+    ensures { ShowsWithFiles (T.text_at texts.now) (G.writer_at growing.now)
+        (path_texts paths.now) (explained_with paths.now.path.now id) AreNone
+        (answer_value result) }
+{
+    let files = read_files(texts, growing, alloc, paths)?;
+    let told = files_lines(alloc, &files, &id)?;
+    let reason = Reason { id, told };
+    trace_answer(texts, growing, alloc, paths.path, reason, remarks)
 }

@@ -113,10 +113,10 @@ fn reader_of(alloc: Global, first: &[u8]) -> Result<Box<Reader>, Memory>
 /// Shows a reader the next piece of its text, and adds the lines of it.
 fn take_piece(reader: &mut Reader, piece: &[u8], lines: &mut Vec<Line>) -> Result<(), Memory>
     ensures same { OnOk result (judges reader.new ≡ judges reader.old) }
-    ensures lines { OnOk result ((said : List Line) (text : List ℕ)
+    ensures lines { OnOk result ((past_lines : List Line) (text : List ℕ)
         → length (text ++ piece.now) < 2 ^ 64
-        → HasLines reader.old (said ++ lines.old.items) text
-        → HasLines reader.new (said ++ lines.new.items) (text ++ piece.now)) }
+        → HasLines reader.old (past_lines ++ lines.old.items) text
+        → HasLines reader.new (past_lines ++ lines.new.items) (text ++ piece.now)) }
 {
     match reader {
         Reader::Run(view) => take_lines(view, piece, lines),
@@ -126,9 +126,9 @@ fn take_piece(reader: &mut Reader, piece: &[u8], lines: &mut Vec<Line>) -> Resul
 
 /// How a reader that has taken a text stands.
 fn end_of(reader: &Reader) -> End
-    ensures { (said : List Line) (text : List ℕ) → length text < 2 ^ 64
-        → HasLines reader.now said text
-        → AreLinesOf (judges reader.now) text result.0 result.1 said }
+    ensures { (past_lines : List Line) (text : List ℕ) → length text < 2 ^ 64
+        → HasLines reader.now past_lines text
+        → AreLinesOf (judges reader.now) text result.0 result.1 past_lines }
 {
     match reader {
         Reader::Run(view) => {
@@ -161,7 +161,7 @@ fn write_piece<S: Says>(
     Ok(())
 }
 
-/// Writes the lines of what is left of a text, each when it comes, up to its end, or up to where the reader goes no
+/// Writes the lines of the rest of a text, each when it comes, up to its end, or up to where the reader goes no
 /// further. More than 4,294,967,296 reads are an error, `FileTooLarge`.
 fn write_lines<R: Read, S: Says>(
     from: &mut R,
@@ -169,12 +169,12 @@ fn write_lines<R: Read, S: Says>(
     alloc: Global,
     out: &mut S,
 ) -> Result<End, FollowFault>
-    ensures ok { IfOk result (λ end. (start : Start) (left : Option (List ℕ))
-        → HasFollowed start left reader.old (R.remaining from.old) (S.said out.old)
-        → WritesAll start left end.0 end.1 (S.said out.new)) }
-    ensures err { OnErr result ((start : Start) (left : Option (List ℕ))
-        → HasFollowed start left reader.old (R.remaining from.old) (S.said out.old)
-        → WritesPart start left (S.said out.new)) }
+    ensures ok { IfOk result (λ end. (start : Start) (input : Option (List ℕ))
+        → HasFollowed start input reader.old (R.remaining from.old) (S.said out.old)
+        → WritesAll start input end.0 end.1 (S.said out.new)) }
+    ensures err { OnErr result ((start : Start) (input : Option (List ℕ))
+        → HasFollowed start input reader.old (R.remaining from.old) (S.said out.old)
+        → WritesPart start input (S.said out.new)) }
 {
     let mut piece = [0; PIECE_LIMIT];
     for _ in 0..PIECES_LIMIT {
@@ -201,8 +201,9 @@ fn add_piece(
     ensures same { OnOk result (judges reader.new ≡ judges reader.old) }
     ensures lines { OnOk result ((more : List Line)
         × (lines.new.items ≡ lines.old.items ++ more)
-        × ((said : List Line) (text : List ℕ) → length (text ++ piece.now) < 2 ^ 64
-        → HasLines reader.old said text → HasLines reader.new (said ++ more) (text ++ piece.now))) }
+        × ((past_lines : List Line) (text : List ℕ) → length (text ++ piece.now) < 2 ^ 64
+        → HasLines reader.old past_lines text
+        → HasLines reader.new (past_lines ++ more) (text ++ piece.now))) }
 {
     let mut more = Vec::new(alloc);
     take_piece(reader, piece, &mut more)?;
@@ -229,9 +230,9 @@ fn take_there<R: LiveTrace>(
     count: usize,
     lines: &mut Vec<Line>,
 ) -> Result<(), FollowFault>
-    ensures { OnOk result ((left : Option (List ℕ))
-        → MayKeep PIECE_LIMIT count left reader.old lines.old.items (R.remaining from.old)
-        → HasKept there_limit count left reader.new lines.new.items
+    ensures { OnOk result ((input : Option (List ℕ))
+        → MayKeep PIECE_LIMIT count input reader.old lines.old.items (R.remaining from.old)
+        → HasKept there_limit count input reader.new lines.new.items
         (R.remaining from.new)) }
 {
     let mut piece = [0; PIECE_LIMIT];

@@ -16,7 +16,6 @@ mod reloading;
 mod showing;
 mod tables;
 mod telling;
-mod with_files;
 
 pub use asking::{Command, LAST_LIMIT, TableQuestion, TraceQuery};
 pub use charting::{Form, WIDTH, WIDTH_LEAST, WIDTH_LIMIT};

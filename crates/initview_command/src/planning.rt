@@ -2,28 +2,28 @@
 
 ghost use Rattle.std.specs.Prelude.{◌≡◌, List, IfOk};
 ghost use Rattle.initview_command.specs.Words.{Event, marks_of};
-ghost use Rattle.initview_command.specs.Planning.{timing_said};
+ghost use Rattle.initview_command.specs.Asking.{path_texts};
+ghost use Rattle.initview_command.specs.Planning.{timing_said, timing_with};
+ghost use Rattle.initview_command.specs.Showing.{answer_value};
+ghost use Rattle.initview_command.specs.Tables.{AreNone};
+ghost use Rattle.initview_command.specs.WithFiles.{ShowsWithFiles};
 
-use crate::showing::{Answer, Query, TraceOutcome, stop_status};
-use crate::tables::{level_asked, plan_of, table_in};
-use crate::with_files::NeedsFiles;
-use init_words::{Level, Memory, Part};
-use inittab_text::{Table, TableFault};
+use crate::asking::Paths;
+use crate::growing::LiveTraces;
+use crate::showing::{Answer, Query, Remarks, TraceOutcome, stop_status, trace_answer};
+use crate::tables::{level_asked, plan_of, read_files, table_in};
+use crate::telling::Refusal;
+use init_words::{Level, Memory};
+use inittab_text::Table;
 use initview_lines::{Line, add_path_times};
 use initview_timeline::{Marks, TimelineMark};
-use program_io::Reporter;
-use std::alloc::{AllocError, Global};
+use program_io::Texts;
+use std::alloc::Global;
 use trace_view::ObservedTrace;
 
 /// The plan of an inittab is asked, and the times of its critical path.
 #[derive(Drop)]
-pub(crate) struct TimingTo {
-    pub(crate) level: Option<Level>,
-}
-
-/// The same, of a table.
-#[derive(Drop)]
-pub(crate) struct Timing {
+struct Timing {
     table: Table,
     level: Option<Level>,
 }
@@ -34,7 +34,7 @@ fn timed_plan(
     level: Option<Level>,
     table: &Table,
     marks: &[TimelineMark],
-) -> Result<Vec<Line>, AllocError>
+) -> Result<Vec<Line>, Memory>
     ensures { IfOk result (λ lines. (past : List Event) → marks.now ≡ marks_of past
         → lines.items ≡ timing_said level table.now past) }
 {
@@ -57,33 +57,26 @@ impl Query for Timing {
         text: &mut ObservedTrace<Marks>,
         shown: &TraceOutcome,
     ) -> Result<Answer, Memory> {
-        let said = timed_plan(alloc, self.level, &self.table, text.seen().as_slice())?;
-        Ok((said, stop_status(shown.stop)))
+        let lines = timed_plan(alloc, self.level, &self.table, text.seen().as_slice())?;
+        Ok((lines, stop_status(shown.stop)))
     }
 }
 
-impl NeedsFiles for TimingTo {
-    ghost use Rattle.initview_command.specs.Planning.{timing_with};
-    ghost use Rattle.initview_command.specs.Tables.{AreNone};
-
-    type Asked = Timing;
-
-    ghost gives = { λ asked path files writer. timing_with asked.level files };
-
-    ghost AreRefused = { AreNone };
-
-    fn with_files<E: Reporter>(
-        &self,
-        alloc: Global,
-        files: &mut [Part],
-        err: &mut E,
-    ) -> Result<Timing, TableFault> {
-        match table_in(alloc, files, err) {
-            Ok(table) => Ok(Timing {
-                table,
-                level: self.level,
-            }),
-            Err(fault) => Err(fault),
-        }
-    }
+/// The plan of the files' inittab, and the times of its critical path in the trace.
+pub(crate) fn timing_answer<'a, T: Texts, G: LiveTraces>(
+    texts: &T,
+    growing: &G,
+    alloc: Global,
+    paths: &Paths<'_, 'a>,
+    level: Option<Level>,
+    remarks: &mut Remarks,
+) -> Result<Answer, Refusal<'a>>
+    ensures { ShowsWithFiles (T.text_at texts.now) (G.writer_at growing.now)
+        (path_texts paths.now) (λ files writer. timing_with level files) AreNone
+        (answer_value result) }
+{
+    let files = read_files(texts, growing, alloc, paths)?;
+    let table = table_in(alloc, &files, remarks)?;
+    let timing = Timing { table, level };
+    trace_answer(texts, growing, alloc, paths.path, timing, remarks)
 }

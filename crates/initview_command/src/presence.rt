@@ -5,6 +5,7 @@ ghost use Rattle.initview_command.specs.Words.{Clock, Event, time_of, Viewed};
 ghost use Rattle.initview_command.specs.Writers.{present};
 
 use crate::growing::Writer;
+use crate::showing::{Remarks, TraceOutcome};
 use init_words::Memory;
 use program_io::Reporter;
 use std::alloc::Global;
@@ -42,13 +43,12 @@ pub(crate) fn show_present<S: TraceObserver<Global> + Drop>(
 }
 
 /// Tells that a trace that is shown to its end goes no further.
-pub(crate) fn tell_writer<E: Reporter>(
-    path: &str,
-    writer: Writer,
-    stop: Option<ViewEnd>,
-    err: &mut E,
-) {
-    if let (Writer::Nobody, None) = (writer, stop) {
-        writeln!(err, "initview: no init writes {path}: this is how it ended");
+pub(crate) fn tell_writer(shown: &TraceOutcome, remarks: &mut Remarks) {
+    if let (Writer::Nobody, None) = (shown.writer, shown.stop) {
+        let path = shown.path;
+        writeln!(
+            remarks,
+            "initview: no init writes {path}: this is how it ended"
+        );
     }
 }

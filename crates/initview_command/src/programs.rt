@@ -5,9 +5,9 @@ ghost use Rattle.std.specs.List.{list_all};
 ghost use Rattle.initview_command.specs.Words.{is_missing};
 
 use crate::growing::LiveTraces;
-use init_words::Part;
+use init_words::{Memory, Part};
 use inittab_lint::{LineWarning, Warning, program_of};
-use std::alloc::{AllocError, Global};
+use std::alloc::Global;
 use std::str;
 use text_lines::first_line;
 
@@ -17,7 +17,7 @@ fn is_missing<G: LiveTraces>(
     alloc: Global,
     folders: &str,
     program: &[u8],
-) -> Result<bool, AllocError> {
+) -> Result<bool, Memory> {
     match str::from_utf8(program) {
         Ok("") | Err(_) => Ok(false),
         Ok(program) => Ok(!growing.has_program(alloc, folders, program)?),
@@ -32,7 +32,7 @@ fn add_text<G: LiveTraces>(
     folders: &str,
     part: usize,
     text: &[u8],
-) -> Result<(), AllocError>
+) -> Result<(), Memory>
     requires { list_all is_missing found.old.items ≡ true }
     ensures { OnOk result (list_all is_missing found.new.items ≡ true) }
 {
@@ -56,7 +56,7 @@ pub(crate) fn missing<G: LiveTraces>(
     alloc: Global,
     folders: &str,
     files: &[Part],
-) -> Result<Vec<LineWarning>, AllocError>
+) -> Result<Vec<LineWarning>, Memory>
     ensures { IfOk result (λ found. list_all is_missing found.items ≡ true) }
 {
     let mut found = Vec::new(alloc);

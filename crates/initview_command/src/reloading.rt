@@ -2,29 +2,29 @@
 
 ghost use Rattle.std.specs.Prelude.{◌≡◌, ◌∷◌, List, OnOk};
 ghost use Rattle.initview_command.specs.Words.{NewTable, Event, Viewed, gone_on, reloaded, with_request};
+ghost use Rattle.initview_command.specs.Asking.{path_texts};
+ghost use Rattle.initview_command.specs.Reloading.{reload_with};
+ghost use Rattle.initview_command.specs.Showing.{answer_value};
+ghost use Rattle.initview_command.specs.Tables.{NoneOf};
+ghost use Rattle.initview_command.specs.WithFiles.{ShowsWithFiles};
 
-use crate::showing::{Answer, Query, TraceOutcome, stop_status};
-use crate::tables::old_and_new;
-use crate::with_files::NeedsFiles;
-use init_words::{Level, Memory, Part};
+use crate::asking::Paths;
+use crate::growing::LiveTraces;
+use crate::showing::{Answer, Query, Remarks, TraceOutcome, stop_status, trace_answer};
+use crate::tables::{old_and_new, read_files};
+use crate::telling::Refusal;
+use init_words::{Level, Memory};
 use initctl_frame::HeardRequest;
-use inittab_text::{Table, TableFault};
+use inittab_text::Table;
 use initview_lines::reload_lines;
-use program_io::Reporter;
+use program_io::Texts;
 use std::alloc::Global;
 use trace_events::{Happening, HappeningIn};
 use trace_view::ObservedTrace;
 
-/// What becomes of what runs is asked, where init reads the second of two inittabs in the place of the first, and goes to
-/// the level.
+/// What becomes of what runs is asked, where init reads the new inittab in the old one's place, and goes to the level.
 #[derive(Drop)]
-pub(crate) struct ReloadTo {
-    pub(crate) level: Option<Level>,
-}
-
-/// The same, of two tables.
-#[derive(Drop)]
-pub(crate) struct Reload {
+struct Reload {
     old: Table,
     new: Table,
     level: Option<Level>,
@@ -98,34 +98,26 @@ impl Query for Reload {
         shown: &TraceOutcome,
     ) -> Result<Answer, Memory> {
         read_anew(alloc, text, &self.new, self.level)?;
-        let said = reload_lines(alloc, &self.old, text.view())?;
-        Ok((said, stop_status(shown.stop)))
+        let lines = reload_lines(alloc, &self.old, text.view())?;
+        Ok((lines, stop_status(shown.stop)))
     }
 }
 
-impl NeedsFiles for ReloadTo {
-    ghost use Rattle.initview_command.specs.Reloading.{reload_with};
-    ghost use Rattle.initview_command.specs.Tables.{NoneOf};
-
-    type Asked = Reload;
-
-    ghost gives = { λ asked path files writer. reload_with asked.level files };
-
-    ghost AreRefused = { NoneOf };
-
-    fn with_files<E: Reporter>(
-        &self,
-        alloc: Global,
-        files: &mut [Part],
-        err: &mut E,
-    ) -> Result<Reload, TableFault> {
-        match old_and_new(alloc, files, err) {
-            Ok((old, new)) => Ok(Reload {
-                old,
-                new,
-                level: self.level,
-            }),
-            Err(fault) => Err(fault),
-        }
-    }
+/// What becomes of what runs, where init reads the second file in the place of the first, and goes to the level.
+pub(crate) fn reload_answer<'a, T: Texts, G: LiveTraces>(
+    texts: &T,
+    growing: &G,
+    alloc: Global,
+    paths: &Paths<'_, 'a>,
+    level: Option<Level>,
+    remarks: &mut Remarks,
+) -> Result<Answer, Refusal<'a>>
+    ensures { ShowsWithFiles (T.text_at texts.now) (G.writer_at growing.now)
+        (path_texts paths.now) (λ files writer. reload_with level files) NoneOf
+        (answer_value result) }
+{
+    let mut files = read_files(texts, growing, alloc, paths)?;
+    let (old, new) = old_and_new(alloc, &mut files, remarks)?;
+    let reload = Reload { old, new, level };
+    trace_answer(texts, growing, alloc, paths.path, reload, remarks)
 }

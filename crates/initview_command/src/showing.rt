@@ -1,19 +1,20 @@
-//! What is asked of a trace, answered and written.
+//! What is asked of a trace, answered, and answers written.
 
-ghost use Rattle.std.specs.Prelude.{◌≡◌, List, ℕ, [], Option, IfOk};
-ghost use Rattle.initview_command.specs.Words.{Event, Viewed, ViewEnd};
+ghost use Rattle.std.specs.Prelude.{◌≡◌, ◌<◌, ◌^◌, List, ℕ, [], length, Option, IfOk, IfErr};
+ghost use Rattle.initview_command.specs.Words.{DEVICE_FAULT, Event, IsTextAt, Viewed, ViewEnd};
 ghost use Rattle.trace_view.specs.SeenTexts.{HasSeenText};
 ghost use Rattle.initview_lines.specs.declared.lines.Line.{Line};
 ghost use Rattle.initview_command.specs.declared.growing.Writer.{Writer};
-ghost use Rattle.initview_command.specs.Showing.{Shows, ShowsOf, Writes, is_within, lsb_status, row_status, running_status, said, status_by, stop_status};
+ghost use Rattle.initview_command.specs.Refusals.{refusal_status};
+ghost use Rattle.initview_command.specs.Showing.{Shows, Writes, WritesAnswer, answer_lines, answer_value, is_within, lsb_status, running_status, status_by, stop_status};
 
 use crate::asking::TraceQuery;
 use crate::growing::{LiveTraces, Writer};
 use crate::presence::{show_present, tell_writer};
-use crate::telling::{report_memory, report_packed, report_unread, report_unsaid};
-use init_words::{Id, Memory};
+use crate::telling::{Refusal, report_no_answer, report_unsaid};
+use init_words::Memory;
 use initview_lines::{Line, Says, is_starting, left_lines, row_line, status_lines};
-use program_io::{DEVICE_FAULT, DONE, PieceTaker, REFUSED, Reporter, Texts, UNLAWFUL};
+use program_io::{DEVICE_FAULT, DONE, PieceTaker, REFUSED, Reporter, Reports, Texts, UNLAWFUL};
 use std::alloc::{AllocError, Global};
 use trace_view::{ObservedTrace, Row, TraceObserver, TraceView, ViewEnd};
 
@@ -24,6 +25,9 @@ pub(crate) struct TraceOutcome<'a> {
     pub(crate) writer: Writer,
     pub(crate) stop: Option<ViewEnd>,
 }
+
+/// What is told before an answer is written.
+pub(crate) type Remarks = Reports<Vec<u8>>;
 
 /// What is written, and the exit status.
 pub(crate) type Answer = (Vec<Line>, u8);
@@ -37,13 +41,8 @@ pub(crate) trait Query: Drop {
     /// past.
     ghost gives: { Self → List ℕ → Writer → Option ViewEnd → List Event → List Line × ℕ };
 
-    /// Whether it is told that nobody writes the trace.
-    fn asks_writer(&self) -> bool {
-        false
-    }
-
-    /// Tells what the answer can't say of the trace of a path.
-    fn tell_unsaid<E: Reporter>(&self, _view: &TraceView, _path: &str, _err: &mut E) {}
+    /// Tells what the answer can't say of the trace.
+    fn remark(&self, _view: &TraceView, _shown: &TraceOutcome, _remarks: &mut Remarks) {}
 
     /// What is written, and the exit status.
     fn answer(
@@ -80,7 +79,7 @@ fn unpacker(piece: &[u8]) -> Option<&'static str> {
 }
 
 /// A text of which nothing was taken, nor seen, on the heap: a function that has one in its frame is dear to prove.
-fn file_text<S: TraceObserver<Global> + Drop>(alloc: Global) -> Result<Box<FileText<S>>, AllocError>
+fn file_text<S: TraceObserver<Global> + Drop>(alloc: Global) -> Result<Box<FileText<S>>, Memory>
     ensures { IfOk result (λ file. HasSeenText S.has_seen file.value.text []) }
 {
     let file = FileText {
@@ -145,33 +144,29 @@ pub(crate) fn stop_status(stop: Option<ViewEnd>) -> u8
     }
 }
 
-/// The exit status of an answer.
+/// The exit status of an answer: of one id's row unknown where the trace was not shown up to its end.
 fn status_of(view: &TraceView, question: &TraceQuery, writer: Writer, stop: Option<ViewEnd>) -> u8
     ensures { (past : List Event) → Viewed view.now past
         → result ≡ status_by question.now writer stop past }
 {
     match question {
-        TraceQuery::Row(id, _) => row_status(view, id, writer, stop),
+        TraceQuery::Row(id, _) => match stop {
+            None => lsb_status(writer, &view.row(id)),
+            Some(_) => DEVICE_FAULT,
+        },
         TraceQuery::Status(_) => stop_status(stop),
         TraceQuery::Left(_) => stop_status(stop),
     }
 }
 
-/// The exit status of one id's row: unknown where the trace was not shown up to its end.
-fn row_status(view: &TraceView, id: &Id, writer: Writer, stop: Option<ViewEnd>) -> u8
-    ensures { (past : List Event) → Viewed view.now past
-        → result ≡ row_status id.now writer stop past }
-{
-    match stop {
-        None => lsb_status(writer, &view.row(id)),
-        Some(_) => DEVICE_FAULT,
-    }
-}
-
 /// The answer to a question.
-fn lines(alloc: Global, view: &TraceView, question: &TraceQuery) -> Result<Vec<Line>, AllocError>
+fn answer_lines(
+    alloc: Global,
+    view: &TraceView,
+    question: &TraceQuery,
+) -> Result<Vec<Line>, AllocError>
     ensures { IfOk result (λ lines. (past : List Event) → Viewed view.now past
-        → lines.items ≡ said question.now past) }
+        → lines.items ≡ answer_lines question.now past) }
 {
     match question {
         TraceQuery::Status(shape) => status_lines(alloc, view, *shape),
@@ -181,12 +176,12 @@ fn lines(alloc: Global, view: &TraceView, question: &TraceQuery) -> Result<Vec<L
 }
 
 /// Tells of each start that is open what to do.
-fn tell_starts<E: Reporter>(view: &TraceView, path: &str, err: &mut E) {
+fn tell_starts(view: &TraceView, path: &str, remarks: &mut Remarks) {
     for entry in view.table().entries() {
         if is_starting(view, &entry.id) {
             let id = entry.id.as_str();
             writeln!(
-                err,
+                remarks,
                 "initview: {path}: {id}: its last start is open: a child may live that has no number here: it is in the \
                  session of init, where ps -e -o sid,pid,args has it"
             );
@@ -201,13 +196,10 @@ impl Query for TraceQuery {
 
     ghost gives = { λ question path writer stop past. answer_by question writer stop past };
 
-    fn asks_writer(&self) -> bool {
-        true
-    }
-
-    fn tell_unsaid<E: Reporter>(&self, view: &TraceView, path: &str, err: &mut E) {
+    fn remark(&self, view: &TraceView, shown: &TraceOutcome, remarks: &mut Remarks) {
+        tell_writer(shown, remarks);
         if let TraceQuery::Left(_) = self {
-            tell_starts(view, path, err);
+            tell_starts(view, shown.path, remarks);
         }
     }
 
@@ -218,74 +210,30 @@ impl Query for TraceQuery {
         shown: &TraceOutcome,
     ) -> Result<Answer, Memory> {
         show_present(text, shown.writer, shown.stop)?;
-        let said = lines(alloc, text.view(), &self)?;
+        let lines = answer_lines(alloc, text.view(), &self)?;
         let status = status_of(text.view(), &self, shown.writer, shown.stop);
-        Ok((said, status))
+        Ok((lines, status))
     }
 }
 
-/// Reads the trace of a path, writes what is asked of it, and gives the exit status.
-pub(crate) fn show_file<T: Texts, G: LiveTraces, Q: Query, S: Says, E: Reporter>(
+/// Reads the trace of a path.
+fn read_trace<'a, T: Texts, S: TraceObserver<Global> + Drop>(
     texts: &T,
-    growing: &G,
     alloc: Global,
-    path: &str,
-    asked: Q,
-    out: &mut S,
-    err: &mut E,
-) -> u8
-    ensures { Shows (T.text_at texts.now) (G.writer_at growing.now) path.now
-        (Q.gives asked path.now) result (S.said out.old) (S.said out.new) }
+    path: &'a str,
+) -> Result<Box<FileText<S>>, Refusal<'a>>
+    ensures text { IfOk result (λ file. (text : List ℕ) × (length text < 2 ^ 64)
+        × IsTextAt (T.text_at texts.now) path.now text
+        × HasSeenText S.has_seen file.value.text text) }
+    ensures refused { IfErr result (λ refusal. refusal_status refusal ≡ DEVICE_FAULT) }
 {
-    match file_text(alloc) {
-        Ok(mut file) => show_text(texts, growing, alloc, path, asked, &mut file, out, err),
-        Err(_) => report_memory(err),
-    }
-}
-
-/// Hands the text of a path to what has taken none, and writes what is asked of it.
-fn show_text<T: Texts, G: LiveTraces, Q: Query, S: Says, E: Reporter>(
-    texts: &T,
-    growing: &G,
-    alloc: Global,
-    path: &str,
-    asked: Q,
-    file: &mut FileText<Q::Seen>,
-    out: &mut S,
-    err: &mut E,
-) -> u8
-    requires { HasSeenText Q.Seen.has_seen file.old.text [] }
-    ensures { Shows (T.text_at texts.now) (G.writer_at growing.now) path.now
-        (Q.gives asked path.now) result (S.said out.old) (S.said out.new) }
-{
-    match texts.read_pieces(path, file) {
-        Ok(()) => {
-            if let Some(unpacker) = file.unpacker {
-                return report_packed(path, unpacker, err);
-            }
-            let (stop, left) = file.text.end();
-            let shown = TraceOutcome {
-                path,
-                writer: growing.writer(path),
-                stop,
-            };
-            tell_end(&asked, &shown, left, err);
-            show_seen(alloc, asked, &mut file.text, &shown, out, err)
-        }
-        Err(error) => report_unread(path, &error, err),
-    }
-}
-
-/// Tells how a trace ends.
-fn tell_end<Q: Query, E: Reporter>(
-    asked: &Q,
-    shown: &TraceOutcome,
-    left: Option<u64>,
-    err: &mut E,
-) {
-    tell_stop(shown.path, shown.stop, left, err);
-    if asked.asks_writer() {
-        tell_writer(shown.path, shown.writer, shown.stop, err);
+    let mut file = file_text(alloc)?;
+    match texts.read_pieces(path, &mut *file) {
+        Ok(()) => match file.unpacker {
+            None => Ok(file),
+            Some(unpacker) => Err(Refusal::Packed(path, unpacker)),
+        },
+        Err(error) => Err(Refusal::Unread(path, error)),
     }
 }
 
@@ -299,33 +247,49 @@ fn is_within(stop: Option<ViewEnd>) -> bool
     }
 }
 
-/// Writes what is asked of a text, unless that begins within a run, and gives the exit status.
-fn show_seen<Q: Query, S: Says, E: Reporter>(
+/// What is answered of the trace of a path, unless that begins within a run.
+pub(crate) fn trace_answer<'a, T: Texts, G: LiveTraces, Q: Query>(
+    texts: &T,
+    growing: &G,
     alloc: Global,
-    asked: Q,
-    text: &mut ObservedTrace<Q::Seen>,
-    shown: &TraceOutcome,
+    path: &'a str,
+    query: Q,
+    remarks: &mut Remarks,
+) -> Result<Answer, Refusal<'a>>
+    ensures { Shows (T.text_at texts.now) (G.writer_at growing.now) path.now
+        (Q.gives query path.now) (answer_value result) }
+{
+    let mut file = read_trace::<T, Q::Seen>(texts, alloc, path)?;
+    let (stop, unfinished) = file.text.end();
+    let writer = growing.writer(path);
+    tell_stop(path, stop, unfinished, remarks);
+    if is_within(stop) {
+        return Err(Refusal::Within);
+    }
+    let shown = TraceOutcome { path, writer, stop };
+    query.remark(file.text.view(), &shown, remarks);
+    Ok(query.answer(alloc, &mut file.text, &shown)?)
+}
+
+/// Tells the remarks, writes an answer, and gives the exit status.
+pub(crate) fn write<S: Says, E: Reporter>(
+    alloc: Global,
+    answer: Result<Answer, Refusal>,
+    remarks: &Remarks,
     out: &mut S,
     err: &mut E,
 ) -> u8
-    ensures { (past : List Event) → Viewed text.old.viewing.viewing past
-        → Q.Seen.has_seen text.old.seen past
-        → ShowsOf shown.now.stop
-        (Q.gives asked shown.now.path.now shown.now.writer shown.now.stop past) result
-        (S.said out.old) (S.said out.new) }
+    ensures { WritesAnswer (answer_value answer.entry) result (S.said out.old) (S.said out.new) }
 {
-    if is_within(shown.stop) {
-        return REFUSED;
-    }
-    asked.tell_unsaid(text.view(), shown.path, err);
-    match asked.answer(alloc, text, shown) {
-        Ok((said, status)) => write_answer(alloc, said, status, out, err),
-        Err(_) => report_memory(err),
+    err.report(remarks.writer());
+    match answer {
+        Ok((lines, status)) => say_lines(alloc, lines, status, out, err),
+        Err(refusal) => report_no_answer(&refusal, err),
     }
 }
 
 /// Says lines, and gives the exit status, which is this where all are said.
-pub(crate) fn write_answer<S: Says, E: Reporter>(
+pub(crate) fn say_lines<S: Says, E: Reporter>(
     alloc: Global,
     lines: Vec<Line>,
     status: u8,
@@ -344,7 +308,7 @@ pub(crate) fn write_answer<S: Says, E: Reporter>(
 pub(crate) fn tell_stop<E: Reporter>(
     path: &str,
     stop: Option<ViewEnd>,
-    left: Option<u64>,
+    unfinished: Option<u64>,
     err: &mut E,
 ) {
     match stop {
@@ -368,7 +332,7 @@ pub(crate) fn tell_stop<E: Reporter>(
             );
         }
         None => {
-            if let Some(line) = left {
+            if let Some(line) = unfinished {
                 writeln!(
                     err,
                     "initview: {path}:{line}: the happening is not finished: shown up to the line before it"

@@ -1,20 +1,22 @@
-//! What is asked of inittabs, written.
+//! What is asked of inittabs, answered.
 
-ghost use Rattle.std.specs.Prelude.{◌≡◌, ◌++◌, ◌∷◌, [], map, option_map, drop, ℕ, List, IfSome, IfOk, IfErr, OnOk};
-ghost use Rattle.initview_command.specs.Words.{IsTextAt, NamedText};
-ghost use Rattle.initview_command.specs.declared.asking.TableQuestion.TheVariants as table_question;
-ghost use Rattle.initview_command.specs.Tables.{Answers, AnswersOf, AreFiles, AreFilesAt, AreNone, FailsBy, IsAnswer, IsRefused, NoneOf, fault_status, found_status, level_asked, lint_by, old_of, plan_by, table_in};
+ghost use Rattle.std.specs.Prelude.{◌≡◌, ◌++◌, ◌∷◌, [], map, drop, ℕ, List, IfOk, IfErr, OnOk};
+ghost use Rattle.initview_command.specs.Words.{DEVICE_FAULT, IsTextAt, NamedText};
+ghost use Rattle.initview_command.specs.Asking.{path_texts};
+ghost use Rattle.initview_command.specs.Refusals.{refusal_status};
+ghost use Rattle.initview_command.specs.Showing.{answer_value};
+ghost use Rattle.initview_command.specs.Tables.{Answers, AreFiles, AreFilesAt, AreNone, FailsBy, IsAnswer, IsRefused, NoneOf, found_status, level_asked, lint_by, old_of, plan_by, table_in};
 
-use crate::asking::TableQuestion;
+use crate::asking::{Paths, TableQuestion};
 use crate::growing::LiveTraces;
 use crate::programs::missing;
-use crate::showing::write_answer;
-use crate::telling::report_unread;
-use init_words::{Level, Part};
+use crate::showing::{Answer, Remarks};
+use crate::telling::Refusal;
+use init_words::{Level, Memory, Part};
 use inittab_lint::LineWarning;
 use inittab_text::{PartFault, Table, TableFault, read_parts};
-use initview_lines::{Findings, Line, Says, change_lines, lint_parts, plan_lines};
-use program_io::{DEVICE_FAULT, DONE, REFUSED, Reporter, Texts};
+use initview_lines::{Findings, Line, change_lines, lint_parts, plan_lines};
+use program_io::{DONE, REFUSED, Reporter, Texts};
 use std::alloc::{AllocError, Global};
 use std::io;
 
@@ -30,49 +32,42 @@ fn add_file<T: Texts>(texts: &T, alloc: Global, path: &str, parts: &mut Vec<Part
     Ok(())
 }
 
-/// Reads the files of the paths, in their order. One that can't be read is told, and none is given.
-fn read_named<T: Texts, E: Reporter>(
+/// Reads the files of the paths, in their order.
+fn read_named<'a, T: Texts>(
     texts: &T,
     alloc: Global,
-    paths: &[&str],
-    err: &mut E,
-) -> Option<Vec<Part>>
-    ensures { IfSome result (λ parts.
+    paths: &[&'a str],
+) -> Result<Vec<Part>, Refusal<'a>>
+    ensures files { IfOk result (λ parts.
         AreFilesAt (T.text_at texts.now) (map (λ path. path.now) paths.now) parts.items) }
+    ensures refused { IfErr result (λ refusal. refusal_status refusal ≡ DEVICE_FAULT) }
 {
     let mut parts = Vec::new(alloc);
     for path in paths {
         if let Err(error) = add_file(texts, alloc, *path, &mut parts) {
-            let _ = report_unread(*path, &error, err);
-            return None;
+            return Err(Refusal::Unread(*path, error));
         }
     }
-    Some(parts)
+    Ok(parts)
 }
 
-/// Reads the files of the paths, in their order, and behind them those of a folder, where one is named. One that can't be
-/// read is told, and none is given.
-pub(crate) fn read_files<T: Texts, G: LiveTraces, E: Reporter>(
+/// Reads the files of the paths, in their order, and behind them those of a folder, where one is named.
+pub(crate) fn read_files<'a, T: Texts, G: LiveTraces>(
     texts: &T,
     growing: &G,
     alloc: Global,
-    paths: &[&str],
-    folder: Option<&str>,
-    err: &mut E,
-) -> Option<Vec<Part>>
-    ensures { IfSome result (λ parts. AreFiles (T.text_at texts.now)
-        (map (λ path. path.now) paths.now) (option_map (λ path. path.now) folder.entry)
-        parts.items) }
+    paths: &Paths<'_, 'a>,
+) -> Result<Vec<Part>, Refusal<'a>>
+    ensures files { IfOk result (λ parts.
+        AreFiles (T.text_at texts.now) (path_texts paths.now) parts.items) }
+    ensures refused { IfErr result (λ refusal. refusal_status refusal ≡ DEVICE_FAULT) }
 {
-    let mut parts = read_named(texts, alloc, paths, err)?;
-    match folder {
-        None => Some(parts),
+    let mut parts = read_named(texts, alloc, paths.files)?;
+    match paths.folder {
+        None => Ok(parts),
         Some(folder) => match growing.add_folder(alloc, folder, &mut parts) {
-            Ok(()) => Some(parts),
-            Err(fault) => {
-                writeln!(err, "initview: {fault}");
-                None
-            }
+            Ok(()) => Ok(parts),
+            Err(fault) => Err(Refusal::Folder(fault)),
         },
     }
 }
@@ -89,29 +84,29 @@ fn found_status(found: Findings) -> u8
 }
 
 /// Says that an inittab has lines that are left out, and what tells which.
-fn tell_faulty<E: Reporter>(parts: &[Part], faults: &[PartFault], err: &mut E) {
+fn tell_faulty(parts: &[Part], faults: &[PartFault], remarks: &mut Remarks) {
     let count = faults.len();
     if let (Some(part), true) = (parts.first(), count > 0) {
         let name = part.name.as_str();
         writeln!(
-            err,
+            remarks,
             "initview: {name}: lines that are left out: {count}: initview lint says which"
         );
     }
 }
 
 /// The table of files.
-pub(crate) fn table_in<E: Reporter>(
+pub(crate) fn table_in(
     alloc: Global,
     parts: &[Part],
-    err: &mut E,
+    remarks: &mut Remarks,
 ) -> Result<Table, TableFault>
     ensures table { IfOk result (λ table. table ≡ table_in parts.now) }
     ensures fault { IfErr result (FailsBy (AreNone parts.now)) }
 {
     match read_parts(alloc, parts) {
         Ok((table, faults)) => {
-            tell_faulty(parts, &faults, err);
+            tell_faulty(parts, &faults, remarks);
             Ok(table)
         }
         Err(TableFault::Memory) => Err(TableFault::Memory),
@@ -131,11 +126,7 @@ pub(crate) fn level_asked(level: Option<Level>, table: &Table) -> Level
 }
 
 /// The faults and warnings of an inittab, with further ones, and the exit status.
-fn lint_answer(
-    alloc: Global,
-    parts: &[Part],
-    missing: &[LineWarning],
-) -> Result<(Vec<Line>, u8), TableFault>
+fn lint_answer(alloc: Global, parts: &[Part], missing: &[LineWarning]) -> Result<Answer, TableFault>
     ensures told { IfOk result (λ given. (given.0.items ≡ (lint_by parts.now missing.now).0)
         × (given.1 ≡ (lint_by parts.now missing.now).1)) }
     ensures fault { IfErr result (FailsBy (AreNone parts.now)) }
@@ -148,25 +139,8 @@ fn lint_answer(
     }
 }
 
-/// The same, with warnings of programs that aren't found in folders.
-fn programs_answer<G: LiveTraces>(
-    growing: &G,
-    alloc: Global,
-    folders: &str,
-    parts: &[Part],
-) -> Result<(Vec<Line>, u8), TableFault>
-    ensures told { IfOk result (λ given.
-        IsAnswer table_question.Programs parts.now given.0.items given.1) }
-    ensures fault { IfErr result (FailsBy (AreNone parts.now)) }
-{
-    match missing(growing, alloc, folders, parts) {
-        Ok(missing) => lint_answer(alloc, parts, &missing),
-        Err(_) => Err(TableFault::Memory),
-    }
-}
-
 /// The files behind the first.
-fn behind_first(parts: &[Part]) -> &[Part]
+fn after_first(parts: &[Part]) -> &[Part]
     ensures { result.now ≡ drop 1 parts.now }
 {
     match parts {
@@ -185,7 +159,7 @@ fn old_of(parts: &mut [Part]) -> &[Part]
         return parts;
     }
     parts.swap(0, 1);
-    behind_first(parts)
+    after_first(parts)
 }
 
 /// What an inittab starts on the way to a level.
@@ -193,136 +167,73 @@ pub(crate) fn plan_of(
     alloc: Global,
     level: Option<Level>,
     table: &Table,
-) -> Result<Vec<Line>, AllocError>
+) -> Result<Vec<Line>, Memory>
     ensures { IfOk result (λ lines. lines.items ≡ plan_by level table.now) }
 {
-    plan_lines(alloc, level_asked(level, table), table)
+    Ok(plan_lines(alloc, level_asked(level, table), table)?)
+}
+
+/// The old and the new table of a diff.
+pub(crate) fn old_and_new(
+    alloc: Global,
+    parts: &mut [Part],
+    remarks: &mut Remarks,
+) -> Result<(Table, Table), TableFault>
+    ensures tables { IfOk result (λ both. (both.0 ≡ table_in (old_of parts.old))
+        × (both.1 ≡ table_in (drop 1 parts.old))) }
+    ensures fault { IfErr result (FailsBy (NoneOf parts.old)) }
+{
+    let new = table_in(alloc, after_first(parts), remarks)?;
+    let old = table_in(alloc, old_of(parts), remarks)?;
+    Ok((old, new))
 }
 
 /// What is answered of inittabs, and the exit status.
-fn answer<G: LiveTraces, E: Reporter>(
+fn answer<G: LiveTraces>(
     growing: &G,
     alloc: Global,
     folders: &str,
     question: TableQuestion,
     parts: &mut [Part],
-    err: &mut E,
-) -> Result<(Vec<Line>, u8), TableFault>
+    remarks: &mut Remarks,
+) -> Result<Answer, TableFault>
     ensures told { IfOk result (λ given.
         IsAnswer question parts.old given.0.items given.1) }
     ensures fault { IfErr result (FailsBy (IsRefused question parts.old)) }
 {
     match question {
         TableQuestion::Lint => lint_answer(alloc, parts, &[]),
-        TableQuestion::Programs => programs_answer(growing, alloc, folders, parts),
-        TableQuestion::Diff(level) => diff_answer(alloc, level, parts, err),
-        TableQuestion::Plan(level) => plan_answer(alloc, level, parts, err),
+        TableQuestion::Programs => {
+            let missing = missing(growing, alloc, folders, parts)?;
+            lint_answer(alloc, parts, &missing)
+        }
+        TableQuestion::Diff(level) => {
+            let (old, new) = old_and_new(alloc, parts, remarks)?;
+            match change_lines(alloc, level_asked(level, &new), &old, &new) {
+                Ok(lines) => Ok((lines, DONE)),
+                Err(AllocError) => Err(TableFault::Memory),
+            }
+        }
+        TableQuestion::Plan(level) => {
+            let table = table_in(alloc, parts, remarks)?;
+            let lines = plan_of(alloc, level, &table)?;
+            Ok((lines, DONE))
+        }
     }
 }
 
-/// The old and the new table of a diff.
-pub(crate) fn old_and_new<E: Reporter>(
-    alloc: Global,
-    parts: &mut [Part],
-    err: &mut E,
-) -> Result<(Table, Table), TableFault>
-    ensures tables { IfOk result (λ both. (both.0 ≡ table_in (old_of parts.old))
-        × (both.1 ≡ table_in (drop 1 parts.old))) }
-    ensures fault { IfErr result (FailsBy (NoneOf parts.old)) }
-{
-    let new = table_in(alloc, behind_first(parts), err)?;
-    let old = table_in(alloc, old_of(parts), err)?;
-    Ok((old, new))
-}
-
-fn diff_answer<E: Reporter>(
-    alloc: Global,
-    level: Option<Level>,
-    parts: &mut [Part],
-    err: &mut E,
-) -> Result<(Vec<Line>, u8), TableFault>
-    ensures told { IfOk result (λ given.
-        IsAnswer (table_question.Diff level) parts.old given.0.items given.1) }
-    ensures fault { IfErr result (FailsBy (NoneOf parts.old)) }
-{
-    let (old, new) = old_and_new(alloc, parts, err)?;
-    match change_lines(alloc, level_asked(level, &new), &old, &new) {
-        Ok(text) => Ok((text, DONE)),
-        Err(_) => Err(TableFault::Memory),
-    }
-}
-
-fn plan_answer<E: Reporter>(
-    alloc: Global,
-    level: Option<Level>,
-    parts: &[Part],
-    err: &mut E,
-) -> Result<(Vec<Line>, u8), TableFault>
-    ensures told { IfOk result (λ given.
-        IsAnswer (table_question.Plan level) parts.now given.0.items given.1) }
-    ensures fault { IfErr result (FailsBy (AreNone parts.now)) }
-{
-    let table = table_in(alloc, parts, err)?;
-    match plan_of(alloc, level, &table) {
-        Ok(text) => Ok((text, DONE)),
-        Err(_) => Err(TableFault::Memory),
-    }
-}
-
-fn fault_status(fault: TableFault) -> u8
-    ensures { result ≡ fault_status fault }
-{
-    match fault {
-        TableFault::Memory => DEVICE_FAULT,
-        TableFault::TooLong => REFUSED,
-        TableFault::Parts => REFUSED,
-    }
-}
-
-/// Tells why an inittab is not read, and gives the exit status.
-pub(crate) fn report_fault<E: Reporter>(fault: TableFault, err: &mut E) -> u8
-    ensures { result ≡ fault_status fault }
-{
-    writeln!(err, "initview: {fault}");
-    fault_status(fault)
-}
-
-/// Writes what is answered of inittabs, and gives the exit status.
-fn show_parts<G: LiveTraces, S: Says, E: Reporter>(
-    growing: &G,
-    alloc: Global,
-    folders: &str,
-    question: TableQuestion,
-    parts: &mut [Part],
-    out: &mut S,
-    err: &mut E,
-) -> u8
-    ensures { AnswersOf question parts.old result (S.said out.old) (S.said out.new) }
-{
-    match answer(growing, alloc, folders, question, parts, err) {
-        Ok((lines, status)) => write_answer(alloc, lines, status, out, err),
-        Err(fault) => report_fault(fault, err),
-    }
-}
-
-/// Reads the files of inittabs, writes what is answered of them, and gives the exit status.
-pub(crate) fn show_files<T: Texts, G: LiveTraces, S: Says, E: Reporter>(
+/// What is answered of the inittabs at the paths.
+pub(crate) fn tables_answer<'a, T: Texts, G: LiveTraces>(
     texts: &T,
     growing: &G,
     alloc: Global,
-    folders: &str,
-    paths: &[&str],
-    folder: Option<&str>,
+    paths: &Paths<'_, 'a>,
     question: TableQuestion,
-    out: &mut S,
-    err: &mut E,
-) -> u8
-    ensures { Answers (T.text_at texts.now) (map (λ path. path.now) paths.now)
-        (option_map (λ path. path.now) folder.entry) question result
-        (S.said out.old) (S.said out.new) }
+    remarks: &mut Remarks,
+) -> Result<Answer, Refusal<'a>>
+    ensures { Answers (T.text_at texts.now) (path_texts paths.now) question
+        (answer_value result) }
 {
-    match read_files(texts, growing, alloc, paths, folder, err) {
-        Some(mut parts) => show_parts(growing, alloc, folders, question, &mut parts, out, err),
-        None => DEVICE_FAULT,
-    }
+    let mut parts = read_files(texts, growing, alloc, paths)?;
+    Ok(answer(growing, alloc, paths.path, question, &mut parts, remarks)?)
 }

@@ -2,13 +2,89 @@
 
 ghost use Rattle.std.specs.Prelude.{◌≡◌};
 ghost use Rattle.initview_command.specs.Words.{HasReported, SaysNothing};
-ghost use Rattle.initview_command.specs.Refusals.{memory_line};
+ghost use Rattle.initview_command.specs.Refusals.{fault_status, memory_line, refusal_status};
 ghost use Rattle.initview_command.specs.Showing.{EndsUnsaid};
 
+use host_files::FolderFault;
+use init_words::Memory;
+use inittab_text::TableFault;
 use initview_lines::{SayFault, Says};
 use jiff::Error;
-use program_io::{DEVICE_FAULT, DONE, Reporter, report_failure, report_fault};
+use program_io::{DEVICE_FAULT, DONE, REFUSED, Reporter, report_failure, report_fault};
 use std::io;
+
+/// Why there is no answer.
+#[derive(Drop)]
+pub(crate) enum Refusal<'a> {
+    /// The file of a path can't be read.
+    Unread(&'a str, io::Error),
+    /// A folder of files of inittabs can't be read.
+    Folder(FolderFault),
+    /// The trace of a path is compressed, and this program unpacks it.
+    Packed(&'a str, &'static str),
+    /// The trace begins within a run, as is remarked.
+    Within,
+    /// Files are no inittab.
+    Table(TableFault),
+    /// Out of memory.
+    Memory,
+}
+
+impl<'a> From<Memory> for Refusal<'a> {
+    ghost use Rattle.std.specs.Prelude.{◌≡◌};
+    ghost use Rattle.initview_command.specs.declared.telling.Refusal.TheVariants as why;
+
+    ghost from_gives = { λ _ refusal. refusal ≡ why.Memory };
+
+    fn from(_error: Memory) -> Refusal<'a> {
+        Refusal::Memory
+    }
+}
+
+impl<'a> From<TableFault> for Refusal<'a> {
+    ghost use Rattle.std.specs.Prelude.{◌≡◌};
+    ghost use Rattle.initview_command.specs.declared.telling.Refusal.TheVariants as why;
+
+    ghost from_gives = { λ fault refusal. refusal ≡ why.Table fault };
+
+    fn from(fault: TableFault) -> Refusal<'a> {
+        Refusal::Table(fault)
+    }
+}
+
+/// Tells why there is no answer, and gives the exit status.
+pub(crate) fn report_no_answer<E: Reporter>(refusal: &Refusal, err: &mut E) -> u8
+    ensures { result ≡ refusal_status refusal.now }
+{
+    match refusal {
+        Refusal::Unread(path, error) => report_unread(*path, error, err),
+        Refusal::Folder(fault) => {
+            writeln!(err, "initview: {fault}");
+            DEVICE_FAULT
+        }
+        Refusal::Packed(path, unpacker) => {
+            writeln!(
+                err,
+                "initview: {path} is compressed: {unpacker} {path} | initview status -"
+            );
+            DEVICE_FAULT
+        }
+        Refusal::Within => REFUSED,
+        Refusal::Table(fault) => report_no_table(*fault, err),
+        Refusal::Memory => report_memory(err),
+    }
+}
+
+/// Tells why files are no inittab, and gives the exit status.
+fn report_no_table<E: Reporter>(fault: TableFault, err: &mut E) -> u8
+    ensures { result ≡ fault_status fault }
+{
+    writeln!(err, "initview: {fault}");
+    match fault {
+        TableFault::Memory => DEVICE_FAULT,
+        TableFault::TooLong | TableFault::Parts => REFUSED,
+    }
+}
 
 /// Tells why lines were not all said, and gives the exit status. Of lines that nobody reads any more nothing is told.
 pub(crate) fn report_unsaid<S: Says, E: Reporter>(fault: SayFault, out: &mut S, err: &mut E) -> u8
@@ -56,14 +132,4 @@ pub(crate) fn report_unread<E: Reporter>(path: &str, error: &io::Error, err: &mu
     ensures { result ≡ DEVICE_FAULT }
 {
     report_failure("initview", "cannot read", path, error, "", err)
-}
-
-pub(crate) fn report_packed<E: Reporter>(path: &str, unpacker: &str, err: &mut E) -> u8
-    ensures { result ≡ DEVICE_FAULT }
-{
-    writeln!(
-        err,
-        "initview: {path} is compressed: {unpacker} {path} | initview status -"
-    );
-    DEVICE_FAULT
 }

@@ -9,20 +9,20 @@ returns-in_err-reader-clause-err g c =
 
 pub returns-clause-ok : goal.returns-clause-ok
 returns-clause-ok g c =
-    let left = g.R.Read.remaining c.args.from.now in
+    let input = g.R.Read.remaining c.args.from.now in
     let now = g.S.Says.said c.args.out.now in
     let reader = c.deref_mut.ensures.value in
-    let begun = from_first left c.deref_mut.result.now now (ap judges reader ∙ c.in_ok-reader.ensures.0)
+    let begun = from_first input c.deref_mut.result.now now (ap judges reader ∙ c.in_ok-reader.ensures.0)
     (subst (λ r. HasLines r [] []) (sym reader) c.in_ok-reader.ensures.1) in
     if_ok _ _ c.write_lines.result
-    (λ end all. ([], refl, all (start_of None [] now) left begun)) c.write_lines.ensures.ok
+    (λ end all. ([], refl, all (start_of None [] now) input begun)) c.write_lines.ensures.ok
 
 pub returns-clause-err : goal.returns-clause-err
 returns-clause-err g c =
-    let left = g.R.Read.remaining c.args.from.now in
+    let input = g.R.Read.remaining c.args.from.now in
     let now = g.S.Says.said c.args.out.now in
     let reader = c.deref_mut.ensures.value in
-    let begun = from_first left c.deref_mut.result.now now (ap judges reader ∙ c.in_ok-reader.ensures.0)
+    let begun = from_first input c.deref_mut.result.now now (ap judges reader ∙ c.in_ok-reader.ensures.0)
     (subst (λ r. HasLines r [] []) (sym reader) c.in_ok-reader.ensures.1) in
     if_err _ _ c.write_lines.result
-    (λ part. ([], refl, part (start_of None [] now) left begun)) c.write_lines.ensures.err
+    (λ part. ([], refl, part (start_of None [] now) input begun)) c.write_lines.ensures.err

@@ -4,7 +4,7 @@ use Rattle.initview_command.proofs.following.follow_file.Goals as goal
 
 pub returns-in-Ok : goal.returns-in-Ok
 returns-in-Ok g c =
-    subst (λ left. Follows c.args.last left c.follow_text.result (g.S.Says.said c.args.out.now)
+    subst (λ input. Follows c.args.last input c.follow_text.result (g.S.Says.said c.args.out.now)
     (g.S.Says.said c.follow_text.new.out)) c.in-Ok.ensures c.follow_text.ensures
 
 pub returns-in-Err : goal.returns-in-Err

@@ -4,6 +4,6 @@ use Rattle.initview_command.proofs.following.take_there.Given as goal
 -- of what was read so far the last lines are kept
 abbrev pub invariant-loop : goal.invariant-loop
 invariant-loop g l =
-    (left : Option (List ℕ))
-    → MayKeep PIECE_LIMIT l.count left l.fn.reader l.fn.lines.items (g.R.Read.remaining l.fn.from)
-    → MayKeep (PIECE_LIMIT + PIECE_LIMIT * l.counter) l.count left l.reader l.lines.items (g.R.Read.remaining l.from)
+    (input : Option (List ℕ))
+    → MayKeep PIECE_LIMIT l.count input l.fn.reader l.fn.lines.items (g.R.Read.remaining l.fn.from)
+    → MayKeep (PIECE_LIMIT + PIECE_LIMIT * l.counter) l.count input l.reader l.lines.items (g.R.Read.remaining l.from)

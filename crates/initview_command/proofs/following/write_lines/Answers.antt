@@ -6,16 +6,16 @@ use Rattle.initview_command.proofs.following.write_lines.Goals as goal
 
 pub returns-in_err-taken-clause-err : goal.returns-in_err-taken-clause-err
 returns-in_err-taken-clause-err g c =
-    on_err c.from_residual.result _ (λ start left has.
-    let (text, consumed, small, written) = c.loop.invariant start left has in
+    on_err c.from_residual.result _ (λ start input has.
+    let (text, consumed, small, written) = c.loop.invariant start input has in
     let few : c.loop.counter < PIECES_LIMIT = c.loop-test.true in
-    written_part start left c.loop.reader text (g.S.Says.said c.loop.out) (omega (arith, small, few))
+    written_part start input c.loop.reader text (g.S.Says.said c.loop.out) (omega (arith, small, few))
     (begins _ _ text consumed) written)
 
 pub returns-in_err-write_piece-clause-err : goal.returns-in_err-write_piece-clause-err
 returns-in_err-write_piece-clause-err g c =
-    on_err c.from_residual-in_err-write_piece.result _ (λ start left has.
-    let (text, consumed, small, written) = c.loop.invariant start left has in
+    on_err c.from_residual-in_err-write_piece.result _ (λ start input has.
+    let (text, consumed, small, written) = c.loop.invariant start input has in
     let piece : List ℕ = take c.in_ok-taken.taken c.read.new.buf in
     let few : c.loop.counter < PIECES_LIMIT = c.loop-test.true in
     let short : length piece ≤ PIECE_LIMIT = grind (arith, common_steps, length-take) in
@@ -26,17 +26,17 @@ returns-in_err-write_piece-clause-err g c =
     (c.in_err-write_piece.ensures.err start text (omega (arith, bound, few)) written))
 
 pub returns-then-is_some-clause-ok : goal.returns-then-is_some-clause-ok
-returns-then-is_some-clause-ok g c = λ start left has.
-    let (text, consumed, small, written) = c.loop.invariant start left has in
+returns-then-is_some-clause-ok g c = λ start input has.
+    let (text, consumed, small, written) = c.loop.invariant start input has in
     let few : c.loop.counter < PIECES_LIMIT = c.loop-test.true in
     let stopped : is_some c.end_of-end.result.0 ≡ true = sym c.is_some.ensures ∙ c.if-is_some.true in
-    all_stopped start left _ c.end_of-end.result.0 c.end_of-end.result.1 c.loop.reader text
+    all_stopped start input _ c.end_of-end.result.0 c.end_of-end.result.1 c.loop.reader text
     (g.S.Says.said c.loop.out) stopped consumed
-    (λ said so. c.end_of-end.ensures said text (omega (arith, small, few)) so) written
+    (λ past_lines so. c.end_of-end.ensures past_lines text (omega (arith, small, few)) so) written
 
 pub loop-preserved : goal.loop-preserved
-loop-preserved g c = λ start left has.
-    let (text, consumed, small, written) = c.loop.invariant start left has in
+loop-preserved g c = λ start input has.
+    let (text, consumed, small, written) = c.loop.invariant start input has in
     let piece : List ℕ = take c.in_ok-taken.taken c.read.new.buf in
     let few : c.loop.counter < PIECES_LIMIT = c.loop-test.true in
     let short : length piece ≤ PIECE_LIMIT = grind (arith, common_steps, length-take) in
@@ -49,21 +49,21 @@ loop-preserved g c = λ start left has.
     )
 
 pub returns-clause-err : goal.returns-clause-err
-returns-clause-err g c = λ start left has.
-    let (text, consumed, small, written) = c.loop.invariant start left has in
+returns-clause-err g c = λ start input has.
+    let (text, consumed, small, written) = c.loop.invariant start input has in
     let few : c.loop.counter ≤ PIECES_LIMIT = c.loop.auto.counter-end in
-    written_part start left c.loop.reader text (g.S.Says.said c.loop.out) (omega (arith, small, few))
+    written_part start input c.loop.reader text (g.S.Says.said c.loop.out) (omega (arith, small, few))
     (begins _ _ text consumed) written
 
 pub returns-then-taken-eq0-clause-ok : goal.returns-then-taken-eq0-clause-ok
-returns-then-taken-eq0-clause-ok g c = λ start left has.
-    let (text, consumed, small, written) = c.loop.invariant start left has in
+returns-then-taken-eq0-clause-ok g c = λ start input has.
+    let (text, consumed, small, written) = c.loop.invariant start input has in
     let few : c.loop.counter < PIECES_LIMIT = c.loop-test.true in
     let zero : c.in_ok-taken.taken ≡ 0 = first_of (search rules, grind (arith, common_steps)) in
     let room : 0 < length c.read.new.buf = first_of (search rules, grind (arith, common_steps)) in
-    all_read start left _ _ c.end_of-end.result.0 c.end_of-end.result.1 c.loop.reader text
+    all_read start input _ _ c.end_of-end.result.0 c.end_of-end.result.1 c.loop.reader text
     (g.S.Says.said c.loop.out) consumed
     (subst (λ n. Consumes (g.R.Read.remaining c.loop.from) (g.R.Read.remaining c.read.new.self) (take n c.read.new.buf))
     zero c.in_ok-taken.ensures.bytes.0)
     (c.in_ok-taken.ensures.bytes.1 zero room)
-    (λ said so. c.end_of-end.ensures said text (omega (arith, small, few)) so) written
+    (λ past_lines so. c.end_of-end.ensures past_lines text (omega (arith, small, few)) so) written

@@ -5,8 +5,8 @@ use Rattle.initview_command.proofs.following.write_lines.Given as goal
 -- the lines of what was read so far were written
 abbrev pub invariant-loop : goal.invariant-loop
 invariant-loop g l =
-    (start : Start) (left : Option (List ℕ))
-    → HasFollowed start left l.fn.reader (g.R.Read.remaining l.fn.from) (g.S.Says.said l.fn.out)
-    → (text : List ℕ) × Consumes left (g.R.Read.remaining l.from) text
+    (start : Start) (input : Option (List ℕ))
+    → HasFollowed start input l.fn.reader (g.R.Read.remaining l.fn.from) (g.S.Says.said l.fn.out)
+    → (text : List ℕ) × Consumes input (g.R.Read.remaining l.from) text
     × (length text ≤ there_limit + PIECE_LIMIT * l.counter)
     × HasWritten start l.reader text (g.S.Says.said l.out)

@@ -10,8 +10,8 @@ loop-path-preserved g c =
     next_file (g.T.Texts.text_at c.args.texts.now) c.args.paths.now c.loop-path.path-index _ read.0 paths
     c.loop-path.parts.items c.add_file.new.parts.items c.loop-path-test.true read.1 read.2 c.loop-path.invariant
 
-pub returns : goal.returns
-returns g c =
+pub returns-clause-files : goal.returns-clause-files
+returns-clause-files g c =
     let text_at = g.T.Texts.text_at c.args.texts.now in
     let paths = map (λ path. path.now) c.args.paths.now in
     subst (λ parts. AreFilesAt text_at paths parts) (append-nil c.loop-path.parts.items)

@@ -1,5 +1,5 @@
 use Rattle.initview_command.proofs.Words.{inr, front_still}
-use Rattle.initview_command.proofs.showing.write_answer.Goals as goal
+use Rattle.initview_command.proofs.showing.say_lines.Goals as goal
 
 pub returns-in-Err : goal.returns-in-Err
 returns-in-Err g c =
