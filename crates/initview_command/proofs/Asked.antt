@@ -6,6 +6,7 @@ use Rattle.initview_command.proofs.Words.{asked_of, command_line, local_said, pa
 use Rattle.initview_command.proofs.Words.{KnownWriters, Does, DoesTimed, EndsAs, EndsFor, EndsOf, EndsOn, EndsWhere}
 use Rattle.initview_command.proofs.Words.{Refuses}
 use Rattle.initview_command.proofs.Words.{SaysNothing, all_of, timed, Bor, map, option_map, unwrap_or}
+use Rattle.std.proofs.lemmas.Option.{none-some}
 use Rattle.clap.proofs.OnLiterals.{clap_on_literals}
 use Rattle.command_words.specs.CommandLines.{bare_line, given_by, line_of}
 use Rattle.command_words.specs.declared.faults.WordFault.{WordFault}
@@ -22,20 +23,41 @@ unfolding bare_line line_of clap_on_literals
 is_free_line = refl
 
 module _ (text_at growing_at : KnownTexts) (writers : KnownWriters) (status : ℕ) (old new : Heard) where
-  -- of words that give rows, by what they ask
-  module _ (rows : List Row) (given : List (List ℕ)) (are : given ≡ words_said rows) where
+  -- by whether the version is asked for
+  pub version_done : (words : List (List ℕ)) (asks : Bool) → asks ≡ true
+      → Writes (line.Text (version_line (codes "initview")) ∷ []) DONE status old new
+      → EndsAs asks text_at growing_at writers words status old new
+  version_done words true is printed = printed
+  version_done words false is printed = absurd (cc)
+
+  words_done : (words : List (List ℕ)) (asks : Bool) → asks ≡ false
+      → EndsOn text_at growing_at writers words status old new
+      → EndsAs asks text_at growing_at writers words status old new
+  words_done words true is done = absurd (cc)
+  words_done words false is done = done
+
+  -- words that give rows, and words that give none
+  given_done : (words : List (List ℕ)) (rows : List Row) → given_by command_line words ≡ Some rows
+      → EndsOf text_at growing_at writers rows status old new → EndsOn text_at growing_at writers words status old new
+  given_done words rows is done =
+      inl (subst (λ r. EndsWhere text_at growing_at writers r status old new) (sym is) done)
+
+  -- of words that don't ask for it and give rows, by what these ask
+  module _ (words : List (List ℕ)) (asks : Bool) (other : asks ≡ false) (rows : List Row)
+      (gave : given_by command_line words ≡ Some rows) (given : List (List ℕ)) (are : given ≡ words_said rows) where
     pub ends_for : (asked : Option Command) → asked ≡ what_of rows given
         → EndsFor text_at growing_at writers rows asked status old new
-        → EndsOf text_at growing_at writers rows status old new
+        → EndsAs asks text_at growing_at writers words status old new
     ends_for asked is ends =
-        subst (λ a. EndsFor text_at growing_at writers rows a status old new) (is ∙ ap (what_of rows) are) ends
+        words_done words asks other (given_done words rows gave
+        (subst (λ a. EndsFor text_at growing_at writers rows a status old new) (is ∙ ap (what_of rows) are) ends))
 
     -- where something is asked
     module _ (what : Command) (local : Bool) (asked : Some what ≡ what_of rows given) (is : local ≡ local_said rows)
       where
         pub so_done : (middle : Heard) (paths : PathTexts) → paths ≡ paths_of what rows given
             → middle ≡ timed local old → Does text_at growing_at writers paths what status middle new
-            → EndsOf text_at growing_at writers rows status old new
+            → EndsAs asks text_at growing_at writers words status old new
         so_done middle paths named same done =
             ends_for (Some what) asked (subst (λ l. DoesTimed l text_at growing_at writers
             (paths_of what rows (words_said rows)) what status old new) is
@@ -45,28 +67,9 @@ module _ (text_at growing_at : KnownTexts) (writers : KnownWriters) (status : �
             (named ∙ ap (paths_of what rows) are) done))))
 
         pub zone_unread : local ≡ true → status ≡ DEVICE_FAULT → SaysNothing old new
-            → EndsOf text_at growing_at writers rows status old new
+            → EndsAs asks text_at growing_at writers words status old new
         zone_unread local_asked failed nothing =
             ends_for (Some what) asked (inr (sym is ∙ local_asked, failed, nothing))
-
-  -- by whether the version is asked for
-  pub version_done : (words : List (List ℕ)) (asks : Bool) → asks ≡ true
-      → Writes (line.Text (version_line (codes "initview")) ∷ []) DONE status old new
-      → EndsAs asks text_at growing_at writers words status old new
-  version_done words true is printed = printed
-  version_done words false is printed = absurd (cc)
-
-  pub words_done : (words : List (List ℕ)) (asks : Bool) → asks ≡ false
-      → EndsOn text_at growing_at writers words status old new
-      → EndsAs asks text_at growing_at writers words status old new
-  words_done words true is done = absurd (cc)
-  words_done words false is done = done
-
-  -- words that give rows, and words that give none
-  pub given_done : (words : List (List ℕ)) (rows : List Row) → given_by command_line words ≡ Some rows
-      → EndsOf text_at growing_at writers rows status old new → EndsOn text_at growing_at writers words status old new
-  given_done words rows is done =
-      inl (subst (λ r. EndsWhere text_at growing_at writers r status old new) (sym is) done)
 
 -- the exit statuses of words that are refused
 pub refuses : (status : ℕ) (before after : ReportList) (now : Heard) → ReportsRefusal status before after
@@ -75,20 +78,24 @@ refuses status before after now (inl told) = (inl told.0, says_nothing now)
 refuses status before after now (inr told) = (inr told.0, says_nothing now)
 
 pub fault_done : (text_at growing_at : KnownTexts) (writers : KnownWriters) (status : ℕ)
-    (before after : ReportList) (now : Heard)
-    (words : List (List ℕ)) (fault : WordFault) → (IsSome (reason_of fault) → given_by command_line words ≡ None)
+    (before after : ReportList) (now : Heard) (words : List (List ℕ)) (asks : Bool) → asks ≡ false
+    → (fault : WordFault) → (IsSome (reason_of fault) → given_by command_line words ≡ None)
     → ReportsRefusal status before after → (fault ≡ Memory → status ≡ DEVICE_FAULT)
-    → EndsOn text_at growing_at writers words status now now
-fault_done text_at growing_at writers status before after now words (Usage reason) none refused memory =
-    inl (subst (λ r. EndsWhere text_at growing_at writers r status now now) (sym (none refl))
-    (refuses status before after now refused))
-fault_done text_at growing_at writers status before after now words Memory none refused memory =
-    inr (memory refl, says_nothing now)
+    → EndsAs asks text_at growing_at writers words status now now
+fault_done text_at growing_at writers status before after now words asks other (Usage reason) none refused memory =
+    words_done text_at growing_at writers status now now words asks other
+    (inl (subst (λ r. EndsWhere text_at growing_at writers r status now now) (sym (none refl))
+    (refuses status before after now refused)))
+fault_done text_at growing_at writers status before after now words asks other Memory none refused memory =
+    words_done text_at growing_at writers status now now words asks other (inr (memory refl, says_nothing now))
 
 -- what words ask, by the rows that they give
-pub asked_none : (words : List (List ℕ)) (rows : List Row) → given_by command_line words ≡ Some rows
-    → asked_of words ≡ None → what_of rows (words_said rows) ≡ None
-asked_none words rows given none = sym (ap (option_and_then (λ r. what_of r (words_said r))) given) ∙ none
+pub not_none : (X : Type 0) (words : List (List ℕ)) (rows : List Row) (given : List (List ℕ)) (what : Command)
+    → given ≡ words_said rows → given_by command_line words ≡ Some rows → Some what ≡ what_of rows given
+    → asked_of words ≡ None → X
+not_none X words rows given what are gave asks none =
+    absurd (none-some _ (sym none ∙ ap (option_and_then (λ r. what_of r (words_said r))) gave
+    ∙ sym (ap (what_of rows) are) ∙ sym asks))
 
 -- the words that are given, and none where none are
 words_or_none : (given : Option (Bor (List (Bor (List ℕ))))) (none : Bor (List (Bor (List ℕ))))

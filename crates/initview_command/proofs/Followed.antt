@@ -47,15 +47,11 @@ pub for_more : (last : Option ℕ) (old new : Reader) (text piece : List ℕ) �
 for_more last old new text piece same is =
     λ more. ap (is_judged last) (append_assoc text piece more) ∙ is (piece ++ more) ∙ sym same
 
-for_text : (last : Option ℕ) (reader : Reader) (text : List ℕ) → IsFor last reader text
-    → is_judged last text ≡ judges reader
-for_text last reader text is = ap (is_judged last) (sym (append-nil text)) ∙ is []
-
 as_asked : (last : Option ℕ) (reader : Reader) (text : List ℕ) (stop : Option ViewEnd) (line : Option ℕ)
     (past_lines : List Line) → IsFor last reader text → AreLinesOf (judges reader) text stop line past_lines
     → AreLinesOf (is_judged last text) text stop line past_lines
 as_asked last reader text stop line past_lines is so =
-    subst (λ j. AreLinesOf j text stop line past_lines) (sym (for_text last reader text is)) so
+    subst (λ j. AreLinesOf j text stop line past_lines) (sym (is []) ∙ ap (is_judged last) (append-nil text)) so
 
 -- a reader takes one piece more, and its lines stand behind those before
 abbrev pub Takes : Reader → Reader → List ℕ → List Line → List Line → Type 0
@@ -71,40 +67,39 @@ lines_then old new text piece past_lines none lines is small takes has =
     takes past_lines text small
     (subst (λ s. HasLines old s text) (sym (append-nil past_lines) ∙ ap (λ n. past_lines ++ n) (sym is)) has)
 
-behind_hidden : (old new : Reader) (text piece : List ℕ) (hidden shown none lines : List Line) → none ≡ []
-    → length (text ++ piece) < 2 ^ 64 → Takes old new piece none lines → HasLines old (hidden ++ shown) text
-    → HasLines new (hidden ++ (shown ++ lines)) (text ++ piece)
-behind_hidden old new text piece hidden shown none lines is small takes has =
-    subst (λ s. HasLines new s (text ++ piece)) (append_assoc hidden shown lines)
-    (lines_then old new text piece (hidden ++ shown) none lines is small takes has)
+module _ (start : Start) (old new : Reader) (text piece : List ℕ) (none lines : List Line) (before after : Heard)
+    (is : none ≡ []) (small : length (text ++ piece) < 2 ^ 64) (same : judges new ≡ judges old)
+    (takes : Takes old new piece none lines) where
+  behind_hidden : (shown : List Line) → HasLines old (start.hidden ++ shown) text
+      → HasLines new (start.hidden ++ (shown ++ lines)) (text ++ piece)
+  behind_hidden shown has =
+      subst (λ s. HasLines new s (text ++ piece)) (append_assoc start.hidden shown lines)
+      (lines_then old new text piece (start.hidden ++ shown) none lines is small takes has)
 
--- its lines were written
-pub piece_written : (start : Start) (old new : Reader) (text piece : List ℕ) (none lines : List Line)
-    (before after : Heard) → none ≡ [] → length (text ++ piece) < 2 ^ 64 → judges new ≡ judges old → Takes old new piece
-    none lines → Says before after lines → HasWritten start old text before → HasWritten start new (text ++ piece) after
-piece_written start old new text piece none lines before after is small same takes appends has = (
-  has.0 ++ lines,
-  for_more start.last old new text piece same has.1,
-  behind_hidden old new text piece start.hidden has.0 none lines is small takes has.2,
-  says_then start.heard before after has.0 lines has.3 appends,
-)
+  -- its lines were written
+  pub piece_written : Says before after lines → HasWritten start old text before
+      → HasWritten start new (text ++ piece) after
+  piece_written appends (shown, for, has, said) = (
+    shown ++ lines,
+    for_more start.last old new text piece same for,
+    behind_hidden shown has,
+    says_then start.heard before after shown lines said appends,
+  )
 
--- a part of them was written
-pub piece_part : (start : Start) (old new : Reader) (text piece : List ℕ) (none lines : List Line) (before after :
-    Heard) → none ≡ [] → length (text ++ piece) < 2 ^ 64 → judges new ≡ judges old → Takes old new piece none lines
-    → SaysFront before after lines → HasWritten start old text before → WritesPart start (Some (text ++ piece)) after
-piece_part start old new text piece none lines before after is small same takes part has =
-    let so = lines_of new (start.hidden ++ (has.0 ++ lines)) (text ++ piece) small
-    (behind_hidden old new text piece start.hidden has.0 none lines is small takes has.2) in (
-      text ++ piece,
-      has.0 ++ lines,
-      so.0,
-      so.1,
-      ([], append-nil (text ++ piece)),
-      as_asked start.last new (text ++ piece) so.0 so.1 (start.hidden ++ (has.0 ++ lines))
-          (for_more start.last old new text piece same has.1) so.2,
-      front_then start.heard before after has.0 lines has.3 part,
-    )
+  -- a part of them was written
+  pub piece_part : SaysFront before after lines → HasWritten start old text before
+      → WritesPart start (Some (text ++ piece)) after
+  piece_part part (shown, for, has, said) =
+      let so = lines_of new (start.hidden ++ (shown ++ lines)) (text ++ piece) small (behind_hidden shown has) in (
+        text ++ piece,
+        shown ++ lines,
+        so.0,
+        so.1,
+        ([], append-nil (text ++ piece)),
+        as_asked start.last new (text ++ piece) so.0 so.1 (start.hidden ++ (shown ++ lines))
+            (for_more start.last old new text piece same for) so.2,
+        front_then start.heard before after shown lines said part,
+      )
 
 -- the lines of all that was taken were written
 pub written_part : (start : Start) (input : Option (List ℕ)) (reader : Reader) (text : List ℕ) (now : Heard)
@@ -154,40 +149,39 @@ all_taken (Some known) (Some rest) None text consumed none ended = absurd none
 all_taken (Some known) (Some rest) (Some more) text consumed none ended =
     sym (append-nil text) ∙ ap (λ t. text ++ t) (sym (none ∙ ended)) ∙ sym consumed
 
-pub all_read : (start : Start) (input now after : Option (List ℕ)) (stop : Option ViewEnd) (line : Option ℕ)
-    (reader : Reader) (text : List ℕ) (new : Heard) → Consumes input now text → Consumes now after [] → IsAtEnd after
-    → ((past_lines : List Line) → HasLines reader past_lines text
-    → AreLinesOf (judges reader) text stop line past_lines)
-    → HasWritten start reader text new → WritesAll start input stop line new
-all_read start input now after stop line reader text new consumed none ended so has = (
-  text,
-  has.0,
-  all_taken input now after text consumed none ended,
-  as_asked start.last reader text stop line (start.hidden ++ has.0) has.1 (so (start.hidden ++ has.0) has.2),
-  has.3,
-)
+rest_of : (input now : Option (List ℕ)) (text : List ℕ) → Consumes input now text
+    → (rest : List ℕ) × IsAllOf input (text ++ rest)
+rest_of None now text consumed = ([], tt)
+rest_of (Some known) None text consumed = absurd consumed
+rest_of (Some known) (Some rest) text consumed = (rest, sym consumed)
 
-pub all_stopped : (start : Start) (input now : Option (List ℕ)) (stop : Option ViewEnd) (line : Option ℕ)
-    (reader : Reader) (text : List ℕ) (new : Heard) → is_some stop ≡ true → Consumes input now text
-    → ((past_lines : List Line) → HasLines reader past_lines text
-    → AreLinesOf (judges reader) text stop line past_lines)
-    → HasWritten start reader text new → WritesAll start input stop line new
-all_stopped start None now stop line reader text new is consumed so has = (
-  text,
-  has.0,
-  tt,
-  as_asked start.last reader text stop line (start.hidden ++ has.0) has.1 (so (start.hidden ++ has.0) has.2),
-  has.3,
-)
-all_stopped start (Some known) None stop line reader text new is consumed so has = absurd consumed
-all_stopped start (Some known) (Some rest) stop line reader text new is consumed so has = (
-  text ++ rest,
-  has.0,
-  sym consumed,
-  subst (λ j. AreLinesOf j (text ++ rest) stop line (start.hidden ++ has.0)) (sym (has.1 rest))
-      (lines_more (judges reader) text rest stop line (start.hidden ++ has.0) is (so (start.hidden ++ has.0) has.2)),
-  has.3,
-)
+module _ (start : Start) (input now : Option (List ℕ)) (stop : Option ViewEnd) (line : Option ℕ) (reader : Reader)
+    (text : List ℕ) (new : Heard) (consumed : Consumes input now text) (small : length text < 2 ^ 64)
+    (lines : (past_lines : List Line) (text : List ℕ) → length text < 2 ^ 64 → HasLines reader past_lines text
+    → AreLinesOf (judges reader) text stop line past_lines) (has : HasWritten start reader text new) where
+  are : AreLinesOf (judges reader) text stop line (start.hidden ++ has.0)
+  are = lines (start.hidden ++ has.0) text small has.2
+
+  pub all_read : (after : Option (List ℕ)) → Consumes now after [] → IsAtEnd after
+      → WritesAll start input stop line new
+  all_read after none ended = (
+    text,
+    has.0,
+    all_taken input now after text consumed none ended,
+    as_asked start.last reader text stop line (start.hidden ++ has.0) has.1 are,
+    has.3,
+  )
+
+  pub all_stopped : is_some stop ≡ true → WritesAll start input stop line new
+  all_stopped is =
+      let (rest, all) = rest_of input now text consumed in (
+        text ++ rest,
+        has.0,
+        all,
+        subst (λ j. AreLinesOf j (text ++ rest) stop line (start.hidden ++ has.0)) (sym (has.1 rest))
+            (lines_more (judges reader) text rest stop line (start.hidden ++ has.0) is are),
+        has.3,
+      )
 
 -- by whether a call answers
 pub if_ok : {A E : Type 0} (P Q : A → Type 0) (result : Result A E) → ((answer : A) → P answer → Q answer)
@@ -206,6 +200,10 @@ nothing = ([], (refl, record { over = []; are = refl; whole = refl; unfinished =
 none_of : (input : Option (List ℕ)) → BeginsAllOf input []
 none_of None = tt
 none_of (Some known) = (known, refl)
+
+none_taken : (input : Option (List ℕ)) → Consumes input input []
+none_taken None = tt
+none_taken (Some known) = refl
 
 none_judged : (last : Option ℕ) → AreLinesOf (is_judged last []) [] None None []
 none_judged None = nothing
@@ -230,10 +228,20 @@ part_still last input old mid new (hidden, is, (text, shown, stop, line, begins,
     (hidden, is, (text, shown, stop, line, begins, are, front_still old mid new shown front nothing))
 
 -- all lines are written from the first on
-pub from_first : (input : Option (List ℕ)) (reader : Reader) (now : Heard) → judges reader ≡ true
-    → HasLines reader [] [] → HasFollowed (start_of None [] now) input reader input now
-from_first None reader now is has = ([], tt, omega (arith), ([], (λ more. sym is), has, says_nothing now))
-from_first (Some known) reader now is has = ([], refl, omega (arith), ([], (λ more. sym is), has, says_nothing now))
+pub from_first : (input : Option (List ℕ)) (reader next : Reader) (now : Heard) → next ≡ reader → judges reader ≡ true
+    → HasLines reader [] [] → (P : Start → Option (List ℕ) → Type 0)
+    → ((start : Start) (known : Option (List ℕ)) → HasFollowed start known next input now → P start known)
+    → (hidden : List Line) × IsHidden None input hidden × P (start_of None hidden now) input
+from_first input reader next now same is has P so = (
+  [],
+  refl,
+  so (start_of None [] now) input (rw same (
+    [],
+    none_taken input,
+    omega (arith),
+    ([], (λ more. sym is), has, says_nothing now),
+  )),
+)
 
 -- lines that are kept: all but the last are dropped
 pub kept_last : (limit count : ℕ) (input remaining : Option (List ℕ)) (reader : Reader) (lines front last : List Line)
@@ -285,11 +293,12 @@ kept_more limit count input now after old new piece before lines all small are s
       ),
     )
 
-pub kept_there : (limit count : ℕ) (input remaining : Option (List ℕ)) (reader : Reader) (lines : List Line)
-    → limit ≤ there_limit → HasKept limit count input reader lines remaining
-    → HasKept there_limit count input reader lines remaining
-kept_there limit count input remaining reader lines within (text, hidden, consumed, few, is, has, kept) =
-    (text, hidden, consumed, omega (arith, few, within), is, has, kept)
+pub kept_there : (limit count : ℕ) (input remaining : Option (List ℕ)) (reader : Reader) (lines front last : List Line)
+    → limit ≤ there_limit → lines ≡ front ++ last → length front ≡ length lines - count
+    → MayKeep limit count input reader lines remaining → HasKept there_limit count input reader last remaining
+kept_there limit count input remaining reader lines front last within are few may =
+    let (text, hidden, consumed, small, is, has, kept) = kept_last limit count input remaining reader lines front last
+    are few may in (text, hidden, consumed, omega (arith, small, within), is, has, kept)
 
 pub kept_none : (limit count : ℕ) (input now after : Option (List ℕ)) (reader : Reader) (lines : List Line)
     → Consumes now after [] → HasKept limit count input reader lines now → HasKept limit count input reader lines after
@@ -320,39 +329,33 @@ first_kept count input now old new (byte ∷ piece) none lines is some short con
   omega (arith),
 )
 
--- the kept lines are said, and those that come behind them
-pub kept_said : (count : ℕ) (input now : Option (List ℕ)) (reader : Reader) (lines : List Line) (old new : Heard)
-    → Says old new lines → (kept : HasKept there_limit count input reader lines now)
-    → HasFollowed (start_of (Some count) kept.1 old) input reader now new
-kept_said count input now reader lines old new says kept = (kept.0, kept.2, kept.3, (lines, kept.4, kept.5, says))
-
-pub kept_hidden : (count : ℕ) (input now : Option (List ℕ)) (reader : Reader) (lines : List Line)
-    → (kept : HasKept there_limit count input reader lines now) → IsHidden (Some count) input kept.1
-kept_hidden count input now reader lines kept =
-    let so = lines_of reader (kept.1 ++ lines) kept.0 (omega (arith, kept.3)) kept.5 in (
-      kept.0,
-      lines,
-      so.0,
-      so.1,
-      begins input now kept.0 kept.2,
-      as_asked (Some count) reader kept.0 so.0 so.1 (kept.1 ++ lines) kept.4 so.2,
-      kept.6,
-    )
-
-pub kept_part : (count : ℕ) (input now : Option (List ℕ)) (reader : Reader) (lines : List Line) (old new : Heard)
-    → SaysFront old new lines → HasKept there_limit count input reader lines now
-    → FollowsPart (Some count) input old new
-kept_part count input now reader lines old new front kept =
-    let so = lines_of reader (kept.1 ++ lines) kept.0 (omega (arith, kept.3)) kept.5 in (
-      kept.1,
-      kept_hidden count input now reader lines kept,
-      (
-        kept.0,
-        lines,
+module _ (count : ℕ) (input now : Option (List ℕ)) (reader : Reader) (lines : List Line) (old new : Heard)
+    (kept : HasKept there_limit count input reader lines now) where
+  kept_lines : (stop : Option ViewEnd) × (line : Option ℕ) × BeginsAllOf input kept.0
+      × AreLinesOf (begins_run kept.0) kept.0 stop line (kept.1 ++ lines)
+  kept_lines =
+      let so = lines_of reader (kept.1 ++ lines) kept.0 (omega (arith, kept.3)) kept.5 in (
         so.0,
         so.1,
         begins input now kept.0 kept.2,
         as_asked (Some count) reader kept.0 so.0 so.1 (kept.1 ++ lines) kept.4 so.2,
-        front,
-      ),
-    )
+      )
+
+  kept_hidden : IsHidden (Some count) input kept.1
+  kept_hidden = let (stop, line, begun, are) = kept_lines in (kept.0, lines, stop, line, begun, are, kept.6)
+
+  pub kept_part : SaysFront old new lines → FollowsPart (Some count) input old new
+  kept_part front =
+      let (stop, line, begun, are) = kept_lines in
+      (kept.1, kept_hidden, (kept.0, lines, stop, line, begun, are, front))
+
+  -- the kept lines are said, and those that come behind them
+  pub kept_first : (next : Reader) → next ≡ reader → Says old new lines → (P : Start → Option (List ℕ) → Type 0)
+      → ((start : Start) (known : Option (List ℕ)) → HasFollowed start known next now new → P start known)
+      → (hidden : List Line) × IsHidden (Some count) input hidden × P (start_of (Some count) hidden old) input
+  kept_first next same says P so = (
+    kept.1,
+    kept_hidden,
+    so (start_of (Some count) kept.1 old) input
+        (rw same (kept.0, kept.2, kept.3, (lines, kept.4, kept.5, says))),
+  )

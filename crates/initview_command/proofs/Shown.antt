@@ -48,34 +48,30 @@ shows has text_at writers path text gives view seen writer stop unfinished answe
 -- so where files belong to the question: they are answered, or refused, or memory runs out
 module _ (text_at : KnownTexts) (writers : KnownWriters) (paths : PathTexts) (gives : List NamedText → Gives)
     (AreRefused : List NamedText → Type 0) (answer : Answer) where
-  pub with_files : (read files : List NamedText) → AreFiles text_at paths read → files ≡ read
-      → ShowsWith text_at writers paths files gives AreRefused answer
-      → ShowsWithFiles text_at writers paths gives AreRefused answer
-  with_files read files are same shown =
-      inl (read, are, subst (λ fs. ShowsWith text_at writers paths fs gives AreRefused answer) same shown)
+  module _ (read files : List NamedText) (are : AreFiles text_at paths read) (same : files ≡ read) where
+    with_files : ShowsWith text_at writers paths files gives AreRefused answer
+        → ShowsWithFiles text_at writers paths gives AreRefused answer
+    with_files shown =
+        inl (read, are, subst (λ fs. ShowsWith text_at writers paths fs gives AreRefused answer) same shown)
 
-  pub shown_with : (files : List NamedText) (given : Gives) → given ≡ gives files
-      → Shows text_at writers paths.path given answer → ShowsWith text_at writers paths files gives AreRefused answer
-  shown_with files given same shown = inl (subst (λ gs. Shows text_at writers paths.path gs answer) same shown)
+    pub shown_with : (given : Gives) → given ≡ gives files → Shows text_at writers paths.path given answer
+        → ShowsWithFiles text_at writers paths gives AreRefused answer
+    shown_with given so shown = with_files (inl (subst (λ gs. Shows text_at writers paths.path gs answer) so shown))
 
-  pub no_table : (files : List NamedText) (why : TableFault) → answer ≡ Err (fault_status why)
-      → FailsBy (AreRefused files) why → ShowsWith text_at writers paths files gives AreRefused answer
-  no_table files fault.Memory is fails = inl (inr is)
-  no_table files fault.TooLong is fails = inr (is, fails)
-  no_table files fault.Parts is fails = inr (is, fails)
+    pub no_table : (why : TableFault) → answer ≡ Err (fault_status why) → FailsBy (AreRefused files) why
+        → ShowsWithFiles text_at writers paths gives AreRefused answer
+    no_table fault.Memory is fails = inr is
+    no_table fault.TooLong is fails = with_files (inr (is, fails))
+    no_table fault.Parts is fails = with_files (inr (is, fails))
 
 -- so of files alone
-pub answers : (text_at : KnownTexts) (paths : PathTexts) (asked : TableQuestion) (answer : Answer)
-    (read parts : List NamedText) → AreFiles text_at paths read → parts ≡ read → AnswersOf asked parts answer
-    → Answers text_at paths asked answer
-answers text_at paths asked answer read parts are same of =
-    inl (read, are, subst (λ ps. AnswersOf asked ps answer) same of)
+module _ (text_at : KnownTexts) (paths : PathTexts) (asked : TableQuestion) (answer : Answer)
+    (read parts : List NamedText) (are : AreFiles text_at paths read) (same : parts ≡ read) where
+  pub answers : AnswersOf asked parts answer → Answers text_at paths asked answer
+  answers of = inl (read, are, subst (λ ps. AnswersOf asked ps answer) same of)
 
-pub no_answer : (text_at : KnownTexts) (paths : PathTexts) (asked : TableQuestion) (answer : Answer)
-    (read parts : List NamedText) (why : TableFault) → AreFiles text_at paths read → parts ≡ read
-    → answer ≡ Err (fault_status why) → FailsBy (IsRefused asked parts) why → Answers text_at paths asked answer
-no_answer text_at paths asked answer read parts fault.Memory are same is fails = inr is
-no_answer text_at paths asked answer read parts fault.TooLong are same is fails =
-    answers text_at paths asked answer read parts are same (inr (is, fails))
-no_answer text_at paths asked answer read parts fault.Parts are same is fails =
-    answers text_at paths asked answer read parts are same (inr (is, fails))
+  pub no_answer : (why : TableFault) → answer ≡ Err (fault_status why) → FailsBy (IsRefused asked parts) why
+      → Answers text_at paths asked answer
+  no_answer fault.Memory is fails = inr is
+  no_answer fault.TooLong is fails = answers (inr (is, fails))
+  no_answer fault.Parts is fails = answers (inr (is, fails))

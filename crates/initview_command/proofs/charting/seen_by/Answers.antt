@@ -9,34 +9,21 @@ use Rattle.initview_timeline.specs.Marks.{start_of}
 use Rattle.initview_timeline.specs.Rows.{Scene, drawn_of}
 use Rattle.initview_command.proofs.charting.seen_by.Goals as goal
 
-abbrev scene : List Entry → List TimelineMark → Option Stage → Bool → Bool → Option ℕ → ℕ → Scene
-scene entries marks stage settled complete start end = record {
-  entries = entries;
-  marks = marks;
-  stage = stage;
-  settled = settled;
-  complete = complete;
-  start = start;
-  end = end;
-}
-
 scene_is : (entries : List Entry) (marks : List TimelineMark) (stage : Option Stage) (settled complete : Bool)
     (start : Option ℕ) (end : ℕ) (past : List Event) → entries ≡ table_of past → marks ≡ marks_of past
     → stage ≡ stage_of past → settled ≡ is_announced past → complete ≡ is_complete_now past
     → start ≡ start_of past → end ≡ time_of past
-    → scene entries marks stage settled complete start end ≡ drawn_of past
+    → ◌≡◌ {A = Scene} (record {
+      entries = entries;
+      marks = marks;
+      stage = stage;
+      settled = settled;
+      complete = complete;
+      start = start;
+      end = end;
+    }) (drawn_of past)
 scene_is entries marks stage settled complete start end past e1 e2 e3 e4 e5 e6 e7 =
-    ap (λ x. scene x marks stage settled complete start end) e1
-    ∙ ap (λ x. scene (table_of past) x stage settled complete start end) e2
-    ∙ ap (λ x. scene (table_of past) (marks_of past) x settled complete start end) e3
-    ∙ ap (λ x. scene (table_of past) (marks_of past) (stage_of past) x complete start end) e4
-    ∙ ap (λ x. scene (table_of past) (marks_of past) (stage_of past) (is_announced past) x start end) e5
-    ∙ ap
-    (λ x. scene (table_of past) (marks_of past) (stage_of past) (is_announced past) (is_complete_now past) x end) e6
-    ∙ ap
-    (λ x. scene (table_of past) (marks_of past) (stage_of past) (is_announced past) (is_complete_now past)
-    (start_of past)
-    x) e7
+    rw (e1, e2, e3, e4, e5, e6, e7)
 
 pub returns : goal.returns
 returns c = λ past seen marked.

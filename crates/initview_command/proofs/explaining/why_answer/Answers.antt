@@ -1,5 +1,5 @@
 use Rattle.initview_command.proofs.Words.{◌≡◌, ◌∙◌, ap, inr, rules, Err, path_texts, answer_value}
-use Rattle.initview_command.proofs.Shown.{no_table, shown_with, with_files}
+use Rattle.initview_command.proofs.Shown.{no_table, shown_with}
 use Rattle.initview_command.specs.Explaining.{explained, explained_with}
 use Rattle.initview_command.specs.Tables.{AreNone}
 use Rattle.initview_command.specs.declared.telling.Refusal.TheVariants as why
@@ -12,26 +12,18 @@ returns-in_err-files g c =
 
 pub returns-in_err-told : goal.returns-in_err-told
 returns-in_err-told g c =
-    let text_at = g.T.Texts.text_at c.args.texts.now in
-    let writers = g.G.LiveTraces.writer_at c.args.growing.now in
-    let paths = path_texts c.args.paths.now in
-    let gives = explained_with paths.path c.args.id in
-    let answer = answer_value c.from_residual-in_err-told.result in
     let fault = c.in_err-told.field-0.0 in
     let is : c.from_residual-in_err-told.result ≡ Err (why.Table fault) =
     search (rules, c.from_residual-in_err-told.ensures) in
-    with_files text_at writers paths gives AreNone answer c.in_ok-files.files.items _ c.in_ok-files.ensures.files
-    c.deref.ensures.value
-    (no_table text_at writers paths gives AreNone answer _ fault (ap answer_value is) c.in_err-told.ensures.fault)
+    no_table (g.T.Texts.text_at c.args.texts.now) (g.G.LiveTraces.writer_at c.args.growing.now)
+    (path_texts c.args.paths.now) (explained_with c.args.paths.now.path.now c.args.id) AreNone _
+    c.in_ok-files.files.items _ c.in_ok-files.ensures.files c.deref.ensures.value fault (ap answer_value is)
+    c.in_err-told.ensures.fault
 
 pub returns : goal.returns
 returns g c =
-    let text_at = g.T.Texts.text_at c.args.texts.now in
-    let writers = g.G.LiveTraces.writer_at c.args.growing.now in
-    let paths = path_texts c.args.paths.now in
-    let gives = explained_with paths.path c.args.id in
-    let answer = answer_value c.trace_answer.result in
-    with_files text_at writers paths gives AreNone answer c.in_ok-files.files.items _ c.in_ok-files.ensures.files
-    c.deref.ensures.value
-    (shown_with text_at writers paths gives AreNone answer _ _
-    (ap (explained paths.path c.args.id) c.in_ok-told.ensures.told) c.trace_answer.ensures)
+    shown_with (g.T.Texts.text_at c.args.texts.now) (g.G.LiveTraces.writer_at c.args.growing.now)
+    (path_texts c.args.paths.now) (explained_with c.args.paths.now.path.now c.args.id) AreNone
+    (answer_value c.trace_answer.result) c.in_ok-files.files.items _ c.in_ok-files.ensures.files
+    c.deref.ensures.value _
+    (ap (explained c.args.paths.now.path.now c.args.id) c.in_ok-told.ensures.told) c.trace_answer.ensures

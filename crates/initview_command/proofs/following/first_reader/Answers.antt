@@ -13,4 +13,4 @@ returns g c = λ count.
     c.take_piece.new.lines.items c.requires some short c.in_ok-taken.ensures.bytes.0
     (ap judges reader ∙ c.in_ok-reader.ensures.0) c.in_ok-take_piece.ensures.same
     (subst (λ r. HasLines r [] []) (sym reader) c.in_ok-reader.ensures.1)
-    (λ past_lines text less has. c.in_ok-take_piece.ensures.lines past_lines text less has)
+    c.in_ok-take_piece.ensures.lines

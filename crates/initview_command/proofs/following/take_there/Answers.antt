@@ -12,9 +12,8 @@ returns-then-is_some g c = λ input may.
     let few : c.loop.counter < PIECES_LIMIT = c.loop-test.true in
     let limit : ℕ = PIECE_LIMIT + PIECE_LIMIT * c.loop.counter in
     let last = c.in_ok-keep_last.ensures in
-    kept_there limit c.args.count input _ c.loop.reader c.keep_last.new.lines.items (omega (arith, few))
-    (kept_last limit c.args.count input _ c.loop.reader c.loop.lines.items last.0 c.keep_last.new.lines.items last.1
-    last.2 (c.loop.invariant input may))
+    kept_there limit c.args.count input _ c.loop.reader c.loop.lines.items last.0 c.keep_last.new.lines.items
+    (omega (arith, few)) last.1 last.2 (c.loop.invariant input may)
 
 pub returns-then-taken-eq0 : goal.returns-then-taken-eq0
 returns-then-taken-eq0 g c = λ input may.
@@ -25,9 +24,8 @@ returns-then-taken-eq0 g c = λ input may.
     kept_none there_limit c.args.count input _ _ c.loop.reader c.keep_last.new.lines.items
     (subst (λ n. Consumes (g.R.Read.remaining c.loop.from) (g.R.Read.remaining c.read_there.new.self)
     (take n c.read_there.new.buf)) zero c.in_ok-taken.ensures.bytes)
-    (kept_there limit c.args.count input _ c.loop.reader c.keep_last.new.lines.items (omega (arith, few))
-    (kept_last limit c.args.count input _ c.loop.reader c.loop.lines.items last.0 c.keep_last.new.lines.items last.1
-    last.2 (c.loop.invariant input may)))
+    (kept_there limit c.args.count input _ c.loop.reader c.loop.lines.items last.0 c.keep_last.new.lines.items
+    (omega (arith, few)) last.1 last.2 (c.loop.invariant input may))
 
 pub loop-preserved : goal.loop-preserved
 loop-preserved g c = λ input may.

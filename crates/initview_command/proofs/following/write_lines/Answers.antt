@@ -1,4 +1,4 @@
-use Rattle.initview_command.proofs.Words.{rules, subst, ◌≡◌, sym, ◌∙◌, ◌+◌, ◌*◌, ◌<◌, ◌≤◌, true, is_some, ℕ, List, ◌++◌}
+use Rattle.initview_command.proofs.Words.{rules, subst, ◌≡◌, sym, ◌∙◌, ◌+◌, ◌*◌, ◌<◌, ◌≤◌, ℕ, List, ◌++◌}
 use Rattle.initview_command.proofs.Words.{take, length, length-append, arith, Consumes, Consumes-trans, common_steps}
 use Rattle.initview_command.proofs.Words.{length-take, PIECE_LIMIT, PIECES_LIMIT, on_err, there_limit}
 use Rattle.initview_command.proofs.Followed.{all_read, all_stopped, begins, part_of, written_part}
@@ -29,10 +29,8 @@ pub returns-then-is_some-clause-ok : goal.returns-then-is_some-clause-ok
 returns-then-is_some-clause-ok g c = λ start input has.
     let (text, consumed, small, written) = c.loop.invariant start input has in
     let few : c.loop.counter < PIECES_LIMIT = c.loop-test.true in
-    let stopped : is_some c.end_of-end.result.0 ≡ true = sym c.is_some.ensures ∙ c.if-is_some.true in
-    all_stopped start input _ c.end_of-end.result.0 c.end_of-end.result.1 c.loop.reader text
-    (g.S.Says.said c.loop.out) stopped consumed
-    (λ past_lines so. c.end_of-end.ensures past_lines text (omega (arith, small, few)) so) written
+    all_stopped start input _ c.end_of-end.result.0 c.end_of-end.result.1 c.loop.reader text (g.S.Says.said c.loop.out)
+    consumed (omega (arith, small, few)) c.end_of-end.ensures written (sym c.is_some.ensures ∙ c.if-is_some.true)
 
 pub loop-preserved : goal.loop-preserved
 loop-preserved g c = λ start input has.
@@ -61,9 +59,7 @@ returns-then-taken-eq0-clause-ok g c = λ start input has.
     let few : c.loop.counter < PIECES_LIMIT = c.loop-test.true in
     let zero : c.in_ok-taken.taken ≡ 0 = first_of (search rules, grind (arith, common_steps)) in
     let room : 0 < length c.read.new.buf = first_of (search rules, grind (arith, common_steps)) in
-    all_read start input _ _ c.end_of-end.result.0 c.end_of-end.result.1 c.loop.reader text
-    (g.S.Says.said c.loop.out) consumed
+    all_read start input _ c.end_of-end.result.0 c.end_of-end.result.1 c.loop.reader text (g.S.Says.said c.loop.out)
+    consumed (omega (arith, small, few)) c.end_of-end.ensures written _
     (subst (λ n. Consumes (g.R.Read.remaining c.loop.from) (g.R.Read.remaining c.read.new.self) (take n c.read.new.buf))
-    zero c.in_ok-taken.ensures.bytes.0)
-    (c.in_ok-taken.ensures.bytes.1 zero room)
-    (λ past_lines so. c.end_of-end.ensures past_lines text (omega (arith, small, few)) so) written
+    zero c.in_ok-taken.ensures.bytes.0) (c.in_ok-taken.ensures.bytes.1 zero room)

@@ -12,7 +12,7 @@ returns-in_err-say-clause-err g c =
     on_err c.from_residual-in_err-say.result _ (λ start text small has. piece_part start c.args.reader.now
     c.take_piece.new.reader text c.args.piece.now c.new-lines.result.items c.take_piece.new.lines.items (g.S.Says.said
     c.args.out.now) (g.S.Says.said c.say.new.self) c.new-lines.ensures.items small c.in_ok-take_piece.ensures.same
-    (λ past_lines t less takes. c.in_ok-take_piece.ensures.lines past_lines t less takes)
+    c.in_ok-take_piece.ensures.lines
     c.in_err-say.ensures.err has)
 
 pub returns-clause-ok : goal.returns-clause-ok
@@ -20,5 +20,5 @@ returns-clause-ok g c = λ start text small has.
     piece_written start c.args.reader.now c.take_piece.new.reader text c.args.piece.now c.new-lines.result.items
     c.take_piece.new.lines.items (g.S.Says.said c.args.out.now)
     (g.S.Says.said c.say.new.self) c.new-lines.ensures.items small c.in_ok-take_piece.ensures.same
-    (λ past_lines t less takes. c.in_ok-take_piece.ensures.lines past_lines t less takes)
+    c.in_ok-take_piece.ensures.lines
     c.in_ok-say.ensures.ok has

@@ -1,6 +1,5 @@
-use Rattle.initview_command.proofs.Words.{◌≡◌, ◌∙◌, ap, inr, rules, Err, path_texts, answer_value, List}
-use Rattle.initview_command.proofs.Words.{NamedText, Gives}
-use Rattle.initview_command.proofs.Shown.{no_table, shown_with, with_files}
+use Rattle.initview_command.proofs.Words.{◌≡◌, ◌∙◌, ap, inr, rules, Err, path_texts, answer_value}
+use Rattle.initview_command.proofs.Shown.{no_table, shown_with}
 use Rattle.initview_command.specs.Planning.{timing_answer, timing_with}
 use Rattle.initview_command.specs.Tables.{AreNone}
 use Rattle.initview_command.specs.declared.growing.Writer.{Writer}
@@ -14,26 +13,18 @@ returns-in_err-files g c =
 
 pub returns-in_err-table : goal.returns-in_err-table
 returns-in_err-table g c =
-    let text_at = g.T.Texts.text_at c.args.texts.now in
-    let writers = g.G.LiveTraces.writer_at c.args.growing.now in
-    let paths = path_texts c.args.paths.now in
-    let gives : List NamedText → Gives = λ fs (writer : Writer). timing_with c.args.level fs in
-    let answer = answer_value c.from_residual-in_err-table.result in
     let fault = c.in_err-table.field-0.0 in
     let is : c.from_residual-in_err-table.result ≡ Err (why.Table fault) =
     search (rules, c.from_residual-in_err-table.ensures) in
-    with_files text_at writers paths gives AreNone answer c.in_ok-files.files.items _ c.in_ok-files.ensures.files
-    c.deref.ensures.value
-    (no_table text_at writers paths gives AreNone answer _ fault (ap answer_value is) c.in_err-table.ensures.fault)
+    no_table (g.T.Texts.text_at c.args.texts.now) (g.G.LiveTraces.writer_at c.args.growing.now)
+    (path_texts c.args.paths.now) (λ fs (writer : Writer). timing_with c.args.level fs) AreNone _
+    c.in_ok-files.files.items _ c.in_ok-files.ensures.files c.deref.ensures.value fault (ap answer_value is)
+    c.in_err-table.ensures.fault
 
 pub returns : goal.returns
 returns g c =
-    let text_at = g.T.Texts.text_at c.args.texts.now in
-    let writers = g.G.LiveTraces.writer_at c.args.growing.now in
-    let paths = path_texts c.args.paths.now in
-    let gives : List NamedText → Gives = λ fs (writer : Writer). timing_with c.args.level fs in
-    let answer = answer_value c.trace_answer.result in
-    with_files text_at writers paths gives AreNone answer c.in_ok-files.files.items _ c.in_ok-files.ensures.files
-    c.deref.ensures.value
-    (shown_with text_at writers paths gives AreNone answer _ _
-    (ap (λ t (writer : Writer). timing_answer c.args.level t) c.in_ok-table.ensures.table) c.trace_answer.ensures)
+    shown_with (g.T.Texts.text_at c.args.texts.now) (g.G.LiveTraces.writer_at c.args.growing.now)
+    (path_texts c.args.paths.now) (λ fs (writer : Writer). timing_with c.args.level fs) AreNone
+    (answer_value c.trace_answer.result) c.in_ok-files.files.items _ c.in_ok-files.ensures.files
+    c.deref.ensures.value _
+    (ap (λ t (writer : Writer). timing_answer c.args.level t) c.in_ok-table.ensures.table) c.trace_answer.ensures

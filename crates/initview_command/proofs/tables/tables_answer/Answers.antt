@@ -14,8 +14,8 @@ returns-in_err-answer g c =
     let is : c.from_residual-in_err-answer.result ≡ Err (why.Table fault) =
     search (rules, c.from_residual-in_err-answer.ensures) in
     no_answer (g.T.Texts.text_at c.args.texts.now) (path_texts c.args.paths.now) c.args.question
-    (answer_value c.from_residual-in_err-answer.result) c.in_ok-parts.parts.items _ fault c.in_ok-parts.ensures.files
-    c.deref_mut.ensures.value (ap answer_value is) c.in_err-answer.ensures.fault
+    _ c.in_ok-parts.parts.items _ c.in_ok-parts.ensures.files c.deref_mut.ensures.value fault (ap answer_value is)
+    c.in_err-answer.ensures.fault
 
 pub returns : goal.returns
 returns g c =
