@@ -1,4 +1,4 @@
--- What clap says of words, where the command line that it was given is a known one.
+-- What clap returns when its command line is known to be the one of a table.
 use Rattle.std.proofs.Common.{arith, ◌≡◌, ◌∙◌, ap, true, List, Result, subst, IfOk}
 use Rattle.std.proofs.lemmas.Result.{IfOk-weaker}
 use Rattle.clap.specs.declared.error.Error.{Error}

@@ -1,15 +1,15 @@
--- The line of a program's version.
+-- The line that `--version` prints.
 use Rattle.std.specs.Prelude.{◌≡◌, ℕ, List, ◌++◌, codes, Option}
 use Rattle.std.specs.Io.KnownBytes.{Appends}
 use Rattle.program_io.specs.Writing.{AppendsPrefix}
 use Rattle.program_io.specs.declared.statuses.TheConstants.{DONE}
 use Rattle.command_words.specs.declared.versions.TheConstants.{KIT, VERSION}
 
--- the program's name, the version, and in brackets the toolchain
+-- `NAME VERSION (KIT)`: the program's name, the version, and the toolchain in parentheses
 abbrev pub version_line : List ℕ → List ℕ
 version_line name = name ++ (codes " " ++ (VERSION.now ++ (codes " (" ++ (KIT.now ++ codes ")\n"))))
 
--- a writer gained the line of a program, as much of it as it took, and all of it where the status is that of success
+-- the writer gained a prefix of the version line, and all of it if the status is that of success
 pub record PrintsVersion (name : List ℕ) (status : ℕ) (old new : Option (List ℕ)) : Type 0 where
   pub part : AppendsPrefix old new (version_line name)
   pub whole : status ≡ DONE → Appends old new (version_line name)

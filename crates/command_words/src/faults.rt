@@ -1,9 +1,9 @@
-//! What is said of words of a command line that are refused.
+//! Why a command line was rejected, and the messages that report it.
 
 ghost use Rattle.std.specs.Prelude.{◌≡◌, ◌≢◌, ◌↔◌, IfSome, IsSome, IsTrue};
 ghost use Rattle.clap.specs.Words.{kind_of};
 ghost use Rattle.program_io.specs.Arguments.{no_memory_text};
-ghost use Rattle.program_io.specs.Reports.{HasReported, HasSpoken};
+ghost use Rattle.program_io.specs.Reports.{AppendsReport, LastReportNonempty};
 ghost use Rattle.command_words.specs.Faults.{reason_of, usage_report};
 ghost use Rattle.command_words.specs.declared.faults.WordFault.TheVariants.{Memory};
 
@@ -12,14 +12,14 @@ use clap::error::ErrorKind;
 use program_io::{DEVICE_FAULT, REFUSED, Reporter, report_no_memory, report_usage};
 use std::alloc::{AllocError, Global};
 
-/// Why words were not read.
+/// The reason why a command line was not accepted.
 #[derive(Debug, Drop, PartialEq, Eq, thiserror::Error)]
 pub enum WordFault {
-    /// They are no command line of the program, and why, in a line without its newline. Nothing is said of a request
-    /// for help.
+    /// The arguments are not a command line of the program. The text is the reason, in one line without its newline; it
+    /// is empty if help was requested.
     #[error("{0}")]
     Usage(String),
-    /// Want of memory.
+    /// Memory allocation failed.
     #[error("out of memory")]
     Memory,
 }
@@ -35,8 +35,8 @@ impl From<AllocError> for WordFault {
     }
 }
 
-/// The fault of words that clap refused: want of memory where that was the reason or where the text has no room, else
-/// usage, with the reason in a line.
+/// Converts an error of clap into a fault: `Memory` if clap or this function could not allocate memory, otherwise
+/// `Usage` with the reason.
 pub(crate) fn word_fault(alloc: Global, error: &Error) -> WordFault
     ensures usage { IsSome (reason_of result) → kind_of error.now ≢ ErrorKind.OutOfMemory }
 {
@@ -49,18 +49,18 @@ pub(crate) fn word_fault(alloc: Global, error: &Error) -> WordFault
     }
 }
 
-/// Want of memory was the reason.
+/// Returns whether clap failed because memory allocation failed.
 fn is_no_memory(error: &Error) -> bool
     ensures { IsTrue result ↔ (kind_of error.now ≡ ErrorKind.OutOfMemory) }
 {
     error.kind() == ErrorKind::OutOfMemory
 }
 
-/// Why clap refused words, in a line. It is empty where help is asked for.
+/// Returns clap's reason for rejecting the arguments, in one line. It is empty if help was requested.
 fn refusal(alloc: Global, error: &Error) -> Result<String, AllocError> {
     match error.kind() {
         ErrorKind::DisplayHelp => Ok(String::new(alloc)),
-        ErrorKind::MissingRequiredArgument => String::from_str(alloc, "a word is missing"),
+        ErrorKind::MissingRequiredArgument => String::from_str(alloc, "missing argument"),
         _ => {
             let text = format!(in alloc; "{error}")?;
             reason_in(alloc, text.as_str())
@@ -68,15 +68,15 @@ fn refusal(alloc: Global, error: &Error) -> Result<String, AllocError> {
     }
 }
 
-/// The reason in a text of clap, of its kinds that a table of options and words has.
+/// Extracts the reason from a message of clap. Only the kinds of errors that a table of rows can cause are recognized.
 fn reason_in(alloc: Global, text: &str) -> Result<String, AllocError> {
     let (head, tip) = text.split_once("\n\n").unwrap_or((text, ""));
     if let Some(word) = within("error: unexpected argument '", head, "' found") {
         let word = first_line(word);
         return match guess_in(tip) {
-            Some(guess) => format!(in alloc; "no such option: {word}: {guess}?"),
-            None if word.starts_with('-') => format!(in alloc; "no such option: {word}"),
-            None => format!(in alloc; "a word too many: {word}"),
+            Some(guess) => format!(in alloc; "unknown option: {word}; did you mean {guess}?"),
+            None if word.starts_with('-') => format!(in alloc; "unknown option: {word}"),
+            None => format!(in alloc; "unexpected argument: {word}"),
         };
     }
     if let Some(option) = within(
@@ -85,7 +85,7 @@ fn reason_in(alloc: Global, text: &str) -> Result<String, AllocError> {
         "' but none was supplied",
     ) {
         let (name, _) = option.split_once(' ').unwrap_or((option, ""));
-        return format!(in alloc; "{name}: a value is missing");
+        return format!(in alloc; "{name} requires a value");
     }
     if let Some(option) = within(
         "error: unexpected value '",
@@ -94,13 +94,13 @@ fn reason_in(alloc: Global, text: &str) -> Result<String, AllocError> {
     ) {
         let (value, name) = option.rsplit_once("' for '").unwrap_or(("", option));
         let value = first_line(value);
-        return format!(in alloc; "{name} {value}: it takes no value");
+        return format!(in alloc; "{name} {value}: the option takes no value");
     }
     let line = first_line(head);
     String::from_str(alloc, line.strip_prefix("error: ").unwrap_or(line))
 }
 
-/// What stands between two texts.
+/// Returns the text between a prefix and a suffix.
 fn within<'a>(front: &str, text: &'a str, behind: &str) -> Option<&'a str> {
     text.strip_prefix(front)?.strip_suffix(behind)
 }
@@ -112,15 +112,15 @@ fn first_line(text: &str) -> &str {
     }
 }
 
-/// The option that was probably meant, where a text of clap has one.
+/// Returns the option that clap suggests in its tip, if any.
 fn guess_in(text: &str) -> Option<&str> {
     let (_, tip) = text.split_once("  tip: a similar argument exists: '")?;
     let (guess, _) = tip.split_once('\'')?;
     Some(guess)
 }
 
-/// Reports why words were not read, and gives the status: for words that are no command line as `report_refused_words`,
-/// for want of memory as `report_no_memory`.
+/// Reports a fault and returns the exit status: as `report_refused_words` does for `Usage`, as `report_no_memory` does
+/// for `Memory`.
 pub fn report_word_fault<E: Reporter>(
     name: &str,
     fault: &WordFault,
@@ -129,11 +129,11 @@ pub fn report_word_fault<E: Reporter>(
     err: &mut E,
 ) -> u8
     ensures usage { IfSome (reason_of fault.now) (λ reason. (result ≡ REFUSED)
-        × HasReported (E.reports err.old) (E.reports err.new)
+        × AppendsReport (E.reports err.old) (E.reports err.new)
         (usage_report name.now reason whole.now short.now)) }
     ensures memory { fault.now ≡ Memory → (result ≡ DEVICE_FAULT)
-        × HasReported (E.reports err.old) (E.reports err.new) (no_memory_text name.now) }
-    ensures spoken { result ≡ DEVICE_FAULT → HasSpoken (E.reports err.new) }
+        × AppendsReport (E.reports err.old) (E.reports err.new) (no_memory_text name.now) }
+    ensures spoken { result ≡ DEVICE_FAULT → LastReportNonempty (E.reports err.new) }
 {
     match fault {
         WordFault::Usage(reason) => report_refused_words(name, reason.as_str(), whole, short, err),
@@ -141,8 +141,9 @@ pub fn report_word_fault<E: Reporter>(
     }
 }
 
-/// Reports that words are no command line, and gives the status: a line of the program's name and the reason, with the
-/// usage in a line; or the whole usage where the reason is empty, since help is asked for.
+/// Reports that the arguments are not a command line of the program, and returns the exit status. The report is a line
+/// with the program's name and the reason, followed by the short usage; if the reason is empty, because help was
+/// requested, it is the whole usage.
 pub fn report_refused_words<E: Reporter>(
     name: &str,
     reason: &str,
@@ -151,7 +152,7 @@ pub fn report_refused_words<E: Reporter>(
     err: &mut E,
 ) -> u8
     ensures status { result ≡ REFUSED }
-    ensures report { HasReported (E.reports err.old) (E.reports err.new)
+    ensures report { AppendsReport (E.reports err.old) (E.reports err.new)
         (usage_report name.now reason.now whole.now short.now) }
 {
     if reason.is_empty() {

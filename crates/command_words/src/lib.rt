@@ -1,5 +1,5 @@
-//! What the programs do alike with a command line: the table of its options and words, and what is read by it, why words
-//! are refused, what was probably meant and how that is reported, and whether the version is asked for.
+//! Command-line handling that all programs share: parsing by a table of options and arguments, messages for rejected
+//! arguments, suggestions for misspelt words, and `--version`.
 #![tactic(auto)]
 
 mod faults;
@@ -17,7 +17,7 @@ pub use options::{
 pub use slips::{is_slip, meant_of};
 pub use versions::{KIT, VERSION, print_version, write_version};
 
-/// The words ask for the version: they are `--version` alone.
+/// Returns whether the only argument is `--version`.
 pub fn is_version(words: &[String]) -> bool
     ensures { result ≡ asks_version (map string_bytes words.now) }
 {

@@ -1,4 +1,4 @@
-//! A command line by a table of its options and words, and what is read by it.
+//! Parses a command line by a table of its options and arguments, and reads the values found.
 
 ghost use Rattle.std.specs.Prelude.{◌≡◌, ◌∷◌, [], false, map, option_map, string_bytes, true, unwrap_or, IfErr, IfOk, IfSome, IsSome, None, OnErr, Some};
 ghost use Rattle.clap.specs.Words.{FailsBy, all_of, fault_of, first_of, found_of, is_simple_and_free, matches_of, rows_of, rule_of};
@@ -9,19 +9,21 @@ use crate::faults::{WordFault, word_fault};
 use clap::{Arg, ArgAction, ArgMatches, Command, Error};
 use std::alloc::{AllocError, Global};
 
-/// An option or a word of a command line. An option, `--NAME` or `-C`, has what stands for its value in the usage, which
-/// is empty where it takes none, and the value that it has where it is left out, if any. A word has nothing, where it has
-/// to be there, `?`, where it may be left out, or `..`, where it is one or more.
+/// A row of a command-line table: name, value and default.
+///
+/// An option is named `--NAME` or `-C`; its second field is the placeholder for its value in the usage, empty for a
+/// flag, and its third is the default value, empty if there is none. A positional argument has any other name; its
+/// second field is empty if it is required, `?` if it is optional, and `..` if there may be one or more.
 pub type Row = (&'static str, &'static str, &'static str);
 
-/// The name of `--NAME`.
+/// Returns the `NAME` of `--NAME`.
 fn long_of(name: &'static str) -> Option<&'static str>
     ensures { option_map (λ long. long.now) result ≡ long_of name.now }
 {
     name.strip_prefix("--")
 }
 
-/// The character of `-C`.
+/// Returns the character `C` of `-C`.
 fn letter_of(name: &str) -> Option<char>
     ensures { result ≡ letter_of name.now }
 {
@@ -31,7 +33,8 @@ fn letter_of(name: &str) -> Option<char>
     }
 }
 
-/// An option, with a value or without.
+/// Makes an argument an option: a flag if `value` is empty, otherwise one with a value and, unless `default` is empty,
+/// a default.
 fn taking<'a>(arg: Arg<'a>, value: &'static str, default: &'static str) -> Arg<'a>
     ensures rule { rule_of result ≡ taking value.now default.now (rule_of arg.entry) }
     ensures local { result.global ≡ arg.entry.global }
@@ -46,7 +49,7 @@ fn taking<'a>(arg: Arg<'a>, value: &'static str, default: &'static str) -> Arg<'
     arg.default_value(default)
 }
 
-/// A word.
+/// Makes an argument positional: optional, repeated or required, as `count` says.
 fn standing<'a>(arg: Arg<'a>, count: &str) -> Arg<'a>
     ensures rule { rule_of result ≡ standing count.now (rule_of arg.entry) }
     ensures local { result.global ≡ arg.entry.global }
@@ -58,7 +61,7 @@ fn standing<'a>(arg: Arg<'a>, count: &str) -> Arg<'a>
     }
 }
 
-/// The argument of a row.
+/// Builds the clap argument of a row.
 fn argument<'a>(alloc: Global, row: Row) -> Arg<'a>
     ensures rule { rule_of result ≡ row_rule (text_of row.entry) }
     ensures local { result.global ≡ false }
@@ -72,15 +75,15 @@ fn argument<'a>(alloc: Global, row: Row) -> Arg<'a>
     }
 }
 
-/// A command line with the row behind its other arguments.
+/// Adds the argument of a row to a command, after its other arguments.
 fn with_row<'a>(alloc: Global, line: Command<'a>, row: Row) -> Result<Command<'a>, AllocError>
     ensures { IfOk result (AddsAll line.entry (row_rule (text_of row.entry) ∷ [])) }
 {
     line.arg(argument(alloc, row))
 }
 
-/// A command line without any argument. Its words have no program's name in front, and of an option that is given again
-/// the last counts.
+/// Builds a command without arguments. It expects no program name before the arguments, and the last one wins if an
+/// option is repeated.
 fn bare_line<'a>(alloc: Global, name: &'static str) -> Command<'a>
     ensures { IsLine (bare_line name.now) result }
 {
@@ -89,7 +92,7 @@ fn bare_line<'a>(alloc: Global, name: &'static str) -> Command<'a>
         .args_override_self(true)
 }
 
-/// A command line with these rows behind its other arguments. It fails for want of memory alone.
+/// Adds the arguments of these rows to a command, after its other arguments. Fails only if memory allocation fails.
 fn with_rows<'a>(alloc: Global, line: Command<'a>, table: &[Row]) -> Result<Command<'a>, AllocError>
     ensures { IfOk result (AddsAll line.entry (map row_rule (texts_of table.now))) }
 {
@@ -100,7 +103,7 @@ fn with_rows<'a>(alloc: Global, line: Command<'a>, table: &[Row]) -> Result<Comm
     Ok(line)
 }
 
-/// The command line of a table, of a program or one of its subcommands. It fails for want of memory alone.
+/// Builds the command of a table, for a program or one of its subcommands. Fails only if memory allocation fails.
 fn table_line<'a>(
     alloc: Global,
     name: &'static str,
@@ -127,7 +130,7 @@ fn parsed<'a>(
     table_line(alloc, name, table)?.try_get_matches_from(words)
 }
 
-/// What words give the rows of a program's table. `Usage` says why they are no command line.
+/// Parses the arguments of a program by its table. A `Usage` fault gives the reason why they were rejected.
 pub fn read_line<'a>(
     alloc: Global,
     name: &'static str,
@@ -148,7 +151,7 @@ pub fn read_line<'a>(
     }
 }
 
-/// The word that is given for a row, or is its default.
+/// Returns the value given for a row, or its default.
 pub fn word_of<'a>(matches: &ArgMatches<'a>, id: &str) -> Option<&'a str>
     ensures { option_map (λ word. word.now) result
         ≡ first_of id.now (rows_of (found_of matches.now)) }
@@ -156,7 +159,7 @@ pub fn word_of<'a>(matches: &ArgMatches<'a>, id: &str) -> Option<&'a str>
     matches.get_str(id)
 }
 
-/// The same; nothing where none is.
+/// Returns the value given for a row, or its default, or the empty text if it has neither.
 pub fn value_of<'a>(matches: &ArgMatches<'a>, id: &str) -> &'a str
     ensures { result.now ≡ value_said id.now (rows_of (found_of matches.now)) }
 {
@@ -166,7 +169,7 @@ pub fn value_of<'a>(matches: &ArgMatches<'a>, id: &str) -> &'a str
     }
 }
 
-/// The words that are given for a row.
+/// Returns all values given for a row.
 pub fn words_of<'m, 'a>(matches: &'m ArgMatches<'a>, id: &str) -> Option<&'m [&'a str]>
     ensures { option_map (λ words. map (λ word. word.now) words.now) result
         ≡ all_of id.now (rows_of (found_of matches.now)) }
@@ -174,14 +177,14 @@ pub fn words_of<'m, 'a>(matches: &'m ArgMatches<'a>, id: &str) -> Option<&'m [&'
     matches.get_strs(id)
 }
 
-/// The option without a value is given.
+/// Returns whether a flag is set.
 pub fn is_set(matches: &ArgMatches, id: &str) -> bool
     ensures { result ≡ is_set id.now (rows_of (found_of matches.now)) }
 {
     value_of(matches, id) == "true"
 }
 
-/// A copy of the path that is given for a row, where one is.
+/// Returns a copy of the path given for a row, if any.
 pub fn read_path(
     alloc: Global,
     matches: &ArgMatches,
@@ -196,7 +199,7 @@ pub fn read_path(
     }
 }
 
-/// The value that was read of an option's word; where none was, the word is refused.
+/// Returns the value that was read from an option's text, or the fault that rejects the option if none was read.
 pub fn checked<T>(
     alloc: Global,
     id: &str,
@@ -215,7 +218,7 @@ pub fn checked<T>(
     }
 }
 
-/// The fault of an option whose value is none of its kind.
+/// Builds the fault that rejects an option because its value is not valid.
 pub fn refused(alloc: Global, id: &str, value: &str, why: &str) -> WordFault
     ensures { IfSome (reason_of result) (λ reason.
         reason ≡ refusal_text id.now value.now why.now) }

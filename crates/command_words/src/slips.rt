@@ -1,9 +1,9 @@
-//! The word that another one was probably meant to be.
+//! Finds the known word that a misspelt one was probably meant to be.
 
 ghost use Rattle.std.specs.Prelude.{◌≡◌};
 ghost use Rattle.command_words.specs.Slips.{is_slip, is_slip_here, is_swapped, meant_of, same_but_case};
 
-/// The two are one but for capitals.
+/// Returns whether two words are equal, ignoring ASCII case.
 fn same_but_case(word: &[u8], meant: &[u8]) -> bool
     ensures { result ≡ same_but_case word.now meant.now }
 {
@@ -16,7 +16,7 @@ fn same_but_case(word: &[u8], meant: &[u8]) -> bool
     a.eq_ignore_ascii_case(b) && same_but_case(word, meant)
 }
 
-/// Two letters are swapped, and what stands behind them is the same.
+/// Returns whether the first two letters of two words are swapped and the rest is equal, ignoring ASCII case.
 fn is_swapped(word: &[u8], meant: &[u8]) -> bool
     ensures { result ≡ is_swapped word.now meant.now }
 {
@@ -28,7 +28,8 @@ fn is_swapped(word: &[u8], meant: &[u8]) -> bool
     }
 }
 
-/// One letter is another, more, less, or swapped with the next.
+/// Returns whether the words differ by one slip at their start: a letter that is replaced, added, missing, or swapped
+/// with the next.
 fn is_slip_here(word: &[u8], meant: &[u8]) -> bool
     ensures { result ≡ is_slip_here word.now meant.now }
 {
@@ -44,7 +45,7 @@ fn is_slip_here(word: &[u8], meant: &[u8]) -> bool
     }
 }
 
-/// The word is the other one but for a slip.
+/// Returns whether the words differ by one slip after their common prefix.
 pub fn is_slip(word: &[u8], meant: &[u8]) -> bool
     ensures { result ≡ is_slip word.now meant.now }
 {
@@ -54,8 +55,8 @@ pub fn is_slip(word: &[u8], meant: &[u8]) -> bool
     }
 }
 
-/// The first of known words that this one is but for one slip: a letter that is another, more, less, or swapped with the
-/// next. Capitals are no slip.
+/// Returns the first known word that differs from this one by one slip: a letter that is replaced, added, missing, or
+/// swapped with the next. ASCII case is ignored.
 pub fn meant_of(known: &[&'static str], word: &str) -> Option<&'static str>
     ensures { result ≡ meant_of known.now word.now }
 {

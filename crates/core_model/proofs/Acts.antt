@@ -1,8 +1,9 @@
--- An act of the system, or a death, leaves the records what they are.
+-- An act of the system or a death does not change the records.
 use Rattle.core_model.proofs.Words.{arith, ◌≡◌, refl, sym, ◌∙◌, ap, ℕ, Bool, true, false, not, ◌&&◌, ◌||◌, cond, List}
 use Rattle.core_model.proofs.Words.{[], ◌∷◌, map, find, Option, Some, None, is_some, list_any, option_map}
 use Rattle.core_model.proofs.Words.{option_map_or, false≢true, none-some, same_Some, same_id, same_id-is, both_ways}
-use Rattle.core_model.proofs.Words.{falsely, found_any, Birth, NoBirth, Death, Reaped, Still, Goal, Event, Child, is_of}
+use Rattle.core_model.proofs.Words.{falsely, found_any, Birth, NoBirth, Death, Reaped, Still, Goal, Event, Child}
+use Rattle.core_model.proofs.Words.{is_child_of}
 use Rattle.core_model.proofs.Words.{has_child, kept_children, known_children, spell_hits, is_missed, record_ids}
 use Rattle.core_model.proofs.Words.{wants_look, is_sound, known_kept, birth_ready, is_still, spell_still, missed_still}
 use Rattle.core_model.proofs.Words.{spell_birth, missed_none, record_by_id, LastStatuses, child_known, living}
@@ -11,20 +12,20 @@ use Rattle.trace_events.specs.declared.happenings.Happening.TheVariants.{NoLook,
 use Rattle.trace_events.specs.Wanted.{is_excluded}
 use Rattle.core_model.specs.Fit.{record_of, is_act}
 
--- the child that is found for an id has the id
-pub found_own : (id : List ℕ) (xs : List Child) (child : Child) → find (is_of id) xs ≡ Some child → child.id ≡ id
+-- the child found for an id has this id
+pub found_own : (id : List ℕ) (xs : List Child) (child : Child) → find (is_child_of id) xs ≡ Some child → child.id ≡ id
 found_own id [] child there = absurd (none-some child there)
 found_own id (x ∷ xs) child there = split (same_id id x.id) refl there (found_own id xs child) where
-  split : (b : Bool) → same_id id x.id ≡ b → cond b (Some x) (find (is_of id) xs) ≡ Some child
-      → (find (is_of id) xs ≡ Some child → child.id ≡ id) → child.id ≡ id
+  split : (b : Bool) → same_id id x.id ≡ b → cond b (Some x) (find (is_child_of id) xs) ≡ Some child
+      → (find (is_child_of id) xs ≡ Some child → child.id ≡ id) → child.id ≡ id
   split true same there rest = ap (λ (y : Child). y.id) (sym (same_Some x child there)) ∙ sym (same_id-is id x.id same)
   split false differ there rest = rest there
 
--- a record has a child exactly if the id has a known one
+-- a record has a child exactly if its id has a known one
 pub child_some : (id : List ℕ) (past : List Event) → is_some (known_child id past) ≡ has_child id (known_children past)
-child_some id past = found_any living (is_of id) (known_children past)
+child_some id past = found_any living (is_child_of id) (known_children past)
 
--- among the records of some ids, that of an id that is one of them, and none of any other
+-- among the records of some ids, the record of an id is found if it is one of these ids
 found_if : (lasts : LastStatuses) → (past : List Event) (id : List ℕ) (ids : List (List ℕ)) → record_by_id id
     (map (record_of lasts past) ids) ≡ cond (list_any (same_id id) ids) (Some (record_of lasts past id)) None
 found_if lasts past id [] = refl
@@ -45,7 +46,7 @@ pub no_record : (lasts : LastStatuses) → (past : List Event) (id : List ℕ) (
 no_record lasts past id ids none =
     found_if lasts past id ids ∙ ap (λ b. cond b (Some (record_of lasts past id)) None) none
 
--- of a child that is excluded as before, with the same Hits, the stop is as before; and likewise with the Misses
+-- a child that is excluded as before, and has the same Hits, has the same stop; likewise for the Misses
 pub stop_same : (next past : List Event) (o : Option Child)
     → ((child : Child) → o ≡ Some child → is_excluded next child ≡ is_excluded past child) → ((child : Child)
     → o ≡ Some child → spell_hits child next ≡ spell_hits child past) → stop_known next o ≡ stop_known past o
@@ -56,7 +57,7 @@ pub missed_same : (next past : List Event) (o : Option Child)
     → option_map_or (λ child. is_missed child next) o false ≡ option_map_or (λ child. is_missed child past) o false
 missed_same next past o misses = grind arith
 
--- a happening that goes on with each spell
+-- a happening that does not end or change any spell
 stop_still : (happening : Event) (past : List Event) → is_still happening ≡ true
     → ((child : Child) → is_excluded (happening ∷ past) child ≡ is_excluded past child) → (id : List ℕ)
     → stop_known (happening ∷ past) (child_known id past) ≡ stop_of id past
@@ -68,7 +69,7 @@ still_missed : (happening : Event) (past : List Event) → is_still happening �
 still_missed happening past still id =
     missed_same (happening ∷ past) past (child_known id past) (λ child there. missed_still child happening past still)
 
--- a birth is of an id with no known child
+-- a birth is for an id without a known child
 module _ (i : List ℕ) (n : ℕ) (past : List Event) (childless : has_child i (known_children past) ≡ false) where
   of_other : (id : List ℕ) (child : Child) → child_known id past ≡ Some child → same_id child.id i ≡ false
   of_other id child there = falsely (same_id child.id i) false
@@ -104,7 +105,8 @@ act_records lasts goal (Birth i n) past act sound = λ k. map (λ id. record (re
   missed = birth_missed i n past childless id k;
 }) (record_ids past) where
   childless : has_child i (known_children past) ≡ false
-  childless = falsely (has_child i (known_children past)) (has_child i (kept_children past)) (known_kept (is_of i) past)
+  childless =
+      falsely (has_child i (known_children past)) (has_child i (kept_children past)) (known_kept (is_child_of i) past)
       (birth_ready goal [] i n past sound).childless
 act_records lasts goal (NoBirth i) past act sound = λ k. map (λ id. record (record_of lasts past id) {
   stop = stop_still (NoBirth i) past refl (λ child. refl) id k;

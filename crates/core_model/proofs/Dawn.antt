@@ -1,7 +1,8 @@
--- Before the first stage no order is open in a sound trace.
+-- Before the first stage of a sound trace, no order is open.
 use Rattle.core_model.proofs.Words.{◌≡◌, refl, sym, ap, ℕ, true, not, cond, List, [], ◌∷◌, filter, Some, None, list_any}
 use Rattle.core_model.proofs.Words.{none-some, OrderKind, Start, Look, Term, Kill, same_id, same_ask, same_id-self}
-use Rattle.core_model.proofs.Words.{Asked, Told, Order, Goal, Event, is_of, open_orders, stage_of, undone_of, is_sound}
+use Rattle.core_model.proofs.Words.{Asked, Told, Order, Goal, Event, is_child_of, open_orders, stage_of, undone_of}
+use Rattle.core_model.proofs.Words.{is_sound}
 use Rattle.core_model.proofs.Words.{may_come, MayLook, MayStop, due_facts, keeps, not_placed, sound_holds, sound_ind}
 use Rattle.core_model.proofs.Words.{dawn_known}
 use Rattle.trace_events.specs.declared.happenings.Happening.TheVariants.{Enter}
@@ -14,7 +15,7 @@ dawn_orders goal past h =
   where
     signalled : {P : Type 0} (id : List ℕ) (ask : OrderKind) (before : List Event) → is_sound goal before ≡ true
         → stage_of before ≡ None → MayStop id ask before → P
-    signalled id ask before sound dawn may = dawn_known goal before sound dawn id (may.within (is_of id) may.own)
+    signalled id ask before sound dawn may = dawn_known goal before sound dawn id (may.within (is_child_of id) may.own)
 
     next : (happening : Event) (before : List Event) → may_come goal happening before ≡ true
         → is_sound goal before ≡ true → (stage_of before ≡ None → open_orders before ≡ [])

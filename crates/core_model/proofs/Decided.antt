@@ -1,9 +1,10 @@
--- What is so of each step that is decided, where it is so of each kind of step.
+-- What holds for each kind of step holds for the step that is decided.
 use Rattle.core_model.proofs.Words.{arith, ◌≡◌, refl, sym, ap, ◌∙◌, ℕ, Bool, true, false, not, ◌+◌, ◌&&◌, cond, List}
 use Rattle.core_model.proofs.Words.{[], ◌∷◌, zip, Option, Some, None, is_none, is_some, nat_le, false≢true, Entry}
 use Rattle.core_model.proofs.Words.{Letter, Level, Stage, OrderKind, Start, Look, Term, Kill, PowerKind, is_limited}
 use Rattle.core_model.proofs.Words.{may_of, Goal, Step, Reread, Order, Reexec, Idle, in_run, Stop, Due, Termed, Killed}
-use Rattle.core_model.proofs.Words.{RecordState, allows, CallSet, first_news, CoreState, or_else, or_idle, level_step}
+use Rattle.core_model.proofs.Words.{SlotState, allows, CallSet, first_pending_step, CoreState, or_else, or_idle}
+use Rattle.core_model.proofs.Words.{level_step}
 use Rattle.core_model.proofs.Words.{news_step, wished_step, stop_step, stop_among, signal_step, limited_step}
 use Rattle.core_model.proofs.Words.{start_step, start_along, start_among, stage_step, settle_step, calm_step, work_step}
 use Rattle.core_model.proofs.Words.{look_among, can_look_record, can_start_record, is_owed_record, is_over_among}
@@ -15,8 +16,8 @@ use Rattle.respawn_limit.specs.Window.{is_held}
 use Rattle.trace_events.specs.declared.steps.Step.TheVariants.{Enter, Call, Power, Hold, Settle}
 use Rattle.core_model.specs.Decide.{is_idle}
 
--- the kinds of step pass: an Enter with the seconds of the goal, or of the wish for a level, and a re-execution where
--- it is wished
+-- each kind of step passes the test: an Enter with the seconds of the goal or of the requested level, and a
+-- re-execution if one is requested
 pub record EachPasses (test : Step → Bool) (c : CoreState) : Type 0 where
   pub orders : (id : List ℕ) (ask : OrderKind) → test (Order id ask) ≡ true
   pub holds : (id : List ℕ) → test (Hold id) ≡ true
@@ -52,14 +53,14 @@ module _ (test : Step → Bool) (c : CoreState) (each : EachPasses test c) where
   signals grace now id (Some (Killed time)) = tt
   signals grace now id None = tt
 
-  stops : (grace now : ℕ) (slots : List RecordState) → Pass (stop_among grace now slots)
+  stops : (grace now : ℕ) (slots : List SlotState) → Pass (stop_among grace now slots)
   stops grace now [] = tt
   stops grace now (slot ∷ slots) = by_else (stop_step grace now slot) (stop_among grace now slots)
       (by_cond (is_some slot.child && is_none slot.order && not slot.missed)
       (signal_step grace now slot.id slot.stop) None (λ _. signals grace now slot.id slot.stop) tt)
       (stops grace now slots)
 
-  limited : (now : ℕ) (e : Entry) (slot : RecordState) → Pass (limited_step now e slot)
+  limited : (now : ℕ) (e : Entry) (slot : SlotState) → Pass (limited_step now e slot)
   limited now e slot = by_cond (is_limited e.act) (cond (is_held slot.limiter.held now) None
       (Some (cond (allows (may_of slot.limiter now)) (Order e.id Start) (Hold e.id)))) (Some (Order e.id Start))
       (λ _. by_cond (is_held slot.limiter.held now) None (Some (cond (allows (may_of slot.limiter now))
@@ -69,7 +70,7 @@ module _ (test : Step → Bool) (c : CoreState) (each : EachPasses test c) where
       by true = each.orders e.id Start
       by false = each.holds e.id
 
-  starts : (now : Stage) (time : ℕ) (ps : List (Entry × RecordState)) → Pass (start_along now time ps)
+  starts : (now : Stage) (time : ℕ) (ps : List (Entry × SlotState)) → Pass (start_along now time ps)
   starts now time [] = tt
   starts now time (p ∷ ps) =
       by_else (start_step now time p.0 p.1) (cond (is_owed_record now p.0 p.1) None (start_along now time ps))
@@ -89,7 +90,7 @@ module _ (test : Step → Bool) (c : CoreState) (each : EachPasses test c) where
   settled (stage.Run level) = by_cond (not c.fields.announced && is_idle c.slots
       && all_served level c.fields.time c.table c.slots) (Some (Settle level)) None (λ _. each.settles level) tt
 
-  looks : (slots : List RecordState) → Pass (look_among slots)
+  looks : (slots : List SlotState) → Pass (look_among slots)
   looks [] = tt
   looks (slot ∷ slots) = by_cond (can_look_record slot) (Some (Order slot.id Look)) (look_among slots)
       (λ _. each.orders slot.id Look) (looks slots)
@@ -99,11 +100,11 @@ module _ (test : Step → Bool) (c : CoreState) (each : EachPasses test c) where
   levels booted None short = tt
   levels booted (Some wish) short = short wish refl _
 
-  pending : (kept : CallSet) → Pass (first_news kept)
+  pending : (kept : CallSet) → Pass (first_pending_step kept)
   pending kept = by kept.fail kept.fail_now kept.ok kept.a kept.b kept.c
     where
       by : (fail fail_now ok a b c : Bool)
-          → Pass (first_news (record { fail = fail; fail_now = fail_now; ok = ok; a = a; b = b; c = c }))
+          → Pass (first_pending_step (record { fail = fail; fail_now = fail_now; ok = ok; a = a; b = b; c = c }))
       by true fail_now ok a b c = each.powers power.Fail
       by false true ok a b c = each.powers power.FailNow
       by false false true a b c = each.powers power.Ok
@@ -119,7 +120,7 @@ module _ (test : Step → Bool) (c : CoreState) (each : EachPasses test c) where
       (or_else (level_step c.fields.booted c.fields.level_wish) (news_step now c)) (λ _. each.reread)
       (by_else (level_step c.fields.booted c.fields.level_wish) (news_step now c)
       (levels c.fields.booted c.fields.level_wish each.wish)
-      (by_cond (in_run (Some now)) (first_news c.fields.pending) None (λ _. pending c.fields.pending) tt)))
+      (by_cond (in_run (Some now)) (first_pending_step c.fields.pending) None (λ _. pending c.fields.pending) tt)))
 
   calm : (now : Stage) → Pass (calm_step now c)
   calm now = by_else (start_among now c.fields.time c.table c.slots) (or_else
@@ -141,7 +142,7 @@ module _ (test : Step → Bool) (c : CoreState) (each : EachPasses test c) where
   pub decided : test (decide c) ≡ true
   decided = decided_in c.fields.stage
 
--- init is to be executed anew only where that is wished
+-- a re-execution is decided only if it is requested
 abbrev is_other : Step → Bool
 is_other Reexec = false
 is_other _ = true

@@ -1,20 +1,21 @@
--- Under a fit the step that is decided is the first that is due.
+-- If a core fits the trace, the step that it decides on is the first due step.
 use Rattle.core_model.proofs.Words.{arith, ◌≡◌, refl, sym, ◌∙◌, ap, cond, ℕ, Bool, true, false, not, ◌&&◌, ◌||◌, List}
 use Rattle.core_model.proofs.Words.{[], ◌++◌, Option, Some, None, is_some, list_all, Stage, waited_of, same_level-self}
 use Rattle.core_model.proofs.Words.{Step, Reread, Reexec, Goal, Event, table_of, stage_of, grace_of, time_of, has_child}
 use Rattle.core_model.proofs.Words.{kept_children, is_wanted, in_run, goal_of, wants_reexec, wants_reread, level_wish}
-use Rattle.core_model.proofs.Words.{powers, letters, keeps_news, wish_stands, was_booted, due, first, steps_if}
+use Rattle.core_model.proofs.Words.{powers, letters, are_calls_pending, is_request_pending, was_booted, due, first}
+use Rattle.core_model.proofs.Words.{steps_if}
 use Rattle.core_model.proofs.Words.{due_first, due_reexec, due_reread, due_level, due_news, due_stops, due_starts}
 use Rattle.core_model.proofs.Words.{due_stage, due_settle, due_looks, enter_level, power_steps, letter_steps}
 use Rattle.core_model.proofs.Words.{stops_among, starts_among, is_announced, record_ids, is_sound, CallSet, has_news}
-use Rattle.core_model.proofs.Words.{first_news, CoreState, or_else, or_idle, level_step, wish_step, stands}
+use Rattle.core_model.proofs.Words.{first_pending_step, CoreState, or_else, or_idle, level_step, wish_step, stands}
 use Rattle.core_model.proofs.Words.{has_excluded, all_done, work_step, decide_in, decide, LastStatuses, Fits, core_read}
-use Rattle.core_model.proofs.Words.{news_of, records_of}
+use Rattle.core_model.proofs.Words.{pending_calls, records_of}
 use Rattle.init_words.specs.declared.stages.Stage.TheVariants as stage
 use Rattle.trace_events.specs.declared.steps.Step.TheVariants.{Enter}
 use Rattle.trace_events.specs.Past.{is_quiet, is_idle}
 use Rattle.trace_events.specs.Due as due
-use Rattle.core_records.specs.Lists as lists
+use Rattle.child_table.specs.Lists as lists
 use Rattle.core_model.specs.Decide as core
 use Rattle.core_model.proofs.Dawn.{dawn_quiet}
 use Rattle.core_model.proofs.Firsts.{head, head_step_if, head_steps_if}
@@ -23,7 +24,7 @@ use Rattle.core_model.proofs.Reading.{quiet_same, idle_same, excluded_same, kept
 use Rattle.core_model.proofs.Ranks.{starts_same, all_done_same, all_served_same, looks_same}
 use Rattle.core_model.proofs.Stops.{stops_same}
 
--- the first of nine lists: of four, of four, and of one
+-- the first step of nine lists, in groups of four, four and one
 nine : (a b c d e f g h i : List Step) → first (a ++ b ++ c ++ d ++ e ++ f ++ g ++ h ++ i)
     ≡ or_idle (or_else (or_else (head a) (or_else (head b) (or_else (head c) (head d))))
     (or_else (or_else (head e) (or_else (head f) (or_else (head g) (head h)))) (head i)))
@@ -33,7 +34,7 @@ steps_if_nil : (b : Bool) → steps_if b [] ≡ []
 steps_if_nil true = refl
 steps_if_nil false = refl
 
--- 2 to 5: what is wished
+-- ranks 2 to 5: the pending requests
 wish_by : (q x r run : Bool) (level pending : Option Step) → or_else (cond (q && x) (Some Reexec) None)
     (or_else (cond (q && r) (Some Reread) None) (or_else (cond q level None) (cond (q && run) pending None)))
     ≡ cond q (cond x (Some Reexec) (cond r (Some Reread) (or_else level (cond run pending None)))) None
@@ -43,18 +44,18 @@ wish_by true false true run level pending = refl
 wish_by true false false run level pending = refl
 
 news_fields : (past : List Event)
-    → head (power_steps powers past ++ letter_steps letters past) ≡ first_news (news_of past)
+    → head (power_steps powers past ++ letter_steps letters past) ≡ first_pending_step (pending_calls past)
 news_fields past = grind arith
 
 level_head : (past : List Event) (wish : Option Goal) → head (enter_level wish past) ≡ level_step (was_booted past) wish
 level_head past wish = grind arith
 
-any_news : (past : List Event) → keeps_news past ≡ has_news (news_of past)
+any_news : (past : List Event) → are_calls_pending past ≡ has_news (pending_calls past)
 any_news past = by_first
     (λ (n : CallSet). ((n.fail || (n.fail_now || (n.ok || false))) || (n.a || (n.b || (n.c || false)))) ≡ has_news n)
-    (λ n o a b c. refl) (λ o a b c. refl) (λ a b c. refl) (λ b c. refl) (λ c. refl) refl refl (news_of past)
+    (λ n o a b c. refl) (λ o a b c. refl) (λ a b c. refl) (λ b c. refl) (λ c. refl) refl refl (pending_calls past)
 
--- 6 to 9: what is to be done, where no wish stands
+-- ranks 6 to 9: the work if no request is pending
 work_by : (w x q l i a : Bool) (stops starts next settled : List Step) (s m n t : Option Step) → head stops ≡ s
     → head starts ≡ m → head (steps_if (q && l) next) ≡ n → (x ≡ true → settled ≡ [])
     → (x ≡ false → head (steps_if (i && not a) settled) ≡ t)
@@ -84,7 +85,7 @@ module _ (lasts : LastStatuses) (goal : Goal) (past : List Event) (sound : is_so
         (or_else (head (due_level past)) (head (due_news past)))) ≡ wish_step now (core_read lasts past g n)
     wish_same = grind (arith, head_step_if, head_steps_if, wish_by, head, quiet_same, level_head, news_fields)
 
-    stands_same : wish_stands past ≡ stands now (core_read lasts past g n)
+    stands_same : is_request_pending past ≡ stands now (core_read lasts past g n)
     stands_same = λ i. wants_reexec past || wants_reread past || is_some (level_wish past) || in_run (in_stage i)
         && any_news past i
 
@@ -112,7 +113,7 @@ module _ (lasts : LastStatuses) (goal : Goal) (past : List Event) (sound : is_so
             (sym (same_goal (ap in_run is)))
         to_goal (stage.Run level) is = refl
 
-  -- a level is settled by no excluded child
+  -- a level is not settled while a child is excluded
   settle_none : (now : Stage) → stage_of past ≡ Some now → has_excluded (records_of lasts past) ≡ true
       → due.settle_step (stage_of past) past ≡ []
   settle_none now is excluded = grind (arith, excluded_same)
@@ -126,13 +127,14 @@ module _ (lasts : LastStatuses) (goal : Goal) (past : List Event) (sound : is_so
   module _ (now : Stage) (in_stage : stage_of past ≡ Some now) where
     work_same : or_else (head (due_stops past)) (or_else (head (due_starts past))
         (or_else (head (due_stage goal past)) (head (due_settle past)))) ≡ work_step now (core_read lasts past g n)
-    work_same = (λ i. or_else (head (steps_if (not (wish_stands past)) (stops_among (record_ids past) past)))
-        (or_else (head (steps_if (not (wish_stands past) && not (kept_excluded_same lasts goal past sound i))
+    work_same = (λ i. or_else (head (steps_if (not (is_request_pending past)) (stops_among (record_ids past) past)))
+        (or_else (head (steps_if (not (is_request_pending past) && not (kept_excluded_same lasts goal past sound i))
         (starts_among (table_of past) past)))
-        (or_else (head (steps_if (not (wish_stands past) && is_quiet past && not (kept_excluded_same lasts goal past
+        (or_else
+        (head (steps_if (not (is_request_pending past) && is_quiet past && not (kept_excluded_same lasts goal past
         sound i) && list_all (λ e. not (is_wanted e past) && not (waited_of e && has_child e.id (kept_children past)))
         (table_of past)) (due.next_stage (goal_of goal past) (stage_of past)))) (head (due_settle past)))))
-        ∙ work_by (wish_stands past) (has_excluded (records_of lasts past)) (is_quiet past) (list_all
+        ∙ work_by (is_request_pending past) (has_excluded (records_of lasts past)) (is_quiet past) (list_all
         (λ e. not (is_wanted e past) && not (waited_of e && has_child e.id (kept_children past))) (table_of past))
         (is_idle past) (is_announced past)
         (stops_among (record_ids past) past) (starts_among (table_of past) past)
@@ -149,7 +151,7 @@ module _ (lasts : LastStatuses) (goal : Goal) (past : List Event) (sound : is_so
     first_some : first (due goal past) ≡ decide_in (Some now) (core_read lasts past g n)
     first_some = grind (arith, nine, wish_same, work_same, looks_same)
 
-  -- before the first stage no order is open
+  -- before the first stage, no order is open
   first_none : stage_of past ≡ None → first (due goal past) ≡ decide_in None (core_read lasts past g n)
   first_none is =
       ap (λ o. first (due_first goal o past ++ due_reexec past ++ due_reread past ++ due_level past ++ due_news past
@@ -161,7 +163,7 @@ module _ (lasts : LastStatuses) (goal : Goal) (past : List Event) (sound : is_so
   pub read_due : decide (core_read lasts past g n) ≡ first (due goal past)
   read_due = grind (arith, first_none, first_some)
 
--- under a fit, the step that is decided is the first that is due
+-- if a core fits the trace, the step that it decides on is the first due step
 pub decide_due : (goal : Goal) (past : List Event) → is_sound goal past ≡ true → (c : CoreState) → Fits c goal past
     → decide c ≡ first (due goal past)
 decide_due goal past sound c fits =

@@ -1,8 +1,8 @@
--- The first of a list of steps, part by part.
+-- The first step of a list of steps, part by part.
 use Rattle.core_model.proofs.Words.{arith, Bool, true, false, ◌≡◌, List, [], ◌∷◌, ◌++◌, Option, Some, None, refl, cond}
 use Rattle.core_model.proofs.Words.{Step, step_if, steps_if, or_else}
 
--- the first step, where there is one
+-- the first step, if there is one
 abbrev pub head : List Step → Option Step
 head [] = None
 head (step ∷ steps) = Some step

@@ -1,18 +1,21 @@
--- What is read off a trace, said of its happenings: who was born and not reaped, started, ended, held.
+-- What is read off a trace, in terms of its happenings: which children were born and not reaped, started, ended, held.
 use Rattle.core_model.proofs.Words.{◌≡◌, refl, sym, ◌∙◌, ap, subst, ℕ, ◌+◌, Bool, true, false, not, ◌&&◌, ◌||◌, ◌==◌}
 use Rattle.core_model.proofs.Words.{cond, nat_lt, List, [], ◌∷◌, ◌++◌, arith, Option, Some, None, ◌⊎◌, inl, inr}
 use Rattle.core_model.proofs.Words.{false≢true, and_parts, and_from, not-true, ltb-true, list_any, list_all, HOLD}
 use Rattle.core_model.proofs.Words.{Entry, Act, Level, Mark, At, starts_by, served_by, wanted_by, names, Start, Stage}
 use Rattle.core_model.proofs.Words.{same_id, starts_of, waited_of, same_id-is, same_id-self, any_filter, any_less}
 use Rattle.core_model.proofs.Words.{any_within, falsely, not_from, or_either, has_id, entry_of, act_of, NewTable, Asked}
-use Rattle.core_model.proofs.Words.{Birth, Reaped, Told, Goal, Event, Child, table_of, stage_of, time_of, is_of}
+use Rattle.core_model.proofs.Words.{Birth, Reaped, Told, Goal, Event, Child, table_of, stage_of, time_of, is_child_of}
 use Rattle.core_model.proofs.Words.{is_child, has_child, newborn, unreaped_children, kept_children, open_of, is_served}
-use Rattle.core_model.proofs.Words.{is_settled, is_level, may_come, is_sound, hold_times, same_acts, brings, is_asked}
+use Rattle.core_model.proofs.Words.{is_settled, is_level, may_come, is_sound, hold_times, same_acts, adds_or_changes}
+use Rattle.core_model.proofs.Words.{is_asked}
 use Rattle.core_model.proofs.Words.{is_order, is_owed, may_live, entries_before, starts_now, starts_in, is_wanted}
-use Rattle.core_model.proofs.Words.{is_called, nothing_runs, is_owed_before, is_steady, is_reaping_of, asked_free}
+use Rattle.core_model.proofs.Words.{is_called, has_no_running_child, is_owed_before, is_steady, is_reaping_of}
+use Rattle.core_model.proofs.Words.{asked_free}
 use Rattle.core_model.proofs.Words.{birth_in_turn, birth_spared, sound_step, step_at, due_facts, MaySettle, idle_none}
-use Rattle.core_model.proofs.Words.{told_finds, settle_settled, MayLive, AllMayLive, keeps_entry, is_told_of}
-use Rattle.core_model.proofs.Words.{WasStarted, WasEnded, starts_at_entry, IsThrough, AllThrough, HasChild, WasHeld}
+use Rattle.core_model.proofs.Words.{told_finds, settle_settled, MayLive, AllMayLive, leaves_entry_unchanged, is_told_of}
+use Rattle.core_model.proofs.Words.{WasStarted, WasEnded, starts_at_entry, IsEntryDone, AllEarlierDone, HasChild}
+use Rattle.core_model.proofs.Words.{WasHeld}
 use Rattle.core_model.proofs.Words.{IsServed, IsReached}
 use Rattle.init_words.specs.declared.actions.Act.TheVariants as act
 use Rattle.init_words.specs.declared.stages.Stage.TheVariants.{Run}
@@ -35,7 +38,7 @@ other_child id i n m child other is = falsely (is_child i m child) (same_id id i
         let same = subst (λ x. same_id id x ≡ true) (sym (same_id-is i child.id two.0)) one.0 in
         and_from (same_id id i) (n == m) same (grind (arith, one.1, two.1))
 
--- a child that was born, and not reaped since, is there
+-- a child that was born and not reaped since is among the unreaped children
 pub born_there : (p : Child → Bool) (id : List ℕ) (n : ℕ) (since before : List Event)
     → ((child : Child) → p child ≡ true → is_child id n child ≡ true) → p (newborn id n before) ≡ true
     → list_any (is_reaping_of id n) since ≡ false → list_any p (unreaped_children (since ++ Birth id n ∷ before)) ≡ true
@@ -72,7 +75,7 @@ live_by id before past (Some entry) None listed entered may = absurd
     no_stage None h = h
     no_stage (Some action) h = h
 
--- where no unreaped child is excluded, each may live
+-- if no unreaped child is excluded, each may live
 pub all_live : (past : List Event) → list_any (is_excluded past) (unreaped_children past) ≡ false → AllMayLive past
 all_live past none id n since before born unreaped =
     live_by id before past (entry_of id (table_of past)) (stage_of past) refl refl (grind (arith, allowed))
@@ -94,7 +97,7 @@ all_live past none id n since before born unreaped =
     allowed = falsely (is_excluded past (newborn id n before))
         (list_any (is_excluded past) (unreaped_children past)) bad none
 
--- where an unreaped child is there, it was born, and not reaped since
+-- an unreaped child was born, and not reaped since
 pub record Born (p : Child → Bool) (past : List Event) : Type 0 where
   pub id : List ℕ
   pub number : ℕ
@@ -150,7 +153,7 @@ was_born p (happening ∷ past) there = born_later p p happening past (was_born 
 
 pub has_child_of : (id : List ℕ) (past : List Event) → has_child id (unreaped_children past) ≡ true → HasChild id past
 has_child_of id past there =
-    let b = was_born (is_of id) past there in
+    let b = was_born (is_child_of id) past there in
     subst (λ i. HasChild i past) (sym (same_id-is id b.id b.is))
     (record { number = b.number; since = b.since; before = b.before; born = b.born; unreaped = b.unreaped })
 
@@ -160,10 +163,10 @@ pub record Ordered (id : List ℕ) (past : List Event) : Type 0 where
   pub since : List Event
   pub before : List Event
   pub ordered : past ≡ since ++ Asked id Start ∷ before
-  pub kept : keeps_entry id since (Asked id Start ∷ before) ≡ true
+  pub kept : leaves_entry_unchanged id since (Asked id Start ∷ before) ≡ true
 
 ordered_later : (id : List ℕ) (happening : Event) (past : List Event) → (o : Ordered id past)
-    → keeps_entry id (happening ∷ o.since) (Asked id Start ∷ o.before) ≡ true → Ordered id (happening ∷ past)
+    → leaves_entry_unchanged id (happening ∷ o.since) (Asked id Start ∷ o.before) ≡ true → Ordered id (happening ∷ past)
 ordered_later id happening past o kept =
     record {
       since = happening ∷ o.since;
@@ -177,12 +180,12 @@ pub was_ordered : (id : List ℕ) (past : List Event) → is_asked id past ≡ t
 was_ordered id [] asked = absurd (false≢true asked)
 was_ordered id (Enter stage grace ∷ past) asked = absurd (false≢true asked)
 was_ordered id (NewTable table ∷ past) asked =
-    let two = and_parts (not (brings id table (table_of past))) (is_asked id past) asked in
+    let two = and_parts (not (adds_or_changes id table (table_of past))) (is_asked id past) asked in
     let o = was_ordered id past two.1 in
     ordered_later id (NewTable table) past o
-    (and_from (not (brings id table (table_of (o.since ++ Asked id Start ∷ o.before))))
-    (keeps_entry id o.since (Asked id Start ∷ o.before))
-    (subst (λ xs. not (brings id table (table_of xs)) ≡ true) o.ordered two.0) o.kept)
+    (and_from (not (adds_or_changes id table (table_of (o.since ++ Asked id Start ∷ o.before))))
+    (leaves_entry_unchanged id o.since (Asked id Start ∷ o.before))
+    (subst (λ xs. not (adds_or_changes id table (table_of xs)) ≡ true) o.ordered two.0) o.kept)
 was_ordered id (Asked i Start ∷ past) asked = at (was_ordered id past) (same_id id i) refl asked
   where
     at : (is_asked id past ≡ true → Ordered id past) → (b : Bool) → same_id id i ≡ b → (b || is_asked id past) ≡ true
@@ -192,7 +195,7 @@ was_ordered id (Asked i Start ∷ past) asked = at (was_ordered id past) (same_i
     at older false other asked = let o = older asked in ordered_later id (Asked i Start) past o o.kept
 was_ordered id (happening ∷ past) asked = let o = was_ordered id past asked in ordered_later id happening past o o.kept
 
--- of a sound trace, where the order isn't open any more, it was told
+-- in a sound trace, an order that is no longer open was answered
 pub order_told : (goal : Goal) (id : List ℕ) (since before : List Event)
     → is_sound goal (since ++ Asked id Start ∷ before) ≡ true
     → is_order Start (open_of id (since ++ Asked id Start ∷ before)) ≡ false → list_any (is_told_of id) since ≡ true
@@ -243,7 +246,7 @@ was_started goal id past sound asked free =
           (subst (λ xs. is_order Start (open_of id xs) ≡ false) o.ordered free);
     }
 
--- a child that was born is kept, or was ended
+-- a child that was born is kept or has ended
 ended_later : (id : List ℕ) (n : ℕ) (happening : Event) (since : List Event) → WasEnded id n since
     → WasEnded id n (happening ∷ since)
 ended_later id n happening since e =
@@ -277,8 +280,9 @@ kept_or_ended id n (Told i ∷ since) before = at (kept_or_ended id n since befo
         (subst (λ x. WasEnded id n (Told x ∷ since)) (same_id-is id i same)
         (record { later = []; between = since; told = refl; reaped = reaped }))
     at (inl there) true same false unreaped = inl
-        (told_finds (is_of id) i (unreaped_children past) (kept_children past)
-        (inl (any_less (is_child id n) (λ child. is_of i child && is_of id child) own (unreaped_children past)
+        (told_finds (is_child_of id) i (unreaped_children past) (kept_children past)
+        (inl
+        (any_less (is_child id n) (λ child. is_child_of i child && is_child_of id child) own (unreaped_children past)
         (born_there (is_child id n) id n since before (λ child h. h)
         (and_from (same_id id id) (n == n) (same_id-self id) (grind arith)) unreaped))))
       where
@@ -288,8 +292,9 @@ kept_or_ended id n (Told i ∷ since) before = at (kept_or_ended id n since befo
             and_from (same_id i child.id) (same_id id child.id)
             (subst (λ x. same_id x child.id ≡ true) (same_id-is id i same) one) one
     at (inl there) false other r reaped = inl
-        (told_finds (is_of id) i (unreaped_children past) (kept_children past)
-        (inr (any_less (is_of id) (λ child. not (is_of i child) && is_of id child) apart (kept_children past) there)))
+        (told_finds (is_child_of id) i (unreaped_children past) (kept_children past)
+        (inr (any_less (is_child_of id) (λ child. not (is_child_of i child) && is_child_of id child) apart
+        (kept_children past) there)))
       where
         apart : (child : Child) → same_id id child.id ≡ true → (not (same_id i child.id) && same_id id child.id) ≡ true
         apart child is = and_from (not (same_id i child.id)) (same_id id child.id)
@@ -308,7 +313,7 @@ at_entry_wanted : (a : Act) (idle fresh called : Bool) → starts_at_entry a ≡
 at_entry_wanted a idle fresh called h = grind arith
 
 through : (goal : Goal) (past : List Event) → is_sound goal past ≡ true → (e : Entry) → waited_of e ≡ true
-    → is_owed e past ≡ false → IsThrough e past
+    → is_owed e past ≡ false → IsEntryDone e past
 through goal past sound e waited free = record { ended = ended; started = started }
   where
     none : (has_child e.id (kept_children past) || is_order Start (open_of e.id past) || is_wanted e past) ≡ false
@@ -331,13 +336,15 @@ through goal past sound e waited free = record { ended = ended; started = starte
     started stage is starts entry = was_started goal e.id past sound asked (grind (arith, none))
       where
         unwanted : (starts_now e past
-            && wanted_by e.act (nothing_runs e.id past) (not (is_asked e.id past)) (is_called e past)) ≡ false
+            && wanted_by e.act (has_no_running_child e.id past) (not (is_asked e.id past)) (is_called e past)) ≡ false
         unwanted = grind (arith, none)
 
         asked : is_asked e.id past ≡ true
         asked = twice (is_asked e.id past)
-            (sym (at_entry_wanted e.act (nothing_runs e.id past) (not (is_asked e.id past)) (is_called e past) entry)
-            ∙ ap (λ b. b && wanted_by e.act (nothing_runs e.id past) (not (is_asked e.id past)) (is_called e past))
+            (sym
+            (at_entry_wanted e.act (has_no_running_child e.id past) (not (is_asked e.id past)) (is_called e past) entry)
+            ∙ ap
+            (λ b. b && wanted_by e.act (has_no_running_child e.id past) (not (is_asked e.id past)) (is_called e past))
             (sym (ap (starts_in e) is ∙ starts)) ∙ unwanted)
           where
             twice : (b : Bool) → not b ≡ false → b ≡ true
@@ -349,9 +356,9 @@ owed_before : (p : Entry → Bool) (id : List ℕ) (front rest : List Entry) (e 
 owed_before p id [] rest e none other is = grind arith
 owed_before p id (x ∷ front) rest e none other is = grind (arith, owed_before p id front rest e)
 
--- where no earlier entry is owed, each waited one is through
+-- if no earlier entry is owed, each waited one is through
 pub all_through : (goal : Goal) (past : List Event) (id : List ℕ) → is_sound goal past ≡ true
-    → is_owed_before id past ≡ false → AllThrough id past
+    → is_owed_before id past ≡ false → AllEarlierDone id past
 all_through goal past id sound free front rest e table none other waited =
     through goal past sound e waited (falsely (is_owed e past) (is_owed_before id past) owed free)
   where
@@ -462,7 +469,7 @@ reached goal past level sound idle settled = record {
 -- ---- at a birth and at an announcement
 
 pub birth_through : (goal : Goal) (later : List Event) (id : List ℕ) (n : ℕ) (past : List Event)
-    → is_sound goal (later ++ Birth id n ∷ past) ≡ true → AllThrough id past
+    → is_sound goal (later ++ Birth id n ∷ past) ≡ true → AllEarlierDone id past
 birth_through goal later id n past h = all_through goal past id (step_at goal later (Birth id n) past refl h).1
     (not-true (is_owed_before id past) (birth_in_turn goal later id n past h))
 

@@ -1,9 +1,9 @@
--- What births and announcements need, worked: a run that has it, and traces that lack it.
+-- Worked examples of what births and announcements need: a run that has it, and traces that do not.
 use Rattle.core_model.proofs.Words.{◌≡◌, refl, sym, ◌∙◌, ap, ℕ, Bool, true, false, List, [], ◌∷◌, ◌++◌, arith, codes}
 use Rattle.core_model.proofs.Words.{false≢true, list_any, Entry, At, Start, Look, NewTable, Asked, Birth, Death, Reaped}
 use Rattle.core_model.proofs.Words.{Told, Nudge, length, filter, table_of, known_children, is_without_entry, same_id}
 use Rattle.core_model.proofs.Words.{◌≤◌, ◌+◌, ◌⊎◌, inl, inr, HasChild, WasHeld, Goal, Event, newborn, is_sound}
-use Rattle.core_model.proofs.Words.{is_reaping_of, MayLive, AllMayLive, AllThrough, WasEnded, IsReached}
+use Rattle.core_model.proofs.Words.{is_reaping_of, MayLive, AllMayLive, AllEarlierDone, WasEnded, IsReached}
 use Rattle.init_words.specs.declared.actions.Act.TheVariants as act
 use Rattle.init_words.specs.declared.children.Status.TheVariants.{Exit}
 use Rattle.init_words.specs.declared.levels.Level.TheVariants as level
@@ -37,11 +37,11 @@ abbrev entered : List Event
 entered = Enter (stage.Run level.L3) 5 ∷ Enter stage.Boot 5 ∷ Enter stage.Sysinit 5 ∷ NewTable
     (wait ∷ service ∷ []) ∷ []
 
--- the waited child runs
+-- the waited child is alive
 abbrev waits : List Event
 waits = Told (codes "w") ∷ Birth (codes "w") 10 ∷ Asked (codes "w") Start ∷ entered
 
--- it ended
+-- the waited child has ended
 abbrev ended : List Event
 ended = Asked (codes "s") Start ∷ Told (codes "w") ∷ Reaped (codes "w") 10 (Exit 0) ∷ Death 10 ∷ Asked
     (codes "w") Look ∷ Nudge ∷ waits
@@ -52,7 +52,7 @@ runs = Told (codes "s") ∷ Birth (codes "s") 11 ∷ ended
 sound : is_sound goal (Settle level.L3 ∷ runs) ≡ true
 sound = refl
 
-through : AllThrough (codes "s") ended
+through : AllEarlierDone (codes "s") ended
 through = birth_through goal (Settle level.L3 ∷ Told (codes "s") ∷ []) (codes "s") 11 ended sound
 
 living : AllMayLive ended
@@ -61,7 +61,7 @@ living = birth_lives goal (Settle level.L3 ∷ Told (codes "s") ∷ []) (codes "
 reached : IsReached level.L3 runs
 reached = settle_reached goal [] level.L3 runs sound
 
--- while the waited child runs, its entry isn't through
+-- while the waited child is alive, its entry is not through
 any_behind : (p : Event → Bool) (xs ys : List Event) → list_any p ys ≡ true → list_any p (xs ++ ys) ≡ true
 any_behind p [] ys there = there
 any_behind p (x ∷ xs) ys there = grind (arith, any_behind p xs ys)
@@ -71,13 +71,13 @@ was_reaped : (id : List ℕ) (n : ℕ) (since : List Event) → WasEnded id n si
 was_reaped id n since over = ap (list_any (is_reaping_of id n)) over.told
     ∙ any_behind (is_reaping_of id n) over.later (Told id ∷ over.between) over.reaped
 
-waits-is_not_through : AllThrough (codes "s") waits → ⊥
+waits-is_not_through : AllEarlierDone (codes "s") waits → ⊥
 waits-is_not_through all = false≢true
     (was_reaped (codes "w") 10 (Told (codes "w") ∷ [])
     ((all [] (service ∷ []) wait refl refl refl refl).ended 10 (Told (codes "w") ∷ [])
     (Asked (codes "w") Start ∷ entered) refl))
 
--- in another level the service may not live
+-- in another level, the service may not live
 lives : (id : List ℕ) (n : ℕ) (before past : List Event) → MayLive id before past
     → is_excluded past (newborn id n before) ≡ false
 lives id n before past may = grind (arith, may.listed, may.same, may.entered, may.lives)
@@ -87,14 +87,14 @@ left-may_not_live all = false≢true
     (sym (lives (codes "s") 11 ended (Enter (stage.Run level.L1) 5 ∷ runs)
     (all (codes "s") 11 (Enter (stage.Run level.L1) 5 ∷ Told (codes "s") ∷ []) ended refl refl)))
 
--- before the wait entry is through, the level isn't reached
+-- before the wait entry is through, the level is not reached
 waits-is_not_reached : IsReached level.L3 waits → ⊥
 waits-is_not_reached all = false≢true
     (was_reaped (codes "w") 10 (Told (codes "w") ∷ [])
     ((all.through [] (service ∷ []) wait refl refl).ended 10 (Told (codes "w") ∷ [])
     (Asked (codes "w") Start ∷ entered) refl))
 
--- the wait entry was never started, so its level isn't reached
+-- the wait entry was never started, so its level is not reached
 abbrev is_order : Event → Bool
 is_order (Asked id kind) = true
 is_order _ = false
@@ -104,7 +104,7 @@ entered-is_not_reached all = let start = all.served [] (service ∷ []) wait ref
     false≢true (ap (list_any is_order) start.ordered
     ∙ any_behind is_order start.since (Asked (codes "w") Start ∷ start.before) refl)
 
--- nor is it where the wait entry is through, and the service has no child and was not held
+-- the level is not reached if the wait entry is through, but the service has no child and was not held
 abbrev is_of_service : Event → Bool
 is_of_service (Birth id n) = same_id (codes "s") id
 is_of_service (Hold id) = same_id (codes "s") id
@@ -122,8 +122,8 @@ is_unserved (inr hold) = false≢true (ap (list_any is_of_service) hold.held
 idle-is_not_reached : IsReached level.L3 idle → ⊥
 idle-is_not_reached all = is_unserved (all.served (wait ∷ []) [] service refl refl)
 
--- two entries have two records, and so has one whose table lost an entry that has a child still: a third is one too
--- many
+-- two entries have two records, and so has one entry if an id that left the table still has a child; a third record
+-- would be too many
 abbrev records_within : List Event → ℕ
 records_within past = length (table_of past) + length (filter (is_without_entry (table_of past)) (known_children past))
 

@@ -1,4 +1,4 @@
--- A fact of news, by the first that there is.
+-- A property of sets of pending calls, by cases on the first call that is pending.
 use Rattle.core_model.proofs.Words.{Bool, true, false, CallSet}
 
 module _ (P : CallSet → Type 0)

@@ -6,27 +6,27 @@ use Rattle.core_model.proofs.Words.{same_id, is_limited, stays_called, same_id-i
 use Rattle.core_model.proofs.Words.{or_false, or_true, found_any, has_id, entry_of, is_distinct, with_start}
 use Rattle.core_model.proofs.Words.{drop_last_push, Asked, Nudge, Event, Child, has_child, table_of, stage_of, time_of}
 use Rattle.core_model.proofs.Words.{known_children, is_called, is_missed, start_times, hold_times, record_ids, is_still}
-use Rattle.core_model.proofs.Words.{spell_still, missed_still, spell_nudge, RecordState, after_order, after_hold}
-use Rattle.core_model.proofs.Words.{after_begin_round, changed, with_changed, is_named, called_if, with_called}
+use Rattle.core_model.proofs.Words.{spell_still, missed_still, spell_nudge, SlotState, after_order, after_hold}
+use Rattle.core_model.proofs.Words.{after_nudge, changed, with_changed, is_named, called_if, with_called}
 use Rattle.core_model.proofs.Words.{LastStatuses, child_known, stop_known, limiter_by, last_hold_end, records_of}
 use Rattle.trace_events.specs.declared.steps.Step.TheVariants as step
 use Rattle.trace_events.specs.declared.happenings.Happening.TheVariants.{Hold, Power, Call}
 use Rattle.trace_events.specs.Wanted.{is_excluded}
 use Rattle.core_model.specs.Fit.{record_of}
 
--- two lists made along the same ids, alike at each
-pub records_same : (f g : List ℕ → RecordState) (change : RecordState → RecordState)
+-- two lists built along the same ids, equal for each id
+pub records_same : (f g : List ℕ → SlotState) (change : SlotState → SlotState)
     → ((id : List ℕ) → change (f id) ≡ g id) → (ids : List (List ℕ)) → map change (map f ids) ≡ map g ids
 records_same f g change same [] = refl
 records_same f g change same (id ∷ ids) = rw (same id, records_same f g change same ids) refl
 
--- the records where one id's is changed: that one as changed, each other as it was
-pub one_changed : (id : List ℕ) (change : RecordState → RecordState) (f g : List ℕ → RecordState)
+-- the records after that of one id was changed: this one is changed, and the others are the same
+pub one_changed : (id : List ℕ) (change : SlotState → SlotState) (f g : List ℕ → SlotState)
     → ((i : List ℕ) → (f i).id ≡ i) → ((i : List ℕ) → same_id id i ≡ true → change (f i) ≡ g i)
     → ((i : List ℕ) → same_id id i ≡ false → f i ≡ g i) → (i : List ℕ) → changed id change (f i) ≡ g i
 one_changed id change f g own here other i = grind arith
 
--- a still happening leaves the stops and the missed signals as they are
+-- a happening that does not change the spells does not change the stops and the missed signals
 pub stop_still : (happening : Event) (past : List Event) (o : Option Child) → is_still happening ≡ true
     → ((child : Child) → is_excluded (happening ∷ past) child ≡ is_excluded past child)
     → stop_known (happening ∷ past) o ≡ stop_known past o
@@ -37,7 +37,7 @@ pub missed_known : (happening : Event) (past : List Event) (o : Option Child) �
     ≡ option_map_or (λ child. is_missed child past) o false
 missed_known happening past o still = grind (arith, missed_still)
 
--- the entry of an id has the id
+-- the entry found for an id has this id
 pub entry_has : (id : List ℕ) (es : List Entry) (e : Entry) → entry_of id es ≡ Some e → same_id id e.id ≡ true
 entry_has id [] e is = grind arith
 entry_has id (x ∷ es) e is = grind (arith, entry_has id es e)
@@ -99,13 +99,13 @@ module _ (lasts : LastStatuses) (id : List ℕ) (past : List Event) (now : ℕ) 
         missed_known (Asked id Kill) past (child_known i past) refl,
       ) refl)) (record_ids past)
 
--- the limiter of a limited entry after a start of it, and after a hold
+-- the limiter of an entry to which the respawn limit applies, after a start and after a hold
 start_limiter : (starts holds : List ℕ) (now : ℕ)
     → with_start (limiter_by true starts holds) now ≡ limiter_by true (now ∷ starts) holds
 start_limiter starts holds now = rw (reverse_onto starts now [])
     (ap (λ noted. record { starts = noted; held = last_hold_end holds }) (drop_last_push 10 (reverse starts) now))
 
--- a start was ordered of an id of the table
+-- a start of an id in the table was ordered
 module _ (lasts : LastStatuses) (id : List ℕ) (past : List Event) (e : Entry)
     (own : entry_of id (table_of past) ≡ Some e) where
   start_own : after_order Start (time_of past) (record_of lasts past id) ≡ record_of lasts (Asked id Start ∷ past) id
@@ -171,7 +171,7 @@ module _ (lasts : LastStatuses) (id : List ℕ) (past : List Event) (e : Entry)
       ≡ record_of lasts (Asked id Start ∷ past) x) (same_id-is id i is) start_own)
       start_other) (record_ids past)
 
-  -- an entry that the limit holds for was held
+  -- an entry to which the respawn limit applies was held
   module _ (limited : is_limited e.act ≡ true) where
     hold_own : after_hold (time_of past) (record_of lasts past id) ≡ record_of lasts (Hold id ∷ past) id
     hold_own =
@@ -215,7 +215,7 @@ module _ (lasts : LastStatuses) (id : List ℕ) (past : List Event) (e : Entry)
 
 -- a round began
 pub nudged : (lasts : LastStatuses) → (past : List Event)
-    → map after_begin_round (records_of lasts past) ≡ records_of lasts (Nudge ∷ past)
+    → map after_nudge (records_of lasts past) ≡ records_of lasts (Nudge ∷ past)
 nudged lasts past = grind (arith, records_same, spell_nudge, found_any)
 
 none_named : (p : Entry → Bool) (id : List ℕ) (es : List Entry) → list_any (has_id id) es ≡ false
@@ -224,7 +224,7 @@ none_named p id [] h = refl
 none_named p id (x ∷ xs) h = let two = or_parts (same_id id x.id) (list_any (has_id id) xs) h in
     rw (two.0, none_named p id xs two.1) refl
 
--- of a table that has no id twice, an entry of the id passes a test where the id's entry does
+-- in a table without repeated ids, an entry of the id passes exactly if the one found for the id does
 pub named_own : (p : Entry → Bool) (id : List ℕ) (table : List Entry) → is_distinct table ≡ true
     → list_any (λ e. has_id id e && p e) table ≡ option_map_or p (entry_of id table) false
 named_own p id [] distinct = refl
@@ -240,16 +240,16 @@ named_own p id (e ∷ es) distinct = at (same_id id e.id) refl (named_own p id e
         ∙ not-true (list_any (has_id e.id) es) parts.0)) (or_false (p e))
     at false differ rest = rest
 
--- the entries that news of the power, or a letter, names were called
+-- the entries that a power event or a letter names were called
 called_same : (o : Option Entry) (named before after : Entry → Bool) → ((e : Entry) → after e ≡ (named e || before e))
-    → (slot : RecordState) → slot.called ≡ option_map_or before o false
+    → (slot : SlotState) → slot.called ≡ option_map_or before o false
     → called_if (option_map_or named o false) slot ≡ record slot { called = option_map_or after o false }
 called_same o named before after same slot is = grind arith
 
 module _ (lasts : LastStatuses) (past : List Event) (distinct : is_distinct (table_of past) ≡ true) where
   pub power_called : (kind : PowerKind) → with_called (is_named (step.Power kind) (stage_of past)) (table_of past)
       (records_of lasts past) ≡ records_of lasts (Power kind ∷ past)
-  power_called kind = records_same (record_of lasts past) (record_of lasts (Power kind ∷ past)) (λ (slot : RecordState).
+  power_called kind = records_same (record_of lasts past) (record_of lasts (Power kind ∷ past)) (λ (slot : SlotState).
       called_if (list_any (λ e. has_id slot.id e && is_named (step.Power kind) (stage_of past) e) (table_of past)) slot)
       one (record_ids past)
     where
@@ -266,7 +266,7 @@ module _ (lasts : LastStatuses) (past : List Event) (distinct : is_distinct (tab
   pub letter_called : (letter : Letter) → with_called (is_named (step.Call letter) (stage_of past)) (table_of past)
       (records_of lasts past) ≡ records_of lasts (Call letter ∷ past)
   letter_called letter = records_same (record_of lasts past) (record_of lasts (Call letter ∷ past))
-      (λ (slot : RecordState). called_if (list_any (λ e. has_id slot.id e
+      (λ (slot : SlotState). called_if (list_any (λ e. has_id slot.id e
       && is_named (step.Call letter) (stage_of past) e) (table_of past)) slot) one (record_ids past)
     where
       one : (id : List ℕ) → called_if (list_any (λ e. has_id id e && is_named (step.Call letter) (stage_of past) e)

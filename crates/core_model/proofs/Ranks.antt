@@ -1,4 +1,4 @@
--- The first step of each rank that is about records is the one that the records give.
+-- For each rank that concerns records, the first due step is the one that the records give.
 use Rattle.core_model.proofs.Words.{arith, ◌≡◌, refl, sym, ◌∙◌, ap, cond, ℕ, Bool, true, false, not, ◌&&◌, ◌||◌, List}
 use Rattle.core_model.proofs.Words.{[], ◌∷◌, map, zip, Some, None, is_some, is_none, list_all, Entry, Act, Level, Stage}
 use Rattle.core_model.proofs.Words.{Start, is_limited, served_by, waited_of, entry_of, Goal, Event, table_of, stage_of}
@@ -21,7 +21,7 @@ use Rattle.core_model.proofs.Acts.{child_some}
 use Rattle.core_model.proofs.Reading.{Each, IsOwn, table_own, table_pairs, pairs_all, child_none, asked_own, called_own}
 use Rattle.core_model.proofs.Reading.{limits_own}
 
--- what keeps an entry up counts for the limited ones alone
+-- whether the entry is kept up matters only if the respawn limit applies to it
 unlimited_served : (action : Act) (asked x y : Bool) → is_limited action ≡ false
     → served_by action asked x ≡ served_by action asked y
 unlimited_served action asked x y h = grind arith
@@ -55,7 +55,7 @@ module _ (lasts : LastStatuses) (goal : Goal) (past : List Event) (sound : is_so
           at true = limited_same
           at false = refl
 
-      -- at a quiet point, whether something is left to do for it
+      -- at a quiet point, whether something is left to do for the entry
       done_same : is_quiet past ≡ true → (not (is_wanted e past) && not
           (waited_of e && has_child e.id (kept_children past))) ≡ is_done_record now e (record_of lasts past e.id)
       done_same quiet =
@@ -89,7 +89,7 @@ module _ (lasts : LastStatuses) (goal : Goal) (past : List Event) (sound : is_so
         && has_child e.id (kept_children past))) (table_of past) ≡ all_done now (table_of past) (records_of lasts past)
     all_done_same quiet = grind (arith, pairs_all, IsOwn, done_same, table_own, table_pairs)
 
-  -- 9: each entry is served in the level
+  -- 9: no entry keeps the level from being settled
   module _ (level : Level) (in_level : stage_of past ≡ Some (stage.Run level)) where
     kept_up : (e : Entry) → (b : Bool) → is_limited e.act ≡ b → served_by e.act (is_asked e.id past) (has_child e.id
         (known_children past) || is_held e.id past) ≡ served_by e.act (is_asked e.id past) (is_some (known_child e.id

@@ -1,28 +1,28 @@
--- What the records say of ids and entries is what the past says of them.
+-- What the records say about ids and entries is what the past says about them.
 use Rattle.core_model.proofs.Words.{◌≡◌, ◌≤◌, refl, sym, ◌∙◌, ap, cond, arith, ℕ, ◌+◌, Bool, true, false, not, ◌&&◌}
 use Rattle.core_model.proofs.Words.{◌||◌, List, [], ◌∷◌, ◌++◌, map, zip, filter, find, length, Option, Some, None}
 use Rattle.core_model.proofs.Words.{is_some, is_none, list_any, list_all, option_map_or, false≢true, and_parts}
 use Rattle.core_model.proofs.Words.{and_from, or_parts, not-true, Entry, OrderKind, Look, same_id, same_ask, same_id-is}
 use Rattle.core_model.proofs.Words.{same_id-self, same_id-sym, same_tests, passing, any_less, any_same, any_filter}
-use Rattle.core_model.proofs.Words.{ids_of, has_id, entry_of, is_distinct, Goal, Event, table_of, Child, is_of}
+use Rattle.core_model.proofs.Words.{ids_of, has_id, entry_of, is_distinct, Goal, Event, table_of, Child, is_child_of}
 use Rattle.core_model.proofs.Words.{has_child, open_of, open_orders, kept_children, known_children, is_asked, is_called}
-use Rattle.core_model.proofs.Words.{spell_hits, left_ids, record_ids, is_sound, sound_holds, open_listed}
-use Rattle.core_model.proofs.Words.{excluded_known, known_single, open_in_records, child_in_records, RecordState}
+use Rattle.core_model.proofs.Words.{spell_hits, removed_ids, record_ids, is_sound, sound_holds, open_listed}
+use Rattle.core_model.proofs.Words.{excluded_known, known_single, open_in_records, child_in_records, SlotState}
 use Rattle.core_model.proofs.Words.{is_busy, has_excluded, LastStatuses, known_child, stop_after, stop_known, stop_of}
 use Rattle.core_model.proofs.Words.{asked_of, called_of, limiter_of, limits_of, records_of}
 use Rattle.trace_events.specs.Past.{is_quiet, is_idle}
 use Rattle.trace_events.specs.Wanted.{is_excluded}
-use Rattle.core_records.specs.Lists as lists
+use Rattle.child_table.specs.Lists as lists
 use Rattle.core_model.specs.Decide as core
 use Rattle.core_model.specs.Fit.{record_of}
 use Rattle.core_model.proofs.Acts.{child_some}
 
--- a fact of each entry
+-- the property holds for each entry
 abbrev pub Each : (Entry → Type 0) → List Entry → Type 0
 Each P [] = Unit {0}
 Each P (e ∷ es) = P e × Each P es
 
--- each entry of a table that has no id twice is the one that its id has
+-- each entry of a table without repeated ids is the one found for its id
 abbrev pub IsOwn : List Entry → Entry → Type 0
 IsOwn table e = entry_of e.id table ≡ Some e
 
@@ -43,8 +43,8 @@ each_own (e ∷ es) h =
       own_behind e es es (none_has e.id es (not-true (list_any (has_id e.id) es) parts.0)) (each_own es parts.1),
     )
 
--- the table's entries have the first records
-pub table_front : (f : List ℕ → RecordState) (es : List Entry) (rest : List (List ℕ))
+-- the first records are those of the table's entries
+pub table_front : (f : List ℕ → SlotState) (es : List Entry) (rest : List (List ℕ))
     → zip es (map f (ids_of es ++ rest)) ≡ zip es (map (λ (e : Entry). f e.id) es)
 table_front f [] rest = refl
 table_front f (e ∷ es) rest = ap (λ ps. (e, f e.id) ∷ ps) (table_front f es rest)
@@ -52,10 +52,10 @@ table_front f (e ∷ es) rest = ap (λ ps. (e, f e.id) ∷ ps) (table_front f es
 pub table_pairs : (lasts : LastStatuses) → (past : List Event) → zip (table_of past) (records_of lasts past)
     ≡ zip (table_of past) (map (λ (e : Entry). record_of lasts past e.id) (table_of past))
 table_pairs lasts past = table_front (record_of lasts past) (table_of past)
-    (filter (λ id. has_child id (known_children past)) (left_ids past))
+    (filter (λ id. has_child id (known_children past)) (removed_ids past))
 
--- a test of the entries and their records is one of the entries
-pub pairs_all : (f : Entry → RecordState) (P : Entry → Type 0) (q : Entry → Bool) (p : Entry × RecordState → Bool)
+-- a test of the entries with their records is a test of the entries
+pub pairs_all : (f : Entry → SlotState) (P : Entry → Type 0) (q : Entry → Bool) (p : Entry × SlotState → Bool)
     → ((e : Entry) → P e → q e ≡ p (e, f e)) → (es : List Entry) → Each P es
     → list_all q es ≡ list_all p (zip es (map f es))
 pairs_all f P q p same [] each = refl
@@ -66,7 +66,7 @@ pub any_map : {X Y : Type 0} (f : X → Y) (p : Y → Bool) (xs : List X)
 any_map f p [] = refl
 any_map f p (x ∷ xs) = ap (λ b. p (f x) || b) (any_map f p xs)
 
--- where at most one passes, some passes another test exactly if the one that is found does
+-- if at most one element passes a test, some of them passes another test exactly if the one found does
 pub none_left : {X : Type 0} (xs : List X) → 1 + length xs ≤ 1 → xs ≡ []
 none_left [] h = refl
 none_left (x ∷ xs) h = absurd (omega arith)
@@ -98,7 +98,7 @@ module _ (lasts : LastStatuses) (goal : Goal) (past : List Event) (sound : is_so
   pub table_own : Each (IsOwn (table_of past)) (table_of past)
   table_own = each_own (table_of past) (sound_holds goal past sound).distinct
 
-  -- at which points which orders are open
+  -- which orders are open
   orders_same : (p : OrderKind → Bool) → list_any (λ order. p order.ask) (open_orders past)
       ≡ list_any (λ id. option_map_or p (open_of id past) false) (record_ids past)
   orders_same p = same_tests (list_any (λ order. p order.ask) (open_orders past))
@@ -132,7 +132,7 @@ module _ (lasts : LastStatuses) (goal : Goal) (past : List Event) (sound : is_so
   quiet_same = ap not (orders_same (λ ask. not (same_ask Look ask))
       ∙ any_same (λ id. option_map_or (λ ask. not (same_ask Look ask)) (open_of id past) false)
       (λ id. is_busy (open_of id past)) (λ id. busy (open_of id past)) (record_ids past)
-      ∙ sym (any_map (record_of lasts past) (λ (slot : RecordState). is_busy slot.order) (record_ids past)))
+      ∙ sym (any_map (record_of lasts past) (λ (slot : SlotState). is_busy slot.order) (record_ids past)))
     where
       busy : (o : Option OrderKind) → option_map_or (λ ask. not (same_ask Look ask)) o false ≡ is_busy o
       busy None = refl
@@ -141,17 +141,18 @@ module _ (lasts : LastStatuses) (goal : Goal) (past : List Event) (sound : is_so
   pub idle_same : is_idle past ≡ core.is_idle (records_of lasts past)
   idle_same = ap not (orders_same (λ ask. true) ∙ any_same (λ id. option_map_or (λ ask. true) (open_of id past) false)
       (λ id. is_some (open_of id past)) (λ id. given (open_of id past)) (record_ids past)
-      ∙ sym (any_map (record_of lasts past) (λ (slot : RecordState). is_some slot.order) (record_ids past)))
+      ∙ sym (any_map (record_of lasts past) (λ (slot : SlotState). is_some slot.order) (record_ids past)))
     where
       given : (o : Option OrderKind) → option_map_or (λ ask. true) o false ≡ is_some o
       given None = refl
       given (Some ask) = refl
 
-  -- a known child is excluded exactly where the stop of its id's record has begun
+  -- a known child is excluded exactly if the record of its id has a stop
   stop_begun : (id : List ℕ)
-      → list_any (λ child. is_of id child && is_excluded past child) (known_children past) ≡ is_some (stop_of id past)
-  stop_begun id = any_found (is_of id) (is_excluded past) (known_children past) (known_single goal past sound id)
-      ∙ at (find (is_of id) (known_children past))
+      → list_any (λ child. is_child_of id child && is_excluded past child) (known_children past)
+      ≡ is_some (stop_of id past)
+  stop_begun id = any_found (is_child_of id) (is_excluded past) (known_children past) (known_single goal past sound id)
+      ∙ at (find (is_child_of id) (known_children past))
     where
       begun : (b : Bool) (child : Child) → b ≡ is_some (cond b (Some (stop_after (spell_hits child past))) None)
       begun true child = refl
@@ -164,7 +165,7 @@ module _ (lasts : LastStatuses) (goal : Goal) (past : List Event) (sound : is_so
   pub excluded_same : list_any (is_excluded past) (known_children past) ≡ has_excluded (records_of lasts past)
   excluded_same = same_tests (list_any (is_excluded past) (known_children past))
       (list_any (λ id. is_some (stop_of id past)) (record_ids past)) there back
-      ∙ sym (any_map (record_of lasts past) (λ (slot : RecordState). is_some slot.stop) (record_ids past))
+      ∙ sym (any_map (record_of lasts past) (λ (slot : SlotState). is_some slot.stop) (record_ids past))
     where
       there : list_any (is_excluded past) (known_children past) ≡ true
           → list_any (λ id. is_some (stop_of id past)) (record_ids past) ≡ true
@@ -172,17 +173,19 @@ module _ (lasts : LastStatuses) (goal : Goal) (past : List Event) (sound : is_so
           let found = passing (is_excluded past) (known_children past) h in
           let id : List ℕ = found.item.id in
           let placed = passing (same_id id) (record_ids past)
-          (child_in_records goal past sound id (found.within (is_of id) (same_id-self id))) in
+          (child_in_records goal past sound id (found.within (is_child_of id) (same_id-self id))) in
           placed.within (λ id. is_some (stop_of id past)) (ap (λ i. is_some (stop_of i past)) (sym (same_id-is id
-          placed.item placed.passes)) ∙ sym (stop_begun id) ∙ found.within (λ child. is_of id child && is_excluded past
+          placed.item placed.passes)) ∙ sym (stop_begun id)
+          ∙ found.within (λ child. is_child_of id child && is_excluded past
           child) (and_from (same_id id id) (is_excluded past found.item) (same_id-self id) found.passes))
 
       back : list_any (λ id. is_some (stop_of id past)) (record_ids past) ≡ true
           → list_any (is_excluded past) (known_children past) ≡ true
       back h =
           let found = passing (λ id. is_some (stop_of id past)) (record_ids past) h in
-          any_less (λ child. is_of found.item child && is_excluded past child) (is_excluded past)
-          (λ child both. (and_parts (is_of found.item child) (is_excluded past child) both).1) (known_children past)
+          any_less (λ child. is_child_of found.item child && is_excluded past child) (is_excluded past)
+          (λ child both. (and_parts (is_child_of found.item child) (is_excluded past child) both).1)
+          (known_children past)
           (stop_begun found.item ∙ found.passes)
 
   pub kept_excluded_same : list_any (is_excluded past) (kept_children past) ≡ has_excluded (records_of lasts past)

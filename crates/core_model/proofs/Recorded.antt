@@ -1,9 +1,10 @@
--- The unreaped children are the records, corrected by the answers under way.
+-- The unreaped children are those of the records, corrected by the answers under way.
 use Rattle.core_model.proofs.Words.{arith, ◌≡◌, ◌≤◌, refl, sym, ◌∙◌, ap, ℕ, Bool, true, false, not, ◌&&◌, ◌||◌, ◌==◌}
 use Rattle.core_model.proofs.Words.{List, [], ◌∷◌, length, filter, find, Option, is_some, list_any, option_map}
-use Rattle.core_model.proofs.Words.{option_map_or, and_right, same_id, same_id-is, Goal, Event, Child, is_of, is_child}
+use Rattle.core_model.proofs.Words.{option_map_or, and_right, same_id, same_id-is, Goal, Event, Child, is_child_of}
+use Rattle.core_model.proofs.Words.{is_child}
 use Rattle.core_model.proofs.Words.{unreaped_children, known_children, record_ids, is_sound, agrees_at, one_child}
-use Rattle.core_model.proofs.Words.{known_single, child_in_records, RecordState, is_record_of, is_numbered, CoreState}
+use Rattle.core_model.proofs.Words.{known_single, child_in_records, SlotState, is_record_of, is_numbered, CoreState}
 use Rattle.core_model.proofs.Words.{Fits, child_known, known_child, living, has_record, is_recorded}
 use Rattle.trace_events.specs.Agreement.{has_untold_birth, has_untold_end, is_unreaped, is_known}
 use Rattle.core_model.specs.Fit.{record_of}
@@ -42,16 +43,16 @@ numbered_some n o h = grind arith
 
 module _ (goal : Goal) (past : List Event) (c : CoreState) (sound : is_sound goal past ≡ true) (fits : Fits c goal past)
   where
-    -- a record has a child where it is known
+    -- a record has a child exactly if it is known
     recorded_known : (id : List ℕ) (n : ℕ) → has_record id n c ≡ is_known id n past
-    recorded_known id n = ap (list_any (λ (slot : RecordState). is_record_of id slot && is_numbered n slot.child))
+    recorded_known id n = ap (list_any (λ (slot : SlotState). is_record_of id slot && is_numbered n slot.child))
         (fit_records c goal past fits)
-        ∙ any_map (record_of fits.lasts past) (λ (slot : RecordState). is_record_of id slot && is_numbered n slot.child)
+        ∙ any_map (record_of fits.lasts past) (λ (slot : SlotState). is_record_of id slot && is_numbered n slot.child)
         (record_ids past)
         ∙ one_id id (λ i. is_numbered n (known_child i past)) (record_ids past)
         ∙ listed (is_numbered n (known_child id past)) refl
         ∙ numbered_known n (child_known id past)
-        ∙ sym (any_found (is_of id) (λ (child : Child). n == child.number) (known_children past)
+        ∙ sym (any_found (is_child_of id) (λ (child : Child). n == child.number) (known_children past)
         (known_single goal past sound id))
       where
         listed : (b : Bool) → is_numbered n (known_child id past) ≡ b → (list_any (same_id id) (record_ids past)
@@ -65,12 +66,13 @@ module _ (goal : Goal) (past : List Event) (c : CoreState) (sound : is_sound goa
     unreaped_recorded id n = agrees_at goal [] past id n sound
         ∙ ap (λ b. b && not (has_untold_end id n past) || has_untold_birth id n past) (sym (recorded_known id n))
 
-    -- no id has two
-    single_number : (id : List ℕ) (m n : ℕ) (xs : List Child) → length (filter (is_of id) xs) ≤ 1
+    -- no id has two children
+    single_number : (id : List ℕ) (m n : ℕ) (xs : List Child) → length (filter (is_child_of id) xs) ≤ 1
         → list_any (is_child id m) xs ≡ true → list_any (is_child id n) xs ≡ true → m ≡ n
     single_number id m n xs one has_m has_n =
-        by (find (is_of id) xs) (sym (any_found (is_of id) (λ (child : Child). m == child.number) xs one) ∙ has_m)
-        (sym (any_found (is_of id) (λ (child : Child). n == child.number) xs one) ∙ has_n)
+        by (find (is_child_of id) xs)
+        (sym (any_found (is_child_of id) (λ (child : Child). m == child.number) xs one) ∙ has_m)
+        (sym (any_found (is_child_of id) (λ (child : Child). n == child.number) xs one) ∙ has_n)
       where
         by : (o : Option Child) → option_map_or (λ (child : Child). m == child.number) o false ≡ true
             → option_map_or (λ (child : Child). n == child.number) o false ≡ true → m ≡ n

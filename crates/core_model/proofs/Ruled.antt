@@ -1,29 +1,30 @@
--- What the rules say of each record, and the rules by what holds of each.
+-- What the rules imply for each record, and how the rules follow from what holds for each record.
 use Rattle.core_model.proofs.Words.{arith, ◌≡◌, ◌≤◌, refl, sym, ap, ◌∙◌, Bool, true, false, not, ◌&&◌, ◌||◌, cond, ℕ}
 use Rattle.core_model.proofs.Words.{List, [], ◌∷◌, zip, Option, Some, None, is_some, is_none, list_any, list_all}
 use Rattle.core_model.proofs.Words.{option_map, false≢true, and_parts, and_from, not-true, CLOCK_LIMIT, Act, Entry}
 use Rattle.core_model.proofs.Words.{Mark, Stage, starts_by, lives_by, starts_of, lives_of, same_id, same_id-self}
 use Rattle.core_model.proofs.Words.{same_id-sym, same_act-self, both_ways, is_none-is, has_id, entry_of, act_of}
-use Rattle.core_model.proofs.Words.{is_distinct, Goal, in_run, RecordState, is_record_of, are_distinct, IsInOrder}
+use Rattle.core_model.proofs.Words.{is_distinct, Goal, in_run, SlotState, is_record_of, are_distinct, IsInOrder}
 use Rattle.core_model.proofs.Words.{is_timely, are_timely, is_listed, others, rest_distinct, has_cause, is_birth_known}
 use Rattle.core_model.proofs.Words.{is_order_allowed, is_started, are_starts_along, are_starts_in, are_starts_free}
-use Rattle.core_model.proofs.Words.{is_excluded_in, is_stop_judged, are_marks_due, is_limiter_kept, is_other_level}
+use Rattle.core_model.proofs.Words.{is_excluded_in, is_stop_judged, are_marks_consistent, is_limiter_consistent}
+use Rattle.core_model.proofs.Words.{is_level_wish_valid}
 use Rattle.core_model.proofs.Words.{is_goal_reached, IsFit, CoreState}
-use Rattle.core_records.specs.Judging.{is_excluded}
+use Rattle.child_table.specs.Judging.{is_excluded}
 use Rattle.core_model.proofs.Each.{Each, each_from, each_fails, each_all, each_both, each_less}
 use Rattle.core_model.proofs.Kept.{rules_of, fit_of}
 use Rattle.core_model.proofs.RuledStarts.{along_rest}
 use Rattle.core_model.proofs.RuledRecord.{IsRuled}
 
--- what the rules say of a record, with what follows from all of them: its action is the table's, the child of an open
--- start is not excluded, and its times are no later than now
-pub record IsPlaced (stage : Option Stage) (table : List Entry) (now : ℕ) (slot : RecordState) : Type 0 where
+-- the rules for a record, with what follows from all rules: its action is that of the table, the child of an open start
+-- is not excluded, and no start or signal in it is later than now
+pub record IsPlaced (stage : Option Stage) (table : List Entry) (now : ℕ) (slot : SlotState) : Type 0 where
   pub rules : IsRuled stage table now slot
   pub own : slot.table_act ≡ act_of slot.id table
   pub start : is_started slot ≡ true → is_excluded_in stage slot.table_act (entry_of slot.id table) ≡ false
   pub timely : is_timely now slot ≡ true
 
--- a child may live where its entry starts
+-- a child may live in the stages in which its entry starts
 lives_by-starts : (action : Act) (levels : List Mark) (now : Stage) → starts_by action levels now ≡ true
     → lives_by action levels now ≡ true
 lives_by-starts action levels now h = grind arith
@@ -31,8 +32,8 @@ lives_by-starts action levels now h = grind arith
 pub starts_live : (e : Entry) (now : Stage) → starts_of e now ≡ true → lives_of e now ≡ true
 starts_live e now h = lives_by-starts e.act e.levels.items now h
 
--- the records in order: those behind the first are of other ids
-module _ (e : Entry) (table : List Entry) (slot : RecordState) (slots : List RecordState)
+-- the records are in order, and those after the first have other ids
+module _ (e : Entry) (table : List Entry) (slot : SlotState) (slots : List SlotState)
     (order : IsInOrder (e ∷ table) (slot ∷ slots)) (distinct : are_distinct (slot ∷ slots) ≡ true) where
   own_entry : same_id slot.id e.id ≡ true
   own_entry = ap (same_id slot.id) (sym order.0) ∙ same_id-self slot.id
@@ -45,10 +46,10 @@ module _ (e : Entry) (table : List Entry) (slot : RecordState) (slots : List Rec
       (λ s other. ap (same_id s.id) (sym order.0) ∙ same_id-sym s.id slot.id ∙ other) slots
       (each_fails (is_record_of slot.id) slots (others slot.id slot slots distinct (same_id-self slot.id)))
 
-  entry_behind : (s : RecordState) → same_id s.id e.id ≡ false → entry_of s.id (e ∷ table) ≡ entry_of s.id table
+  entry_behind : (s : SlotState) → same_id s.id e.id ≡ false → entry_of s.id (e ∷ table) ≡ entry_of s.id table
   entry_behind s other = ap (λ b. cond b (Some e) (entry_of s.id table)) other
 
-pub own_each : (table : List Entry) (slots : List RecordState) → IsInOrder table slots → are_distinct slots ≡ true
+pub own_each : (table : List Entry) (slots : List SlotState) → IsInOrder table slots → are_distinct slots ≡ true
     → Each (λ slot. slot.table_act ≡ act_of slot.id table) slots
 own_each [] slots order distinct = each_less (λ s. is_none s.table_act ≡ true) (λ s. s.table_act ≡ None)
     (λ s none. is_none-is s.table_act none) slots (each_from (λ s. is_none s.table_act) slots order)
@@ -62,8 +63,8 @@ own_each (e ∷ table) (slot ∷ slots) order distinct = (
       (apart e table slot slots order distinct) (own_each table slots order.2 (rest_distinct slot slots distinct))),
 )
 
--- no id stands in the table twice
-table_listed : (id : List ℕ) (table : List Entry) (slots : List RecordState) → IsInOrder table slots
+-- no id occurs twice in the table
+table_listed : (id : List ℕ) (table : List Entry) (slots : List SlotState) → IsInOrder table slots
     → is_listed id slots ≡ false → list_any (has_id id) table ≡ false
 table_listed id (e ∷ table) (slot ∷ slots) order none =
     at (is_record_of id slot) refl none (table_listed id table slots order.2)
@@ -74,7 +75,7 @@ table_listed id (e ∷ table) (slot ∷ slots) order none =
     at false is h rest = ap (λ b. b || list_any (has_id id) table) (ap (same_id id) (sym order.0) ∙ is) ∙ rest h
 table_listed id table slots order none = grind arith
 
-pub table_distinct : (table : List Entry) (slots : List RecordState) → IsInOrder table slots → are_distinct slots ≡ true
+pub table_distinct : (table : List Entry) (slots : List SlotState) → IsInOrder table slots → are_distinct slots ≡ true
     → is_distinct table ≡ true
 table_distinct (e ∷ table) (slot ∷ slots) order distinct =
     let none : list_any (has_id e.id) table ≡ false = ap (λ id. list_any (has_id id) table) (sym order.0)
@@ -83,20 +84,20 @@ table_distinct (e ∷ table) (slot ∷ slots) order distinct =
     (table_distinct table slots order.2 (rest_distinct slot slots distinct))
 table_distinct table slots order distinct = grind arith
 
--- an open start is of an entry that starts
+-- an open start is for an entry that starts in the stage
 start_asked : (s a b : Bool) → s ≡ true → (not s || (a && b)) ≡ true → b ≡ true
 start_asked true true b h k = k
 start_asked true false b h k = absurd (false≢true k)
 start_asked false a b h k = absurd (false≢true h)
 
-start_acts : (slot : RecordState) → is_started slot ≡ true → is_order_allowed slot ≡ true
+start_acts : (slot : SlotState) → is_started slot ≡ true → is_order_allowed slot ≡ true
     → is_some slot.table_act ≡ true
 start_acts slot started allowed = grind arith
 
 none_some : {X : Type 0} (o : Option X) → is_none o ≡ true → is_some o ≡ true → ⊥
 none_some o none some = grind arith
 
-start_each : (now : Stage) (table : List Entry) (slots : List RecordState) → IsInOrder table slots
+start_each : (now : Stage) (table : List Entry) (slots : List SlotState) → IsInOrder table slots
     → are_distinct slots ≡ true → list_all is_order_allowed slots ≡ true → are_starts_along now (zip table slots) ≡ true
     → Each (λ slot. is_started slot ≡ true → is_excluded now slot.table_act (entry_of slot.id table) ≡ false) slots
 start_each now [] slots order distinct allowed along = each_less (λ s. (is_none s.table_act ≡ true)
@@ -121,7 +122,7 @@ start_each now (e ∷ table) (slot ∷ slots) order distinct allowed along = (
     head : is_started slot ≡ true → is_excluded now slot.table_act (entry_of slot.id (e ∷ table)) ≡ false
     head started = grind (arith, starts_live, start_asked, entry_first, same_act-self)
 
-start_in : (now : Option Stage) (table : List Entry) (slots : List RecordState) → IsInOrder table slots
+start_in : (now : Option Stage) (table : List Entry) (slots : List SlotState) → IsInOrder table slots
     → are_distinct slots ≡ true → list_all is_order_allowed slots ≡ true → are_starts_in now table slots ≡ true
     → Each (λ slot. is_started slot ≡ true → is_excluded_in now slot.table_act (entry_of slot.id table) ≡ false) slots
 start_in None table slots order distinct allowed none = each_less (λ s. is_started s ≡ false)
@@ -130,24 +131,25 @@ start_in None table slots order distinct allowed none = each_less (λ s. is_star
 start_in (Some now) table slots order distinct allowed along = start_each now table slots order distinct allowed along
 
 -- the rules, record by record
-ruled_each : (now : Option Stage) (table : List Entry) (time : ℕ) (slots : List RecordState) → list_all has_cause slots
-    ≡ true → list_all (λ (slot : RecordState). is_birth_known slot.child) slots ≡ true → list_all is_order_allowed slots
-    ≡ true → list_all (is_stop_judged now table) slots ≡ true → list_all are_marks_due slots ≡ true
-    → list_all (is_limiter_kept time) slots ≡ true → Each (IsRuled now table time) slots
+ruled_each : (now : Option Stage) (table : List Entry) (time : ℕ) (slots : List SlotState) → list_all has_cause slots
+    ≡ true → list_all (λ (slot : SlotState). is_birth_known slot.child) slots ≡ true → list_all is_order_allowed slots
+    ≡ true → list_all (is_stop_judged now table) slots ≡ true → list_all are_marks_consistent slots ≡ true
+    → list_all (is_limiter_consistent time) slots ≡ true → Each (IsRuled now table time) slots
 ruled_each now table time [] causes births orders stops marks limiters = tt
 ruled_each now table time (slot ∷ slots) causes births orders stops marks limiters =
     let cause = and_parts (has_cause slot) (list_all has_cause slots) causes in
     let birth =
-    and_parts (is_birth_known slot.child) (list_all (λ (s : RecordState). is_birth_known s.child) slots) births in
+    and_parts (is_birth_known slot.child) (list_all (λ (s : SlotState). is_birth_known s.child) slots) births in
     let order = and_parts (is_order_allowed slot) (list_all is_order_allowed slots) orders in
     let stop = and_parts (is_stop_judged now table slot) (list_all (is_stop_judged now table) slots) stops in
-    let mark = and_parts (are_marks_due slot) (list_all are_marks_due slots) marks in
-    let limiter = and_parts (is_limiter_kept time slot) (list_all (is_limiter_kept time) slots) limiters in (
+    let mark = and_parts (are_marks_consistent slot) (list_all are_marks_consistent slots) marks in
+    let limiter =
+    and_parts (is_limiter_consistent time slot) (list_all (is_limiter_consistent time) slots) limiters in (
       record { cause = cause.0; birth = birth.0; order = order.0; stop = stop.0; marks = mark.0; limiter = limiter.0 },
       ruled_each now table time slots cause.1 birth.1 order.1 stop.1 mark.1 limiter.1,
     )
 
-placed_each : (now : Option Stage) (table : List Entry) (time : ℕ) (slots : List RecordState)
+placed_each : (now : Option Stage) (table : List Entry) (time : ℕ) (slots : List SlotState)
     → Each (IsRuled now table time) slots → Each (λ s. s.table_act ≡ act_of s.id table) slots
     → Each (λ s. is_started s ≡ true → is_excluded_in now s.table_act (entry_of s.id table) ≡ false) slots
     → Each (λ s. is_timely time s ≡ true) slots → Each (IsPlaced now table time) slots
@@ -166,8 +168,8 @@ each_placed c keeps = placed_each c.fields.stage c.table c.fields.time c.slots
     (rules_of c keeps).starts)
     (each_from (is_timely c.fields.time) c.slots (rules_of c keeps).timely)
 
--- and what the rules say of all together
-pub record AreRuled (now : Option Stage) (table : List Entry) (time : ℕ) (slots : List RecordState) : Type 0 where
+-- the rules for all records together
+pub record AreRuled (now : Option Stage) (table : List Entry) (time : ℕ) (slots : List SlotState) : Type 0 where
   pub each : Each (IsRuled now table time) slots
   pub in_order : IsInOrder table slots
   pub distinct : are_distinct slots ≡ true
@@ -178,7 +180,7 @@ pub record AreRuled (now : Option Stage) (table : List Entry) (time : ℕ) (slot
 pub record IsHeaded (now : Option Stage) (time : ℕ) (other : Option Goal) (settled : Bool) (goal : Goal)
     (booted : Bool) : Type 0 where
   pub clock : time ≤ CLOCK_LIMIT
-  pub wish : is_other_level now other ≡ true
+  pub wish : is_level_wish_valid now other ≡ true
   pub announced : (not settled || in_run now) ≡ true
   pub reached : is_goal_reached now goal booted ≡ true
 
@@ -207,7 +209,7 @@ pub kept_by : (c : CoreState) → AreRuled c.fields.stage c.table c.fields.time 
 kept_by c ruled fields = fit_of c ruled.in_order (record {
   distinct = ruled.distinct;
   caused = each_all (IsRuled c.fields.stage c.table c.fields.time) has_cause (λ s own. own.cause) c.slots ruled.each;
-  births = each_all (IsRuled c.fields.stage c.table c.fields.time) (λ (s : RecordState). is_birth_known s.child)
+  births = each_all (IsRuled c.fields.stage c.table c.fields.time) (λ (s : SlotState). is_birth_known s.child)
       (λ s own. own.birth) c.slots ruled.each;
   orders =
       each_all (IsRuled c.fields.stage c.table c.fields.time) is_order_allowed (λ s own. own.order) c.slots ruled.each;
@@ -215,8 +217,10 @@ kept_by c ruled fields = fit_of c ruled.in_order (record {
   free = ruled.free;
   stops = each_all (IsRuled c.fields.stage c.table c.fields.time) (is_stop_judged c.fields.stage c.table)
       (λ s own. own.stop) c.slots ruled.each;
-  marks = each_all (IsRuled c.fields.stage c.table c.fields.time) are_marks_due (λ s own. own.marks) c.slots ruled.each;
-  limiters = each_all (IsRuled c.fields.stage c.table c.fields.time) (is_limiter_kept c.fields.time)
+  marks =
+      each_all (IsRuled c.fields.stage c.table c.fields.time) are_marks_consistent
+      (λ s own. own.marks) c.slots ruled.each;
+  limiters = each_all (IsRuled c.fields.stage c.table c.fields.time) (is_limiter_consistent c.fields.time)
       (λ s own. own.limiter) c.slots ruled.each;
   timely = ruled.timely;
   clock = fields.clock;

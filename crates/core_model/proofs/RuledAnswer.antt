@@ -1,8 +1,8 @@
--- A record whose order is answered keeps the rules.
+-- A record still obeys the rules when its order is answered.
 use Rattle.core_model.proofs.Words.{arith, ◌≡◌, refl, sym, ap, ◌∙◌, subst, Bool, true, false, not, ◌&&◌, ◌||◌, cond, ℕ}
 use Rattle.core_model.proofs.Words.{List, Option, Some, None, is_some, is_none, false≢true, and_parts, Status, Entry}
 use Rattle.core_model.proofs.Words.{OrderKind, Start, Look, Term, Kill, Answer, Stage, answers, or_true, or_false}
-use Rattle.core_model.proofs.Words.{is_order, Stop, Termed, Killed, RecordState, after_hit, after_answer, is_over}
+use Rattle.core_model.proofs.Words.{is_order, Stop, Termed, Killed, SlotState, after_hit, after_answer, is_over}
 use Rattle.core_model.proofs.Words.{may_follow, allows_order, is_started, is_child_excluded, may_be_signalled}
 use Rattle.init_words.specs.declared.orders.Answer.TheVariants.{Born, NotBorn, Ended, Alive, NoLook, Hit, Miss}
 use Rattle.core_model.proofs.Ruled.{IsPlaced}
@@ -13,7 +13,7 @@ abbrev pub is_answered : Answer → Option OrderKind → Bool
 is_answered answer None = false
 is_answered answer (Some ask) = answers answer ask
 
--- a child that is signalled may be, and is excluded
+-- a child with an open signal may be sent one, so it is excluded
 signalled : (ask : OrderKind) (stop : Option Stop) → may_follow ask stop ≡ true → may_be_signalled stop ≡ true
 signalled ask stop h = grind arith
 
@@ -32,15 +32,15 @@ some_from o h = grind arith
 none_from : {X Y : Type 0} (o : Option X) (p : Option Y) → is_none o ≡ true → (is_some o || is_none p) ≡ true → p ≡ None
 none_from o p h k = grind arith
 
--- one record: with its order answered
-module _ (stage : Option Stage) (table : List Entry) (now : ℕ) (slot : RecordState)
+-- one record, when its order is answered
+module _ (stage : Option Stage) (table : List Entry) (now : ℕ) (slot : SlotState)
     (placed : IsPlaced stage table now slot) where
-  -- what the rules say of its open order
+  -- what the rules say about its open order
   allowed : (ask : OrderKind) → slot.order ≡ Some ask → allows_order (Some ask) slot ≡ true
   allowed ask is = sym (ap (λ o. allows_order o slot) is) ∙ placed.rules.order
 
-  -- only the order is over
-  rest_ruled : (after : RecordState) → after ≡ record slot { order = None } → IsRuled stage table now after
+  -- the answer only ends the order
+  rest_ruled : (after : SlotState) → after ≡ record slot { order = None } → IsRuled stage table now after
   rest_ruled after is = subst (IsRuled stage table now) (sym is) (record {
     cause = placed.rules.cause;
     birth = placed.rules.birth;
@@ -69,12 +69,12 @@ module _ (stage : Option Stage) (table : List Entry) (now : ℕ) (slot : RecordS
         limiter = placed.rules.limiter;
       }
 
-  ended_ruled : (status : Status) (after : RecordState) → after
+  ended_ruled : (status : Status) (after : SlotState) → after
       ≡ record slot { order = None; child = None; stop = None; look = false; missed = false; last = Some status }
       → is_none slot.table_act ≡ false → IsRuled stage table now after
   ended_ruled status after is stays =
       let marked = marks_parts slot placed.rules.marks in
-      let left : RecordState =
+      let left : SlotState =
       record slot { order = None; child = None; stop = None; look = false; missed = false; last = Some status } in
       subst (IsRuled stage table now) (sym is) (record {
         cause = or_false (is_some slot.table_act) ∙ some_from slot.table_act stays;
@@ -90,7 +90,7 @@ module _ (stage : Option Stage) (table : List Entry) (now : ℕ) (slot : RecordS
       → IsRuled stage table now (record slot { order = None; stop = stop; missed = false })
   hit_ruled stop new old =
       let marked = marks_parts slot placed.rules.marks in
-      let after : RecordState = record slot { order = None; stop = stop; missed = false } in
+      let after : SlotState = record slot { order = None; stop = stop; missed = false } in
       record {
         cause = placed.rules.cause;
         birth = placed.rules.birth;
@@ -121,7 +121,7 @@ module _ (stage : Option Stage) (table : List Entry) (now : ℕ) (slot : RecordS
   miss_ruled : may_be_signalled slot.stop ≡ true → IsRuled stage table now (record slot { order = None; missed = true })
   miss_ruled may =
       let marked = marks_parts slot placed.rules.marks in
-      let after : RecordState = record slot { order = None; missed = true } in
+      let after : SlotState = record slot { order = None; missed = true } in
       record {
         cause = placed.rules.cause;
         birth = placed.rules.birth;
@@ -147,7 +147,7 @@ module _ (stage : Option Stage) (table : List Entry) (now : ℕ) (slot : RecordS
   told_ruled Hit is stays = hit_by slot.order refl is
   told_ruled Miss is stays = miss_ruled (miss_by slot.order refl is)
 
-  -- it had a child, or an open start; so its answer makes nothing more owed, and begins no stop
+  -- the record had a child or an open start, so the answer makes no entry owed and does not begin to stop a child
   pub was_busy : (answer : Answer) (o : Option OrderKind) → slot.order ≡ o → is_answered answer o ≡ true
       → (is_some slot.child || is_started slot) ≡ true
   was_busy answer o is h = grind arith

@@ -1,8 +1,8 @@
--- The records after an order and after a hold keep the rules.
+-- The records still obey the rules after an order and after a hold.
 use Rattle.core_model.proofs.Words.{◌≡◌, refl, sym, ap, ◌∙◌, Bool, true, false, not, ◌&&◌, ◌||◌, cond, ℕ, List, [], ◌∷◌}
 use Rattle.core_model.proofs.Words.{map, zip, Option, Some, is_some, is_none, arith, list_any, false≢true, and_parts}
 use Rattle.core_model.proofs.Words.{and_from, or_left, Entry, OrderKind, Start, Look, Term, Kill, Stage, both_ways}
-use Rattle.core_model.proofs.Words.{may_of, with_start, with_hold, Order, RecordState, is_limited_record}
+use Rattle.core_model.proofs.Words.{may_of, with_start, with_hold, Order, SlotState, is_limited_record}
 use Rattle.core_model.proofs.Words.{stays_called_record, allows, can_be_asked, after_order, after_hold, is_record_of}
 use Rattle.core_model.proofs.Words.{changed, with_changed, id-after_order, kept_by_one, order_changed, act-after_order}
 use Rattle.core_model.proofs.Words.{timely_changed, timely_order, timely_parts, has_excluded, decide, may_follow}
@@ -17,8 +17,8 @@ use Rattle.core_model.proofs.RuledLimits.{start_kept, hold_kept}
 use Rattle.core_model.proofs.RuledStarts.{IsLess, less_same, less_busy, along_less, free_less}
 use Rattle.core_model.proofs.RuledRecord.{IsRuled, stop_same, allowed_same, marks_parts, marks_from}
 
--- one record, of which something may be asked
-module _ (stage : Option Stage) (table : List Entry) (now : ℕ) (slot : RecordState)
+-- one record, for which an order may be given
+module _ (stage : Option Stage) (table : List Entry) (now : ℕ) (slot : SlotState)
     (placed : IsPlaced stage table now slot) where
   look_ruled : is_some slot.child ≡ true → IsRuled stage table now (after_order Look now slot)
   look_ruled there =
@@ -56,7 +56,7 @@ module _ (stage : Option Stage) (table : List Entry) (now : ℕ) (slot : RecordS
     limiter = placed.rules.limiter;
   }
 
-  -- a call that a start ends, or not, is still that of an entry that is called
+  -- a call that a start ends or not is still a call of an entry that can be called
   call_less : (stays called callable : Bool) → (not called || callable) ≡ true
       → (not (stays && called) || callable) ≡ true
   call_less true called callable h = h
@@ -124,13 +124,13 @@ module _ (stage : Option Stage) (table : List Entry) (now : ℕ) (slot : RecordS
       by true is free denied h = hold_kept now slot.limiter free denied h
       by false is free denied h = absurd (false≢true is)
 
--- all of them, where the step was decided
+-- all records, after the step that was decided
 module _ (c : CoreState) (keeps : IsFit c) (id : List ℕ) where
   module _ (ask : OrderKind) (is : decide c ≡ Order id ask) where
-    abbrev order : RecordState → RecordState
+    abbrev order : SlotState → SlotState
     order slot = changed id (after_order ask c.fields.time) slot
 
-    abbrev IsAsked : RecordState → Type 0
+    abbrev IsAsked : SlotState → Type 0
     IsAsked slot = IsPlaced c.fields.stage c.table c.fields.time slot
         × (is_record_of id slot ≡ true → is_askable ask c.fields.time slot ≡ true)
 
@@ -156,28 +156,28 @@ module _ (c : CoreState) (keeps : IsFit c) (id : List ℕ) where
           (λ s h. timely_order ask c.fields.time c.fields.time (omega arith) s h) c.slots (rules_of c keeps).timely;
     }
 
-    order_stops : (slot : RecordState) → (after_order ask c.fields.time slot).stop ≡ slot.stop
+    order_stops : (slot : SlotState) → (after_order ask c.fields.time slot).stop ≡ slot.stop
     order_stops slot = grind arith
 
-    stop_of : (slot : RecordState) (b : Bool)
+    stop_of : (slot : SlotState) (b : Bool)
         → is_some (cond b (after_order ask c.fields.time slot) slot).stop ≡ is_some slot.stop
     stop_of slot true = ap is_some (order_stops slot)
     stop_of slot false = refl
 
-    stops_same : (slots : List RecordState) → has_excluded (map order slots) ≡ has_excluded slots
+    stops_same : (slots : List SlotState) → has_excluded (map order slots) ≡ has_excluded slots
     stops_same [] = refl
     stops_same (slot ∷ slots) = λ i. stop_of slot (is_record_of id slot) i || stops_same slots i
 
     -- an order about a child
-    module _ (there : (slot : RecordState) → is_askable ask c.fields.time slot ≡ true → is_some slot.child ≡ true)
-        (plain : (slot : RecordState) → is_started (after_order ask c.fields.time slot) ≡ false) where
-      order_less : (slot : RecordState) → IsAsked slot → (now : Stage) (e : Entry) (b : Bool) → is_record_of id slot ≡ b
+    module _ (there : (slot : SlotState) → is_askable ask c.fields.time slot ≡ true → is_some slot.child ≡ true)
+        (plain : (slot : SlotState) → is_started (after_order ask c.fields.time slot) ≡ false) where
+      order_less : (slot : SlotState) → IsAsked slot → (now : Stage) (e : Entry) (b : Bool) → is_record_of id slot ≡ b
           → IsLess now e slot (cond b (after_order ask c.fields.time slot) slot)
       order_less slot own now e true here = less_busy now e slot (after_order ask c.fields.time slot)
           (or_left (is_some slot.child) (is_started slot) (there slot (own.1 here))) (plain slot)
       order_less slot own now e false here = less_same now e slot
 
-      started_less : (slot : RecordState) (b : Bool)
+      started_less : (slot : SlotState) (b : Bool)
           → is_started (cond b (after_order ask c.fields.time slot) slot) ≡ true → is_started slot ≡ true
       started_less slot true h = both_ways (is_started (after_order ask c.fields.time slot)) h (plain slot)
       started_less slot false h = h
@@ -194,7 +194,7 @@ module _ (c : CoreState) (keeps : IsFit c) (id : List ℕ) where
           (each_less IsAsked (λ s. is_some (order s).stop ≡ true → is_some s.stop ≡ true)
           (λ s own h. sym (stop_of s (is_record_of id s)) ∙ h) c.slots each_asked) (rules_of c keeps).free)
 
-  -- a start, where no child is excluded
+  -- a start, when no child is excluded
   pub start_all_ruled : decide c ≡ Order id Start → (now : Stage) → c.fields.stage ≡ Some now → has_excluded c.slots
       ≡ false → are_starts_along now (zip c.table (with_changed id (after_order Start c.fields.time) c.slots)) ≡ true
       → AreRuled c.fields.stage c.table c.fields.time (with_changed id (after_order Start c.fields.time) c.slots)
@@ -210,10 +210,10 @@ module _ (c : CoreState) (keeps : IsFit c) (id : List ℕ) where
 
   -- a hold
   module _ (is : decide c ≡ Hold id) where
-    abbrev hold : RecordState → RecordState
+    abbrev hold : SlotState → SlotState
     hold slot = changed id (after_hold c.fields.time) slot
 
-    abbrev IsHeld : RecordState → Type 0
+    abbrev IsHeld : SlotState → Type 0
     IsHeld slot = IsPlaced c.fields.stage c.table c.fields.time slot
         × (is_record_of id slot ≡ true → is_holdable c.fields.time slot ≡ true)
 
@@ -222,17 +222,17 @@ module _ (c : CoreState) (keeps : IsFit c) (id : List ℕ) where
         (λ s. is_record_of id s ≡ true → is_holdable c.fields.time s ≡ true) c.slots (each_placed c keeps) (each_own id
         (is_holdable c.fields.time) c.slots (rules_of c keeps).distinct (decided c keeps.in_order (Hold id) is))
 
-    hold_less : (slot : RecordState) (now : Stage) (e : Entry) (b : Bool)
+    hold_less : (slot : SlotState) (now : Stage) (e : Entry) (b : Bool)
         → IsLess now e slot (cond b (after_hold c.fields.time slot) slot)
     hold_less slot now e true = record { allowed = λ h. h; started = λ h. h; owed = λ h. h }
     hold_less slot now e false = less_same now e slot
 
-    hold_started : (slot : RecordState) (b : Bool) → is_started (cond b (after_hold c.fields.time slot) slot) ≡ true
+    hold_started : (slot : SlotState) (b : Bool) → is_started (cond b (after_hold c.fields.time slot) slot) ≡ true
         → is_started slot ≡ true
     hold_started slot true h = h
     hold_started slot false h = h
 
-    hold_stops : (slot : RecordState) (b : Bool) → is_some (cond b (after_hold c.fields.time slot) slot).stop ≡ true
+    hold_stops : (slot : SlotState) (b : Bool) → is_some (cond b (after_hold c.fields.time slot) slot).stop ≡ true
         → is_some slot.stop ≡ true
     hold_stops slot true h = h
     hold_stops slot false h = h

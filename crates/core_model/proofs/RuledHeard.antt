@@ -1,9 +1,10 @@
--- A request, a reading of the clock and a round leave a core that keeps the rules.
+-- A core still obeys the rules after a request, a clock reading and a round.
 use Rattle.core_model.proofs.Words.{◌≡◌, ◌≤◌, refl, ap, ◌∙◌, Bool, true, false, not, ◌||◌, cond, ℕ, max, min, Option}
 use Rattle.core_model.proofs.Words.{Some, None, is_some, arith, CLOCK_LIMIT, Entry, Level, Stage, same_level}
-use Rattle.core_model.proofs.Words.{HeardRequest, Goal, RecordState, after_begin_round, order_map, timely_map}
-use Rattle.core_model.proofs.Words.{timely_later, is_started, is_other_level, is_goal_reached, IsFit, CoreState}
-use Rattle.core_model.proofs.Words.{after_clock, after_round, heard_in, after_got, after_not_read, after_handed}
+use Rattle.core_model.proofs.Words.{HeardRequest, Goal, SlotState, after_nudge, order_map, timely_map}
+use Rattle.core_model.proofs.Words.{timely_later, is_started, is_level_wish_valid, is_goal_reached, IsFit, CoreState}
+use Rattle.core_model.proofs.Words.{after_clock, after_round, fields_after_level, after_got, after_not_read}
+use Rattle.core_model.proofs.Words.{after_handed}
 use Rattle.core_model.proofs.Words.{after_handed_on}
 use Rattle.init_words.specs.declared.stages.Stage.TheVariants as stage
 use Rattle.initctl_frame.specs.declared.requests.HeardRequest.TheVariants as got
@@ -15,7 +16,7 @@ use Rattle.core_model.proofs.RuledStarts.{IsLess, starts_less, free_less}
 use Rattle.core_model.proofs.RuledRecord.{IsRuled, stop_same, allowed_same, marks_parts, marks_from}
 
 module _ (c : CoreState) (keeps : IsFit c) where
-  -- a level that was asked for: the goal before the run levels, and a wish for another in one
+  -- a request for a level: it becomes the pending request in a runlevel, and the goal in any other stage
   goal_heard : (wish : Goal) → is_goal_reached c.fields.stage wish c.fields.booted ≡ is_goal_reached c.fields.stage
       c.fields.goal c.fields.booted → IsFit (record c { fields = record c.fields { goal = wish; reread = true } })
   goal_heard wish same =
@@ -41,13 +42,13 @@ module _ (c : CoreState) (keeps : IsFit c) where
   wish_heard now wish is false other = kept_by
       (record c { fields = record c.fields { level_wish = Some wish; reread = true } }) (all_kept c keeps) (record {
         clock = (rules_of c keeps).clock;
-        wish = ap (λ o. is_other_level o (Some wish)) is ∙ ap not other;
+        wish = ap (λ o. is_level_wish_valid o (Some wish)) is ∙ ap not other;
         announced = (rules_of c keeps).announced;
         reached = (rules_of c keeps).reached;
       })
 
   level_heard : (wish : Goal) (o : Option Stage) → c.fields.stage ≡ o
-      → IsFit (record c { fields = heard_in o wish c.fields })
+      → IsFit (record c { fields = fields_after_level o wish c.fields })
   level_heard wish o is = grind (arith, goal_heard, wish_heard)
 
   pub got_keeps : (request : HeardRequest) → IsFit (after_got request c)
@@ -58,7 +59,7 @@ module _ (c : CoreState) (keeps : IsFit c) where
   got_keeps (got.Power kind) = kept_by (after_got (got.Power kind) c) (all_kept c keeps) (fields_kept c keeps)
   got_keeps (got.Nothing cause) = keeps
 
-  -- an inittab that could not be read, and a hand-over
+  -- inittab could not be read, and a hand-over
   pub not_read_keeps : IsFit (after_not_read c)
   not_read_keeps = kept_by (after_not_read c) (all_kept c keeps) (fields_kept c keeps)
 
@@ -68,8 +69,8 @@ module _ (c : CoreState) (keeps : IsFit c) where
   pub handed_on_keeps : IsFit (after_handed_on c)
   handed_on_keeps = kept_by (after_handed_on c) (all_kept c keeps) (fields_kept c keeps)
 
-  -- a reading of the clock
-  later_ruled : (later : ℕ) → c.fields.time ≤ later → (slot : RecordState)
+  -- a clock reading
+  later_ruled : (later : ℕ) → c.fields.time ≤ later → (slot : SlotState)
       → IsRuled c.fields.stage c.table c.fields.time slot → IsRuled c.fields.stage c.table later slot
   later_ruled later more slot own = record {
     cause = own.cause;
@@ -105,16 +106,16 @@ module _ (c : CoreState) (keeps : IsFit c) where
       })
 
   -- a round
-  round_ruled : (slot : RecordState) → IsRuled c.fields.stage c.table c.fields.time slot
-      → IsRuled c.fields.stage c.table c.fields.time (after_begin_round slot)
+  round_ruled : (slot : SlotState) → IsRuled c.fields.stage c.table c.fields.time slot
+      → IsRuled c.fields.stage c.table c.fields.time (after_nudge slot)
   round_ruled slot own =
       let marked = marks_parts slot own.marks in
       record {
         cause = own.cause;
         birth = own.birth;
-        order = allowed_same slot.order slot (after_begin_round slot) refl refl refl own.order;
-        stop = stop_same slot.child c.fields.stage c.table slot (after_begin_round slot) slot.stop refl own.stop;
-        marks = marks_from (after_begin_round slot)
+        order = allowed_same slot.order slot (after_nudge slot) refl refl refl own.order;
+        stop = stop_same slot.child c.fields.stage c.table slot (after_nudge slot) slot.stop refl own.stop;
+        marks = marks_from (after_nudge slot)
             (record {
               look = looked (is_some slot.child) slot.look marked.look;
               missed = refl;
@@ -130,16 +131,16 @@ module _ (c : CoreState) (keeps : IsFit c) where
   pub round_keeps : IsFit (after_round c)
   round_keeps = kept_by (after_round c) (record {
     each = each_map (IsRuled c.fields.stage c.table c.fields.time)
-        (IsRuled c.fields.stage c.table c.fields.time) after_begin_round round_ruled c.slots (all_kept c keeps).each;
-    in_order = order_map after_begin_round (λ s. refl) (λ s. refl) c.table c.slots keeps.in_order;
-    distinct = distinct_map after_begin_round (λ s. refl) c.slots (rules_of c keeps).distinct;
-    starts = starts_less c.fields.stage after_begin_round c.table c.slots
-        (each_always (λ s. is_started (after_begin_round s) ≡ true → is_started s ≡ true) (λ s h. h) c.slots)
-        (λ now. each_always (λ s. (e : Entry) → IsLess now e s (after_begin_round s))
+        (IsRuled c.fields.stage c.table c.fields.time) after_nudge round_ruled c.slots (all_kept c keeps).each;
+    in_order = order_map after_nudge (λ s. refl) (λ s. refl) c.table c.slots keeps.in_order;
+    distinct = distinct_map after_nudge (λ s. refl) c.slots (rules_of c keeps).distinct;
+    starts = starts_less c.fields.stage after_nudge c.table c.slots
+        (each_always (λ s. is_started (after_nudge s) ≡ true → is_started s ≡ true) (λ s h. h) c.slots)
+        (λ now. each_always (λ s. (e : Entry) → IsLess now e s (after_nudge s))
         (λ s e. record { allowed = λ h. h; started = λ h. h; owed = λ h. h }) c.slots) (rules_of c keeps).starts;
-    free = free_less after_begin_round c.slots (each_always (λ s. is_started (after_begin_round s) ≡ true → is_started s
+    free = free_less after_nudge c.slots (each_always (λ s. is_started (after_nudge s) ≡ true → is_started s
         ≡ true) (λ s h. h) c.slots)
-        (each_always (λ s. is_some (after_begin_round s).stop ≡ true → is_some s.stop ≡ true)
+        (each_always (λ s. is_some (after_nudge s).stop ≡ true → is_some s.stop ≡ true)
         (λ s h. h) c.slots) (rules_of c keeps).free;
-    timely = timely_map c.fields.time after_begin_round (λ s h. h) c.slots (rules_of c keeps).timely;
+    timely = timely_map c.fields.time after_nudge (λ s h. h) c.slots (rules_of c keeps).timely;
   }) (fields_kept c keeps)

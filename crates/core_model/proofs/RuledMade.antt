@@ -1,16 +1,16 @@
--- The records that are made at a quiet point keep the rules: those of an opening, of a stage, of a table and of a call.
+-- The records made at a quiet point obey the rules: those of a new core, and after a stage, a table and a call.
 use Rattle.core_model.proofs.Words.{◌≡◌, refl, sym, ap, ◌∙◌, subst, Bool, true, false, not, ◌&&◌, ◌||◌, ℕ, List, []}
 use Rattle.core_model.proofs.Words.{◌∷◌, map, filter, Option, Some, None, list_any, option_map, option_map_or}
 use Rattle.core_model.proofs.Words.{false≢true, and_parts, and_from, Entry, Stage, same_id, has_id, entry_of, act_of}
-use Rattle.core_model.proofs.Words.{is_distinct, RecordState, new_record, adopted, left_over, is_left_over}
+use Rattle.core_model.proofs.Words.{is_distinct, SlotState, new_record, adopted, left_over, is_left_over}
 use Rattle.core_model.proofs.Words.{entry_records, left_records, after_call, after_enter, after_judge, are_distinct}
 use Rattle.core_model.proofs.Words.{record_by_id, is_busy, IsInOrder, is_timely, are_timely, id-after_judge}
 use Rattle.core_model.proofs.Words.{timely_judge, timely_enter, is_listed, order_map, order_adopt, order_new}
 use Rattle.core_model.proofs.Words.{act-after_judge, timely_map, is_callable, IsFit, CoreState, called_if, with_called}
 use Rattle.core_model.proofs.Words.{judged_in}
-use Rattle.core_records.specs.Adopting as adopting
-use Rattle.core_records.specs.Lists.{is_quiet}
-use Rattle.core_records.proofs.Adopted.{adopt_distinct, timely_adopt}
+use Rattle.child_table.specs.Adopting as adopting
+use Rattle.child_table.specs.Lists.{is_quiet}
+use Rattle.child_table.proofs.Adopted.{adopt_distinct, timely_adopt}
 use Rattle.core_model.proofs.Kept.{rules_of}
 use Rattle.core_model.proofs.Each.{Each, each_fails, each_less, each_both, each_map, each_filter, each_joined}
 use Rattle.core_model.proofs.Each.{each_found, distinct_map}
@@ -21,15 +21,15 @@ use Rattle.core_model.proofs.RuledRecord.{IsRuled, stop_same, marks_parts, marks
 use Rattle.core_model.proofs.RuledReady.{IsReady, IsCalm, judged_ruled, ready_enter, ready_new, ready_adopted}
 use Rattle.core_model.proofs.RuledReady.{ready_left, dawn_stop, dawn_ruled}
 
--- the records of a table, by what holds of those before
-entries_each : (Q : RecordState → Type 0) (slots : List RecordState) → ((e : Entry)
+-- the records of a table, from what holds for the records before
+entries_each : (Q : SlotState → Type 0) (slots : List SlotState) → ((e : Entry)
     → Q (adopted e (record_by_id e.id slots))) → (table : List Entry) → Each Q (entry_records table slots)
 entries_each Q slots keeps [] = tt
 entries_each Q slots keeps (e ∷ table) = (keeps e, entries_each Q slots keeps table)
 
-adopted_each : (P Q : RecordState → Type 0) (table : List Entry) (slots : List RecordState)
-    → ((e : Entry) → Q (new_record e)) → ((e : Entry) (slot : RecordState) → P slot → Q (adopted e (Some slot)))
-    → ((slot : RecordState) → is_left_over table slot ≡ true → P slot → Q (left_over slot)) → Each P slots
+adopted_each : (P Q : SlotState → Type 0) (table : List Entry) (slots : List SlotState)
+    → ((e : Entry) → Q (new_record e)) → ((e : Entry) (slot : SlotState) → P slot → Q (adopted e (Some slot)))
+    → ((slot : SlotState) → is_left_over table slot ≡ true → P slot → Q (left_over slot)) → Each P slots
     → Each Q (adopting.after_adopt table slots)
 adopted_each P Q table slots new kept left each = each_joined Q (entry_records table slots) (left_records table slots)
     (entries_each Q slots (λ e. at e (record_by_id e.id slots) refl) table)
@@ -37,17 +37,17 @@ adopted_each P Q table slots new kept left each = each_joined Q (entry_records t
     (filter (is_left_over table) slots)
     (each_filter P (λ s. P s × (is_left_over table s ≡ true)) (is_left_over table) (λ s is own. (own, is)) slots each))
   where
-    at : (e : Entry) (o : Option RecordState) → record_by_id e.id slots ≡ o → Q (adopted e o)
+    at : (e : Entry) (o : Option SlotState) → record_by_id e.id slots ≡ o → Q (adopted e o)
     at e None is = new e
     at e (Some slot) is = kept e slot (each_found P e.id slots slot is each)
 
--- records that keep the rules, with no start and no signal open, keep those on starts
-quiet_each : (slots : List RecordState) → Each (λ s. is_busy s.order ≡ false) slots → is_quiet slots ≡ true
+-- records that obey the rules, with no start and no signal open, obey those about starts
+quiet_each : (slots : List SlotState) → Each (λ s. is_busy s.order ≡ false) slots → is_quiet slots ≡ true
 quiet_each [] each = refl
 quiet_each (slot ∷ slots) each =
-    ap (λ b. not (b || list_any (λ (s : RecordState). is_busy s.order) slots)) each.0 ∙ quiet_each slots each.1
+    ap (λ b. not (b || list_any (λ (s : SlotState). is_busy s.order) slots)) each.0 ∙ quiet_each slots each.1
 
-quiet_ruled : (stage : Option Stage) (table : List Entry) (now : ℕ) (slots : List RecordState)
+quiet_ruled : (stage : Option Stage) (table : List Entry) (now : ℕ) (slots : List SlotState)
     → Each (IsCalm stage table now) slots → IsInOrder table slots → are_distinct slots ≡ true
     → are_timely now slots ≡ true → AreRuled stage table now slots
 quiet_ruled stage table now slots each order distinct timely =
@@ -85,16 +85,16 @@ opening_ruled table distinct =
     timely [] = refl
     timely (e ∷ es) = timely es
 
--- a call leaves each record its id and its action
-pub called_id : (b : Bool) (slot : RecordState) → (called_if b slot).id ≡ slot.id
+-- a call changes neither the id of a record nor its action
+pub called_id : (b : Bool) (slot : SlotState) → (called_if b slot).id ≡ slot.id
 called_id true slot = refl
 called_id false slot = refl
 
-pub called_act : (b : Bool) (slot : RecordState) → (called_if b slot).table_act ≡ slot.table_act
+pub called_act : (b : Bool) (slot : SlotState) → (called_if b slot).table_act ≡ slot.table_act
 called_act true slot = refl
 called_act false slot = refl
 
--- a quiet point of a core that keeps the rules
+-- a quiet point of a core that obeys the rules
 module _ (c : CoreState) (keeps : IsFit c) (quiet : is_quiet c.slots ≡ true) where
   calm_each : Each (IsCalm c.fields.stage c.table c.fields.time) c.slots
   calm_each = each_both (IsRuled c.fields.stage c.table c.fields.time) (λ s. is_busy s.order ≡ false) c.slots (each_less
@@ -157,12 +157,12 @@ module _ (c : CoreState) (keeps : IsFit c) (quiet : is_quiet c.slots ≡ true) w
         (judged_in c.fields.stage table (adopting.after_adopt table c.slots))
     adopted_ruled = adopted_in c.fields.stage refl
 
-  -- entries that may be called are called
+  -- entries that can be called are called
   module _ (named : Entry → Bool) (callable : (e : Entry) → named e ≡ true → is_callable (Some e.act) ≡ true) where
-    abbrev call : RecordState → RecordState
+    abbrev call : SlotState → SlotState
     call slot = called_if (list_any (λ e. has_id slot.id e && named e) c.table) slot
 
-    named_callable : (slot : RecordState) → slot.table_act ≡ act_of slot.id c.table
+    named_callable : (slot : SlotState) → slot.table_act ≡ act_of slot.id c.table
         → list_any (λ e. has_id slot.id e && named e) c.table ≡ true → is_callable slot.table_act ≡ true
     named_callable slot own h = ap is_callable own ∙ at (entry_of slot.id c.table) (sym (named_own named slot.id c.table
         (table_distinct c.table c.slots keeps.in_order (rules_of c keeps).distinct)) ∙ h)
@@ -172,7 +172,7 @@ module _ (c : CoreState) (keeps : IsFit c) (quiet : is_quiet c.slots ≡ true) w
         at None h = absurd (false≢true h)
         at (Some e) h = callable e h
 
-    call_ruled : (b : Bool) (slot : RecordState) → (b ≡ true → is_callable slot.table_act ≡ true) → IsCalm
+    call_ruled : (b : Bool) (slot : SlotState) → (b ≡ true → is_callable slot.table_act ≡ true) → IsCalm
         c.fields.stage c.table c.fields.time slot → IsCalm c.fields.stage c.table c.fields.time (called_if b slot)
     call_ruled true slot may calm =
         let marked = marks_parts slot calm.0.marks in (
@@ -189,7 +189,7 @@ module _ (c : CoreState) (keeps : IsFit c) (quiet : is_quiet c.slots ≡ true) w
         )
     call_ruled false slot may calm = calm
 
-    called_timely : (b : Bool) (slot : RecordState) → is_timely c.fields.time slot ≡ true
+    called_timely : (b : Bool) (slot : SlotState) → is_timely c.fields.time slot ≡ true
         → is_timely c.fields.time (called_if b slot) ≡ true
     called_timely true slot h = h
     called_timely false slot h = h

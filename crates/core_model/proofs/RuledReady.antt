@@ -1,28 +1,28 @@
--- A record at a quiet point, as a stage judges it and as a table adopts it, keeps the rules.
+-- A record at a quiet point still obeys the rules after it was judged by a stage, and after a table was adopted.
 use Rattle.core_model.proofs.Words.{arith, ◌≡◌, refl, sym, ap, ◌∙◌, Bool, true, false, not, ◌||◌, cond, ℕ, List, Option}
 use Rattle.core_model.proofs.Words.{Some, None, is_some, is_none, option_or, and_parts, unused, Entry, Stage}
-use Rattle.core_model.proofs.Words.{is_limited, entry_of, KnownChild, Stop, Due, RecordState, new_record}
+use Rattle.core_model.proofs.Words.{is_limited, entry_of, KnownChild, Stop, Due, SlotState, new_record}
 use Rattle.core_model.proofs.Words.{is_limited_record, adopted, left_over, is_left_over, after_enter, judged}
 use Rattle.core_model.proofs.Words.{judged_child, after_judge, is_busy, order-after_judge, has_cause, is_birth_known}
 use Rattle.core_model.proofs.Words.{is_order_allowed, is_child_excluded, is_stop_judged, may_be_signalled}
-use Rattle.core_model.proofs.Words.{is_limit_kept, is_unused, is_limiter_kept}
-use Rattle.core_records.specs.Judging.{is_excluded}
+use Rattle.core_model.proofs.Words.{is_limit_kept, is_unused, is_limiter_consistent}
+use Rattle.child_table.specs.Judging.{is_excluded}
 use Rattle.core_model.proofs.RuledRecord.{IsRuled, IsMarked, marks_parts, marks_from, calm_order, stop_childless}
 
--- a record at a quiet point that can be judged by a stage
-pub record IsReady (now : ℕ) (slot : RecordState) : Type 0 where
+-- a record at a quiet point, which a stage can judge
+pub record IsReady (now : ℕ) (slot : SlotState) : Type 0 where
   pub cause : has_cause slot ≡ true
   pub birth : is_birth_known slot.child ≡ true
   pub calm : is_busy slot.order ≡ false
   pub order : is_order_allowed slot ≡ true
   pub childless : (is_some slot.child || is_none slot.stop) ≡ true
   pub marks : IsMarked slot
-  pub limiter : is_limiter_kept now slot ≡ true
+  pub limiter : is_limiter_consistent now slot ≡ true
 
-abbrev pub IsCalm : Option Stage → List Entry → ℕ → RecordState → Type 0
+abbrev pub IsCalm : Option Stage → List Entry → ℕ → SlotState → Type 0
 IsCalm stage table now slot = IsRuled stage table now slot × (is_busy slot.order ≡ false)
 
-pub judged_ruled : (stage : Stage) (table : List Entry) (now : ℕ) (slot : RecordState) → IsReady now slot
+pub judged_ruled : (stage : Stage) (table : List Entry) (now : ℕ) (slot : SlotState) → IsReady now slot
     → IsCalm (Some stage) table now (after_judge table stage slot)
 judged_ruled stage table now slot ready =
     (by_child slot.child refl, ap is_busy (order-after_judge table stage slot) ∙ ready.calm)
@@ -76,13 +76,13 @@ judged_ruled stage table now slot ready =
     }
     by_child (Some child) is = by child is (is_excluded stage child.act (entry_of slot.id table)) refl
 
--- a limiter that was never used
+-- an unused limiter
 fresh_limiter : (now : ℕ) (limited : Bool) → cond limited (is_limit_kept now unused) (is_unused unused) ≡ true
 fresh_limiter now true = refl
 fresh_limiter now false = refl
 
--- the records of a quiet point, ready for a stage: as they are, of a table's entry, and left over
-pub ready_enter : (stage : Option Stage) (table : List Entry) (now : ℕ) (slot : RecordState)
+-- the records at a quiet point, ready for a stage: as they are, of an entry of the table, and without an entry
+pub ready_enter : (stage : Option Stage) (table : List Entry) (now : ℕ) (slot : SlotState)
     → IsCalm stage table now slot → IsReady now (after_enter slot)
 ready_enter stage table now slot calm =
     let marked = marks_parts slot calm.0.marks in
@@ -107,7 +107,7 @@ ready_new now e = record {
   limiter = fresh_limiter now (is_limited e.act);
 }
 
-pub ready_adopted : (stage : Option Stage) (table : List Entry) (now : ℕ) (e : Entry) (slot : RecordState)
+pub ready_adopted : (stage : Option Stage) (table : List Entry) (now : ℕ) (e : Entry) (slot : SlotState)
     → IsCalm stage table now slot → IsReady now (adopted e (Some slot))
 ready_adopted stage table now e slot calm =
     let marked = marks_parts slot calm.0.marks in
@@ -121,7 +121,7 @@ ready_adopted stage table now e slot calm =
       limiter = fresh_limiter now (is_limited e.act);
     }
 
-pub ready_left : (stage : Option Stage) (table next : List Entry) (now : ℕ) (slot : RecordState)
+pub ready_left : (stage : Option Stage) (table next : List Entry) (now : ℕ) (slot : SlotState)
     → is_left_over next slot ≡ true → IsCalm stage table now slot → IsReady now (left_over slot)
 ready_left stage table next now slot left calm =
     let marked = marks_parts slot calm.0.marks in
@@ -135,13 +135,13 @@ ready_left stage table next now slot left calm =
       limiter = refl;
     }
 
--- before the first stage each child stays excluded
-pub dawn_stop : (o : Option KnownChild) (table next : List Entry) (before after : RecordState) (stop : Option Stop)
+-- before the first stage, each child stays excluded
+pub dawn_stop : (o : Option KnownChild) (table next : List Entry) (before after : SlotState) (stop : Option Stop)
     → cond (is_child_excluded None table before o) (is_some stop) (is_none stop) ≡ true
     → cond (is_child_excluded None next after o) (is_some stop) (is_none stop) ≡ true
 dawn_stop o table next before after stop h = grind arith
 
-pub dawn_ruled : (table : List Entry) (now : ℕ) (slot : RecordState) → IsReady now slot
+pub dawn_ruled : (table : List Entry) (now : ℕ) (slot : SlotState) → IsReady now slot
     → is_stop_judged None table slot ≡ true → IsCalm None table now slot
 dawn_ruled table now slot ready stop = (
   record {

@@ -1,20 +1,20 @@
--- The start that the walk along the table finds: no open start is behind an owed entry for it.
+-- The start found by the walk along the table: no open start comes after an owed entry because of it.
 use Rattle.core_model.proofs.Words.{arith, ◌≡◌, refl, sym, ap, ◌∙◌, Bool, true, false, not, ◌&&◌, ◌||◌, cond, ℕ, List}
 use Rattle.core_model.proofs.Words.{◌∷◌, zip, Option, Some, None, is_some, is_none, list_any, false≢true, and_parts}
 use Rattle.core_model.proofs.Words.{and_from, or_left, or_right, Entry, Start, Stage, is_limited, starts_of, waited_of}
-use Rattle.core_model.proofs.Words.{same_id-from, both_ways, may_of, Step, Order, RecordState, allows, after_order}
+use Rattle.core_model.proofs.Words.{same_id-from, both_ways, may_of, Step, Order, SlotState, allows, after_order}
 use Rattle.core_model.proofs.Words.{is_record_of, are_distinct, with_changed, IsInOrder, is_listed, others}
 use Rattle.core_model.proofs.Words.{rest_distinct, unchanged, or_else, is_wanted_record, is_owed_record, limited_step}
 use Rattle.core_model.proofs.Words.{start_step, start_along, is_started, is_start_allowed, are_starts_along}
 use Rattle.respawn_limit.specs.Window.{is_held}
 use Rattle.trace_events.specs.declared.steps.Step.TheVariants.{Hold}
 
--- the walk for a start: the first that is found is of a wanted entry, behind none that is owed
-pub record IsFound (now : Stage) (e : Entry) (slot : RecordState) (id : List ℕ) : Type 0 where
+-- the first start found is for a wanted entry, and no entry before it is owed
+pub record IsFound (now : Stage) (e : Entry) (slot : SlotState) (id : List ℕ) : Type 0 where
   pub own : e.id ≡ id
   pub wanted : is_wanted_record now e slot ≡ true
 
-found_start : (now : Stage) (time : ℕ) (e : Entry) (slot : RecordState) (id : List ℕ)
+found_start : (now : Stage) (time : ℕ) (e : Entry) (slot : SlotState) (id : List ℕ)
     → start_step now time e slot ≡ Some (Order id Start) → IsFound now e slot id
 found_start now time e slot id is = can (is_wanted_record now e slot) (is_none slot.child) (is_none slot.order) refl is
   where
@@ -35,10 +35,10 @@ found_start now time e slot id is = can (is_wanted_record now e slot) (is_none s
     can true false f wanted is = absurd (cc)
     can false n f wanted is = absurd (cc)
 
-found_own : (id : List ℕ) (e : Entry) (slot : RecordState) → slot.id ≡ e.id → e.id ≡ id → is_record_of id slot ≡ true
+found_own : (id : List ℕ) (e : Entry) (slot : SlotState) → slot.id ≡ e.id → e.id ≡ id → is_record_of id slot ≡ true
 found_own id e slot own same = same_id-from id slot.id (sym (own ∙ same))
 
-found_listed : (now : Stage) (time : ℕ) (id : List ℕ) (table : List Entry) (slots : List RecordState)
+found_listed : (now : Stage) (time : ℕ) (id : List ℕ) (table : List Entry) (slots : List SlotState)
     → IsInOrder table slots → start_along now time (zip table slots) ≡ Some (Order id Start) → is_listed id slots ≡ true
 found_listed now time id (e ∷ table) (slot ∷ slots) order is =
     at (start_step now time e slot) refl is (found_listed now time id table slots order.2)
@@ -65,13 +65,13 @@ owed_started true false true z y n a wanted h = h
 owed_started true false false true y n a wanted h = h
 owed_started true false false false y n a wanted h = absurd (false≢true wanted)
 
-abbrev none_open : List Entry → List RecordState → Bool
-none_open table rest = not (list_any (λ (q : Entry × RecordState). is_started q.1) (zip table rest))
+abbrev none_open : List Entry → List SlotState → Bool
+none_open table rest = not (list_any (λ (q : Entry × SlotState). is_started q.1) (zip table rest))
 
-abbrev started_in : ℕ → List ℕ → List RecordState → List RecordState
+abbrev started_in : ℕ → List ℕ → List SlotState → List SlotState
 started_in time id slots = with_changed id (after_order Start time) slots
 
-pub walk_kept : (now : Stage) (time : ℕ) (id : List ℕ) (table : List Entry) (slots : List RecordState)
+pub walk_kept : (now : Stage) (time : ℕ) (id : List ℕ) (table : List Entry) (slots : List SlotState)
     → IsInOrder table slots → are_distinct slots ≡ true → start_along now time (zip table slots) ≡ Some (Order id Start)
     → are_starts_along now (zip table slots) ≡ true
     → are_starts_along now (zip table (with_changed id (after_order Start time) slots)) ≡ true
@@ -106,7 +106,7 @@ walk_kept now time id (e ∷ table) (slot ∷ slots) order distinct is along = a
         ((e, cond (is_record_of id slot) (after_order Start time slot) slot) ∷ zip table rest)) same ∙ ap
         (λ b. are_starts_along now ((e, cond b (after_order Start time slot) slot) ∷ zip table slots)) own ∙ first found
 
-    -- an entry before it is not owed, and its record stays
+    -- an entry before it is not owed, and its record is unchanged
     other : is_listed id slots ≡ true → (b : Bool) → is_record_of id slot ≡ b → b ≡ false
     other there true own = both_ways (is_listed id slots) there (others id slot slots distinct own)
     other there false own = refl

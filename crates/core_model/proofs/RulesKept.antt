@@ -1,10 +1,11 @@
--- Each step of init, and each thing that it is told, leaves a core that keeps the rules.
+-- A core still obeys the rules after each step of init, and after everything that reaches it.
 use Rattle.core_model.proofs.Words.{◌≡◌, refl, sym, ap, ◌∙◌, subst, Bool, true, false, not, ◌&&◌, ◌||◌, cond, ℕ, List}
 use Rattle.core_model.proofs.Words.{[], ◌∷◌, zip, Option, Some, None, is_some, is_none, Ok, arith, false≢true}
 use Rattle.core_model.proofs.Words.{and_parts, and_from, not-true, Entry, Answer, Start, Look, Term, Kill, Stage}
 use Rattle.core_model.proofs.Words.{is_limited, same_level, same_level-self, is_distinct, may_of, Goal, Step, Order}
-use Rattle.core_model.proofs.Words.{Reread, Reexec, Idle, in_run, RecordState, allows, can_be_asked, after_order}
-use Rattle.core_model.proofs.Words.{with_changed, order_in, refusal_of, first_news, or_else, or_idle, level_step}
+use Rattle.core_model.proofs.Words.{Reread, Reexec, Idle, in_run, SlotState, allows, can_be_asked, after_order}
+use Rattle.core_model.proofs.Words.{with_changed, order_in, refusal_of, first_pending_step, or_else, or_idle}
+use Rattle.core_model.proofs.Words.{level_step}
 use Rattle.core_model.proofs.Words.{news_step, wished_step, stop_among, has_excluded, is_owed_record, can_start_record}
 use Rattle.core_model.proofs.Words.{start_step, start_along, stage_step, settle_step, look_among, work_step, decide_in}
 use Rattle.core_model.proofs.Words.{decide, may_follow, are_starts_along, are_starts_in, is_callable, is_goal_reached}
@@ -12,8 +13,8 @@ use Rattle.core_model.proofs.Words.{IsFit, CoreState, opening_state, is_boot, wi
 use Rattle.init_words.specs.declared.stages.Stage.TheVariants as stage
 use Rattle.respawn_limit.specs.Window.{is_held}
 use Rattle.trace_events.specs.declared.steps.Step.TheVariants.{Enter, Call, Power, Hold, Settle}
-use Rattle.core_records.specs.Lists.{is_quiet}
-use Rattle.core_model.specs.Steps.{after_told}
+use Rattle.child_table.specs.Lists.{is_quiet}
+use Rattle.core_model.specs.Steps.{after_answer_to}
 use Rattle.core_model.proofs.Kept.{rules_of}
 use Rattle.core_model.proofs.Ruled.{all_kept, fields_kept, kept_by}
 use Rattle.core_model.proofs.RuledAsked.{start_all_ruled, child_ruled, hold_ruled}
@@ -21,13 +22,13 @@ use Rattle.core_model.proofs.RuledMade.{opening_ruled, entered_ruled, adopted_ru
 use Rattle.core_model.proofs.RuledTold.{answer_ruled}
 use Rattle.core_model.proofs.RuledWalk.{walk_kept}
 
--- the opening
+-- a new core
 pub opening_keeps : (table : List Entry) (goal : Goal) → is_distinct table ≡ true → IsFit (opening_state table goal)
 opening_keeps table goal distinct = kept_by (opening_state table goal) (opening_ruled table distinct)
     (record { clock = omega arith; wish = refl; announced = refl; reached = refl })
 
--- what a step that is decided in a stage brings with it: a stage, news and an announcement come where they may, and a
--- start is behind no owed entry and beside no excluded child
+-- what a step that is decided in a stage implies: a stage, a call and an announcement come only where they may, and a
+-- start neither follows an owed entry nor comes while a child is excluded
 module _ (c : CoreState) (keeps : IsFit c) (now : Stage) (in_stage : c.fields.stage ≡ Some now) where
   abbrev is_lawful : Option Step → Bool
   is_lawful (Some (Order id Start)) = not (has_excluded c.slots)
@@ -50,7 +51,7 @@ module _ (c : CoreState) (keeps : IsFit c) (now : Stage) (in_stage : c.fields.st
   lawful_unless true o h = refl
   lawful_unless false o h = h refl
 
-  -- the wishes, at a quiet point
+  -- the pending requests, at a quiet point
   wished_lawful : is_quiet c.slots ≡ true → is_lawful (wished_step now c) ≡ true
   wished_lawful quiet = at c.fields.reexec c.fields.reread
     where
@@ -64,7 +65,7 @@ module _ (c : CoreState) (keeps : IsFit c) (now : Stage) (in_stage : c.fields.st
       level : (wish : Option Goal) → c.fields.level_wish ≡ wish → is_lawful (level_step c.fields.booted wish) ≡ true
       level wish is = grind arith
 
-      pending : is_lawful (first_news c.fields.pending) ≡ true
+      pending : is_lawful (first_pending_step c.fields.pending) ≡ true
       pending = grind arith
 
       at : (x r : Bool) → is_lawful (cond x (Some Reexec)
@@ -72,7 +73,8 @@ module _ (c : CoreState) (keeps : IsFit c) (now : Stage) (in_stage : c.fields.st
       at true r = refl
       at false true = refl
       at false false = lawful_or (level_step c.fields.booted c.fields.level_wish) (news_step now c) (level
-          c.fields.level_wish refl) (lawful_if (in_run (Some now)) (first_news c.fields.pending) (λ run. pending))
+          c.fields.level_wish refl)
+          (lawful_if (in_run (Some now)) (first_pending_step c.fields.pending) (λ run. pending))
 
   stage_lawful : is_lawful (stage_step now c.fields.goal c.table c.slots) ≡ true
   stage_lawful = grind arith
@@ -81,15 +83,15 @@ module _ (c : CoreState) (keeps : IsFit c) (now : Stage) (in_stage : c.fields.st
   settle_lawful = grind arith
 
   -- signals and looks
-  stops_lawful : (slots : List RecordState) → is_lawful (stop_among c.fields.grace c.fields.time slots) ≡ true
+  stops_lawful : (slots : List SlotState) → is_lawful (stop_among c.fields.grace c.fields.time slots) ≡ true
   stops_lawful [] = grind arith
   stops_lawful (slot ∷ slots) = grind (arith, stops_lawful slots)
 
-  looks_lawful : (slots : List RecordState) → is_lawful (look_among slots) ≡ true
+  looks_lawful : (slots : List SlotState) → is_lawful (look_among slots) ≡ true
   looks_lawful [] = grind arith
   looks_lawful (slot ∷ slots) = grind (arith, looks_lawful slots)
 
-  -- a start, by the walk
+  -- a start, as the walk finds it
   abbrev is_walked : Option Step → Bool
   is_walked None = true
   is_walked (Some (Order id Start)) = true
@@ -99,7 +101,7 @@ module _ (c : CoreState) (keeps : IsFit c) (now : Stage) (in_stage : c.fields.st
   walked_or : (a b : Option Step) → is_walked a ≡ true → is_walked b ≡ true → is_walked (or_else a b) ≡ true
   walked_or a b ha hb = grind arith
 
-  walked : (ps : List (Entry × RecordState)) → is_walked (start_along now c.fields.time ps) ≡ true
+  walked : (ps : List (Entry × SlotState)) → is_walked (start_along now c.fields.time ps) ≡ true
   walked [] = refl
   walked (p ∷ ps) = walked_or (start_step now c.fields.time p.0 p.1)
       (cond (is_owed_record now p.0 p.1) None (start_along now c.fields.time ps)) (step (can_start_record now p.0 p.1)
@@ -157,7 +159,7 @@ entered_keeps : (c : CoreState) → IsFit c → (next : Stage) (grace : ℕ) →
 entered_keeps c keeps next grace quiet reached = kept_by (after_step (Enter next grace) c) (entered_ruled c keeps quiet
     next) (record { clock = (rules_of c keeps).clock; wish = refl; announced = refl; reached = reached })
 
--- an entry that a step names may be called
+-- an entry that a step names can be called
 named_callable : (s : Step) (now : Option Stage) (e : Entry) → is_named s now e ≡ true → is_callable (Some e.act) ≡ true
 named_callable s now e h = grind arith
 
@@ -212,11 +214,11 @@ step_keeps c keeps s is = at c.fields.stage refl
         (first before (is_quiet c.slots) refl)
     at (Some now) in_stage = step_in c keeps now in_stage s is
 
--- an answer that is taken
+-- an answer that is accepted
 pub told_keeps : (c : CoreState) → IsFit c → (id : List ℕ) (answer : Answer)
-    → refusal_of (order_in id c.slots) answer ≡ Ok tt → IsFit (after_told id answer c)
+    → refusal_of (order_in id c.slots) answer ≡ Ok tt → IsFit (after_answer_to id answer c)
 told_keeps c keeps id answer taken =
-    kept_by (after_told id answer c) (answer_ruled c keeps id answer taken) (fields_kept c keeps)
+    kept_by (after_answer_to id answer c) (answer_ruled c keeps id answer taken) (fields_kept c keeps)
 
 -- another table, at a quiet point
 pub adopt_keeps : (c : CoreState) → IsFit c → is_quiet c.slots ≡ true → (table : List Entry) → is_distinct table ≡ true

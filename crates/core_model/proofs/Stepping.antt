@@ -3,9 +3,11 @@ use Rattle.core_model.proofs.Words.{arith, ◌≡◌, refl, sym, ◌∙◌, ap, 
 use Rattle.core_model.proofs.Words.{Option, Some, None, list_any, false≢true, Entry, Level, Stage, Start, Look, Term}
 use Rattle.core_model.proofs.Words.{Kill, is_limited, same_id-self, entry_of, is_distinct, Step, Reread, Order, Reexec}
 use Rattle.core_model.proofs.Words.{Idle, Goal, Event, table_of, stage_of, time_of, in_run, goal_of, due, first}
-use Rattle.core_model.proofs.Words.{same_step, is_sound, MayRun, due_facts, sound_holds, RecordState, after_enter}
-use Rattle.core_model.proofs.Words.{after_judge, CallSet, first_news, CoreState, decide, or_else, or_idle, after_step}
-use Rattle.core_model.proofs.Words.{LastStatuses, Fits, StillFits, lasts_after, fields_of, core_read, with_step}
+use Rattle.core_model.proofs.Words.{same_step, is_sound, MayRun, due_facts, sound_holds, SlotState, after_enter}
+use Rattle.core_model.proofs.Words.{after_judge, CallSet, first_pending_step, CoreState, decide, or_else, or_idle}
+use Rattle.core_model.proofs.Words.{after_step}
+use Rattle.core_model.proofs.Words.{LastStatuses, Fits, FitsExtendedTrace, last_statuses_after, fields_of, core_read}
+use Rattle.core_model.proofs.Words.{with_step}
 use Rattle.init_words.specs.declared.stages.Stage.TheVariants as stage
 use Rattle.respawn_limit.specs.Window.{is_held}
 use Rattle.trace_events.specs.declared.happenings.Happening.TheVariants as event
@@ -20,7 +22,7 @@ use Rattle.core_model.proofs.Tables.{enter_records}
 use Rattle.core_model.proofs.Hearing.{settle_records}
 use Rattle.core_model.proofs.Deciding.{decide_due}
 
--- whether a step enters a stage
+-- the step enters a stage
 abbrev enters : Option Step → Bool
 enters (Some (Enter next grace)) = true
 enters _ = false
@@ -36,7 +38,7 @@ not_else : (b : Bool) (o : Option Step) → enters o ≡ false → enters (cond 
 not_else true o h = refl
 not_else false o h = h
 
-start_enters : (now : Stage) (time : ℕ) (ps : List (Entry × RecordState))
+start_enters : (now : Stage) (time : ℕ) (ps : List (Entry × SlotState))
     → enters (core.start_along now time ps) ≡ false
 start_enters now time [] = refl
 start_enters now time (p ∷ ps) = neither (core.start_step now time p.0 p.1) (cond (core.is_owed_record now p.0 p.1) None
@@ -51,19 +53,19 @@ start_enters now time (p ∷ ps) = neither (core.start_step now time p.0 p.1) (c
     told true false false = refl
     told false h a = refl
 
-stop_enters : (grace now : ℕ) (slots : List RecordState) → enters (core.stop_among grace now slots) ≡ false
+stop_enters : (grace now : ℕ) (slots : List SlotState) → enters (core.stop_among grace now slots) ≡ false
 stop_enters grace now [] = grind arith
 stop_enters grace now (slot ∷ slots) = grind (arith, stop_enters grace now slots)
 
-look_enters : (slots : List RecordState) → enters (core.look_among slots) ≡ false
+look_enters : (slots : List SlotState) → enters (core.look_among slots) ≡ false
 look_enters [] = grind arith
 look_enters (slot ∷ slots) = grind (arith, look_enters slots)
 
-news_enters : (pending : CallSet) → enters (first_news pending) ≡ false
-news_enters = by_first (λ (n : CallSet). enters (first_news n) ≡ false) (λ n o a b c. refl) (λ o a b c. refl)
+news_enters : (pending : CallSet) → enters (first_pending_step pending) ≡ false
+news_enters = by_first (λ (n : CallSet). enters (first_pending_step n) ≡ false) (λ n o a b c. refl) (λ o a b c. refl)
     (λ a b c. refl) (λ b c. refl) (λ c. refl) refl refl
 
--- in a run level in which no other is wished for the core enters no stage
+-- in a runlevel, without a pending request for another one, the core enters no stage
 run_enters : (c : CoreState) (level : Level) → c.fields.level_wish ≡ None → enters (or_else (core.wish_step
     (stage.Run level) c) (or_else (core.work_step (stage.Run level) c) (core.look_among c.slots))) ≡ false
 run_enters c level none = grind (arith, neither, not_if, not_else, look_enters, news_enters, stop_enters, start_enters)
@@ -77,14 +79,14 @@ entered_before c (Some (stage.Run level)) none next grace is =
     of_idle o is = grind arith
 entered_before c o none next grace is = grind arith
 
--- the first step is a due one
+-- the first due step is due
 first_due : (s : Step) (steps : List Step) → same_step s s ≡ true → (s ≡ Idle → ⊥) → first steps ≡ s
     → list_any (same_step s) steps ≡ true
 first_due s steps self busy is = grind arith
 
 module _ (goal : Goal) (past : List Event) (c : CoreState) (sound : is_sound goal past ≡ true) (fits : Fits c goal past)
   where
-    -- a step: the first that is due
+    -- the step is the first due step
     due_now : decide c ≡ first (due goal past)
     due_now = decide_due goal past sound c fits
 
@@ -104,24 +106,24 @@ module _ (goal : Goal) (past : List Event) (c : CoreState) (sound : is_sound goa
     abbrev n : ℕ
     n = c.fields.generation
 
-    -- a step that leaves the goal, by what it makes of the core that is read off the past
+    -- a step that does not change the goal, from how it changes the core read off the past
     goes : (s : Step) (happening : Event) → (after_step s c).fields.goal ≡ g → (after_step s c).fields.generation ≡ n
         → ((lasts : LastStatuses)
-        → after_step s (core_read lasts past g n) ≡ core_read (lasts_after happening past lasts)
+        → after_step s (core_read lasts past g n) ≡ core_read (last_statuses_after happening past lasts)
         (happening ∷ past) g n) → (in_run (stage_of (happening ∷ past)) ≡ false → g ≡ goal_of goal (happening ∷ past))
-        → StillFits c (after_step s c) goal past (happening ∷ past)
+        → FitsExtendedTrace c (after_step s c) goal past (happening ∷ past)
     goes s happening same_goal same_age reads law = goes_on c (after_step s c) goal happening past fits
-        (λ lasts kept. ap (after_step s) kept ∙ reads lasts ∙ (λ i. core_read (lasts_after happening past lasts)
+        (λ lasts kept. ap (after_step s) kept ∙ reads lasts ∙ (λ i. core_read (last_statuses_after happening past lasts)
         (happening ∷ past) (sym same_goal i) (sym same_age i))) (λ h. same_goal ∙ law h)
 
-    -- records alone
-    abbrev with_records : LastStatuses → Event → List RecordState → CoreState
+    -- only the records change
+    abbrev with_records : LastStatuses → Event → List SlotState → CoreState
     with_records lasts happening slots = record (core_read lasts (happening ∷ past) g n) { slots = slots }
 
-    pub fits_step : StillFits c (after_step (decide c) c) goal past (with_step (decide c) past)
+    pub fits_step : FitsExtendedTrace c (after_step (decide c) c) goal past (with_step (decide c) past)
     fits_step = at (decide c) refl
       where
-        at : (s : Step) → decide c ≡ s → StillFits c (after_step s c) goal past (with_step s past)
+        at : (s : Step) → decide c ≡ s → FitsExtendedTrace c (after_step s c) goal past (with_step s past)
         at (Enter next grace) is =
             let way : c.fields.level_wish ≡ None → in_run (Some next) ≡ false → in_run (stage_of past) ≡ false =
             λ none h. sym (ap in_run (fit_stage c goal past fits))

@@ -1,4 +1,4 @@
--- A stage that is entered, and another table, make of the records what the past says after them.
+-- When a stage is entered or a table adopted, the records become what the past says after it.
 use Rattle.core_model.proofs.Words.{arith, ◌≡◌, refl, sym, ◌∙◌, ap, ℕ, Bool, true, false, not, ◌&&◌, cond, List, []}
 use Rattle.core_model.proofs.Words.{◌∷◌, ◌++◌, map, filter, find, Option, Some, None, is_none, list_any, option_map}
 use Rattle.core_model.proofs.Words.{option_map_or, option_or, and_parts, or_left, not-true, list_any-append, map-append}
@@ -6,38 +6,38 @@ use Rattle.core_model.proofs.Words.{filter-append, filter_agree, none-some, same
 use Rattle.core_model.proofs.Words.{same_act, is_limited, same_id, same_id-is, same_id-self, both_ways, falsely}
 use Rattle.core_model.proofs.Words.{filter_both, filter_within, find_none, ids_of, has_id, entry_of, act_of}
 use Rattle.core_model.proofs.Words.{is_distinct, NewTable, Goal, Event, table_of, stage_of, Child, has_child}
-use Rattle.core_model.proofs.Words.{known_children, same_acts, is_asked, spell_hits, is_missed, left_ids, record_ids}
+use Rattle.core_model.proofs.Words.{known_children, same_acts, is_asked, spell_hits, is_missed, removed_ids, record_ids}
 use Rattle.core_model.proofs.Words.{is_sound, ids_listed, entry_listed, child_in_records, open_in_records, spell_none}
-use Rattle.core_model.proofs.Words.{spell_enter, missed_enter, spell_table, missed_table, Stop, Due, RecordState}
+use Rattle.core_model.proofs.Words.{spell_enter, missed_enter, spell_table, missed_table, Stop, Due, SlotState}
 use Rattle.core_model.proofs.Words.{record_by_id, after_enter, judged, judged_child, after_judge, adopted, left_over}
 use Rattle.core_model.proofs.Words.{is_left_over, entry_records, left_records, judged_in, LastStatuses, child_known}
 use Rattle.core_model.proofs.Words.{living, known_child, stop_after, stop_known, stop_of, was_missed, limiter_by}
-use Rattle.core_model.proofs.Words.{asked_of, lasts_after, records_of}
+use Rattle.core_model.proofs.Words.{asked_of, last_statuses_after, records_of}
 use Rattle.trace_events.specs.declared.happenings.Happening.TheVariants.{Enter}
 use Rattle.trace_events.specs.Wanted.{is_excluded}
 use Rattle.std.proofs.Math.Bool.{and_comm}
 use Rattle.trace_laws.proofs.Tests.{never}
-use Rattle.core_records.specs.State.{is_act}
-use Rattle.core_records.specs.Judging as judging
-use Rattle.core_records.specs.Adopting as adopting
+use Rattle.child_table.specs.State.{is_act}
+use Rattle.child_table.specs.Judging as judging
+use Rattle.child_table.specs.Adopting as adopting
 use Rattle.core_model.specs.Fit.{record_of}
 use Rattle.core_model.proofs.Acts.{found_own, child_some, found_record, no_record}
 
--- two actions are one either way
+-- comparing two actions does not depend on their order
 same_act-sym : (a b : Act) → same_act a b ≡ same_act b a
 same_act-sym a b = grind arith
 
--- where a stage is in force, a record's child is excluded exactly if the child is
+-- if a stage is in force, the child of a record is excluded exactly if the child is
 pub excluded_same : (past : List Event) (stage : Stage) → stage_of past ≡ Some stage → (child : Child)
     → judging.is_excluded stage child.act (entry_of child.id (table_of past)) ≡ is_excluded past child
 excluded_same past stage now child = grind arith
 
--- a happening that cuts the spell of each child that it does not exclude: the records are judged
+-- a happening that ends the spell of each child that it does not exclude: the records are judged
 module _ (next past : List Event)
     (hits : (child : Child) → spell_hits child next ≡ cond (is_excluded next child) (spell_hits child past) [])
     (misses : (child : Child) → is_missed child next ≡ (is_excluded next child && is_missed child past)) where
   judged_as : (stage : Stage) → stage_of next ≡ Some stage → (id : List ℕ) (o : Option Child) → ((child : Child) → o
-      ≡ Some child → child.id ≡ id) → (slot : RecordState) → slot.id ≡ id → slot.stop ≡ stop_known past o → slot.missed
+      ≡ Some child → child.id ≡ id) → (slot : SlotState) → slot.id ≡ id → slot.stop ≡ stop_known past o → slot.missed
       ≡ option_map_or (λ child. is_missed child past) o false → judged_child stage (table_of next) (option_map living o)
       slot ≡ record slot { stop = stop_known next o; missed = option_map_or (λ child. is_missed child next) o false }
   judged_as stage now id None own slot is stop missed = λ i. record slot { stop = stop i; missed = missed i }
@@ -72,7 +72,7 @@ module _ (next past : List Event)
             sym (misses child ∙ ap (λ c. c && is_missed child past) is) in
             λ i. record slot { stop = stops i; missed = misses_too i }
 
-  pub judged_known : (stage : Stage) → stage_of next ≡ Some stage → (id : List ℕ) (slot : RecordState) → slot.id ≡ id
+  pub judged_known : (stage : Stage) → stage_of next ≡ Some stage → (id : List ℕ) (slot : SlotState) → slot.id ≡ id
       → slot.child ≡ known_child id past → slot.stop ≡ stop_of id past → slot.missed ≡ was_missed id past
       → after_judge (table_of next) stage slot ≡ record slot {
         stop = stop_known next (child_known id past);
@@ -81,12 +81,12 @@ module _ (next past : List Event)
   judged_known stage now id slot is child stop missed = ap (λ c. judged_child stage (table_of next) c slot) child
       ∙ judged_as stage now id (child_known id past) (found_own id (known_children past)) slot is stop missed
 
--- what a record keeps of an entry, where the past has nothing since the stage began
+-- what a record has for an entry, if nothing has happened since the stage began
 unused_same : (o : Option Entry) → unused ≡ option_map_or (λ (e : Entry). limiter_by (is_limited e.act) [] []) o unused
 unused_same o = grind arith
 
--- two changes one after the other, along a list
-pub mapped : {X : Type 0} (f : RecordState → RecordState) (g k : X → RecordState) → ((x : X) → f (g x) ≡ k x)
+-- two changes one after another, along a list
+pub mapped : {X : Type 0} (f : SlotState → SlotState) (g k : X → SlotState) → ((x : X) → f (g x) ≡ k x)
     → (xs : List X) → map f (map g xs) ≡ map k xs
 mapped f g k same [] = refl
 mapped f g k same (x ∷ xs) = λ i. same x i ∷ mapped f g k same xs i
@@ -98,7 +98,7 @@ pub enter_records : (lasts : LastStatuses) → (goal : Goal) (stage : Stage) (gr
 enter_records lasts goal stage grace past sound = ap (map (after_judge (table_of past) stage)) (mapped after_enter
     (record_of lasts past) entered (λ id. refl) (record_ids past)) ∙ mapped (after_judge (table_of past) stage) entered
     (record_of lasts (Enter stage grace ∷ past)) same (record_ids past) where
-      entered : List ℕ → RecordState
+      entered : List ℕ → SlotState
       entered id = after_enter (record_of lasts past id)
 
       same : (id : List ℕ)
@@ -111,7 +111,7 @@ enter_records lasts goal stage grace past sound = ap (map (after_judge (table_of
             limiter = unused_same (entry_of id (table_of past)) i;
           })
 
--- the entry that is found for an id has the id
+-- the entry found for an id has this id
 pub entry_own : (id : List ℕ) (es : List Entry) (e : Entry) → entry_of id es ≡ Some e → e.id ≡ id
 entry_own id [] e there = absurd (none-some e there)
 entry_own id (x ∷ es) e there = split (same_id id x.id) refl there (entry_own id es e) where
@@ -120,14 +120,14 @@ entry_own id (x ∷ es) e there = split (same_id id x.id) refl there (entry_own 
   split true same there rest = ap (λ (y : Entry). y.id) (sym (same_Some x e there)) ∙ sym (same_id-is id x.id same)
   split false differ there rest = rest there
 
--- an id of a table's entries; and none is found where none passes
+-- no element is found exactly if none passes
 
 pub none_found : {X : Type 0} (p : X → Bool) (xs : List X) → is_none (find p xs) ≡ not (list_any p xs)
 none_found p [] = refl
 none_found {X} p (x ∷ xs) = grind (arith, none_found p xs)
 
--- along a table in which no id stands twice each entry is that of its id
-along : (table : List Entry) → is_distinct table ≡ true → (f g : Entry → RecordState)
+-- in a table without repeated ids, each entry is the one found for its id
+along : (table : List Entry) → is_distinct table ≡ true → (f g : Entry → SlotState)
     → ((e : Entry) → entry_of e.id table ≡ Some e → f e ≡ g e) → map f table ≡ map g table
 along [] distinct f g same = refl
 along (e ∷ table) distinct f g same = λ i. same e (ap (λ b. cond b (Some e) (entry_of e.id table)) (same_id-self e.id))
@@ -142,20 +142,20 @@ along (e ∷ table) distinct f g same = λ i. same e (ap (λ b. cond b (Some e) 
           ∙ entry_listed x.id table x found) (not-true (list_any (has_id e.id) table) parts.0)
       behind x found false other = found
 
--- the records judged one by one, where a stage is in force
-abbrev judged_by : Option Stage → List Entry → RecordState → RecordState
+-- a record, judged if a stage is in force
+abbrev judged_by : Option Stage → List Entry → SlotState → SlotState
 judged_by None table slot = slot
 judged_by (Some stage) table slot = after_judge table stage slot
 
-judged_all : (o : Option Stage) (table : List Entry) (slots : List RecordState)
+judged_all : (o : Option Stage) (table : List Entry) (slots : List SlotState)
     → judged_in o table slots ≡ map (judged_by o table) slots
 judged_all (Some stage) table slots = refl
 judged_all None table slots = sym (each slots) where
-  each : (xs : List RecordState) → map (judged_by None table) xs ≡ xs
+  each : (xs : List SlotState) → map (judged_by None table) xs ≡ xs
   each [] = refl
   each (x ∷ xs) = ap (λ rest. x ∷ rest) (each xs)
 
--- a filter of what is mapped
+-- filtering after a map
 pub filter_mapped : {X Y : Type 0} (p : Y → Bool) (f : X → Y) (xs : List X)
     → filter p (map f xs) ≡ map f (filter (λ x. p (f x)) xs)
 filter_mapped p f [] = refl
@@ -170,9 +170,9 @@ mapped_passing {X} q f g same (x ∷ xs) = grind (arith, mapped_passing q f g sa
 pub listed_record : (id : List ℕ) (past : List Event) → list_any (has_id id) (table_of past) ≡ true
     → list_any (same_id id) (record_ids past) ≡ true
 listed_record id past there = list_any-append (same_id id) (ids_of (table_of past))
-    (filter (λ x. has_child x (known_children past)) (left_ids past))
+    (filter (λ x. has_child x (known_children past)) (removed_ids past))
     ∙ or_left (list_any (same_id id) (ids_of (table_of past))) (list_any (same_id id)
-    (filter (λ x. has_child x (known_children past)) (left_ids past))) (ids_listed id (table_of past) ∙ there)
+    (filter (λ x. has_child x (known_children past)) (removed_ids past))) (ids_listed id (table_of past) ∙ there)
 
 -- another table at a quiet point
 module _ (lasts : LastStatuses) (goal : Goal) (table : List Entry) (past : List Event)
@@ -181,16 +181,16 @@ module _ (lasts : LastStatuses) (goal : Goal) (table : List Entry) (past : List 
   next = NewTable table ∷ past
 
   abbrev later : LastStatuses
-  later = lasts_after (NewTable table) past lasts
+  later = last_statuses_after (NewTable table) past lasts
 
-  judged_record : (o : Option Stage) → stage_of past ≡ o → (id : List ℕ) (slot : RecordState) → slot.id ≡ id
+  judged_record : (o : Option Stage) → stage_of past ≡ o → (id : List ℕ) (slot : SlotState) → slot.id ≡ id
       → slot.child ≡ known_child id past → slot.stop ≡ stop_of id past → slot.missed ≡ was_missed id past
       → judged_by o table slot ≡ record slot { stop = stop_of id next; missed = was_missed id next }
   judged_record (Some stage) now id slot is child stop missed = judged_known next past (λ c. spell_table c table past)
       (λ c. missed_table c table past) stage now id slot is child stop missed
   judged_record None now id slot is child stop missed = grind arith
 
-  -- what was asked of an entry of the table
+  -- whether an entry of the new table was asked
   asked_same : (e : Entry) → entry_of e.id table ≡ Some e
       → (asked_of e.id past && is_act e.act (act_of e.id (table_of past))) ≡ asked_of e.id next
   asked_same e found = by (entry_of e.id (table_of past)) refl ∙ sym brought
@@ -214,12 +214,12 @@ module _ (lasts : LastStatuses) (goal : Goal) (table : List Entry) (past : List 
         by (Some x) is = ap (λ y. is_asked y past && same_act x.act e.act) (entry_own e.id (table_of past) x is)
             ∙ swap (is_asked e.id past) (same_act x.act e.act) (same_act e.act x.act) (same_act-sym x.act e.act)
 
-  -- a record that stays keeps how the last child ended
+  -- a record that stays keeps how its last child ended
   last_kept : (id : List ℕ) → list_any (same_id id) (record_ids past) ≡ true → lasts id ≡ later id
   last_kept id there = sym (ap (λ b. cond b (lasts id) None) there)
 
   -- the record of an entry before it is judged
-  abbrev entered_record : Entry → RecordState
+  abbrev entered_record : Entry → SlotState
   entered_record e = record (record_of lasts past e.id) {
     table_act = Some e.act;
     asked = asked_of e.id past && is_act e.act (act_of e.id (table_of past));
@@ -281,25 +281,26 @@ module _ (lasts : LastStatuses) (goal : Goal) (table : List Entry) (past : List 
   abbrev stays : List ℕ → Bool
   stays id = has_left id && is_kept id
 
-  -- the ids of the records that are left over
+  -- the ids of the records that stay without an entry
   left_over_ids : filter (λ id. is_left_over table (record_of lasts past id)) (record_ids past)
-      ≡ filter stays (ids_of (table_of past) ++ left_ids past)
+      ≡ filter stays (ids_of (table_of past) ++ removed_ids past)
   left_over_ids = filter_agree (λ id. is_left_over table (record_of lasts past id)) stays same (record_ids past)
-      ∙ filter-append stays (ids_of (table_of past)) (filter is_kept (left_ids past)) ∙ ap (λ rest. filter stays (ids_of
+      ∙ filter-append stays (ids_of (table_of past)) (filter is_kept (removed_ids past))
+      ∙ ap (λ rest. filter stays (ids_of
       (table_of past)) ++ rest) (filter_within stays is_kept (λ id h. (and_parts (has_left id) (is_kept id) h).1)
-      (left_ids past)) ∙ sym (filter-append stays (ids_of (table_of past)) (left_ids past)) where
+      (removed_ids past)) ∙ sym (filter-append stays (ids_of (table_of past)) (removed_ids past)) where
         same : (id : List ℕ) → is_left_over table (record_of lasts past id) ≡ stays id
         same id = (λ i. child_some id past i && none_found (has_id id) table i) ∙ and_comm (is_kept id) (has_left id)
 
-  left_ids_next : filter is_kept (left_ids next) ≡ filter stays (ids_of (table_of past) ++ left_ids past)
-  left_ids_next = filter_both is_kept has_left (ids_of (table_of past) ++ left_ids past)
+  left_ids_next : filter is_kept (removed_ids next) ≡ filter stays (ids_of (table_of past) ++ removed_ids past)
+  left_ids_next = filter_both is_kept has_left (ids_of (table_of past) ++ removed_ids past)
 
   left_same : (id : List ℕ) → stays id ≡ true
       → judged_by (stage_of past) table (left_over (record_of lasts past id)) ≡ record_of later next id
   left_same id h = grind (arith, judged_record, never, unused_same, last_kept, child_in_records, find_none, not-true)
 
   lefts_same : judged_in (stage_of past) table (left_records table (records_of lasts past))
-      ≡ map (record_of later next) (filter is_kept (left_ids next))
+      ≡ map (record_of later next) (filter is_kept (removed_ids next))
   lefts_same = judged_all (stage_of past) table (left_records table (records_of lasts past))
       ∙ ap (λ slots. map (judged_by (stage_of past) table) (map left_over slots)) (filter_mapped (is_left_over table)
       (record_of lasts past) (record_ids past) ∙ ap (map (record_of lasts past)) left_over_ids) ∙ ap (map (judged_by
@@ -307,18 +308,19 @@ module _ (lasts : LastStatuses) (goal : Goal) (table : List Entry) (past : List 
       (λ id. refl) kept) ∙ mapped (judged_by (stage_of past) table) (λ id. left_over (record_of lasts past id))
       (λ id. judged_by (stage_of past) table (left_over (record_of lasts past id))) (λ id. refl) kept ∙ mapped_passing
       stays (λ id. judged_by (stage_of past) table (left_over (record_of lasts past id))) (record_of later next)
-      left_same (ids_of (table_of past) ++ left_ids past) ∙ ap (map (record_of later next)) (sym left_ids_next) where
+      left_same (ids_of (table_of past) ++ removed_ids past) ∙ ap (map (record_of later next)) (sym left_ids_next) where
         kept : List (List ℕ)
-        kept = filter stays (ids_of (table_of past) ++ left_ids past)
+        kept = filter stays (ids_of (table_of past) ++ removed_ids past)
 
 pub table_records : (lasts : LastStatuses) → (goal : Goal) (table : List Entry) (past : List Event)
     → is_sound goal past ≡ true → is_distinct table ≡ true → judged_in (stage_of past) table (adopting.after_adopt table
-    (records_of lasts past)) ≡ records_of (lasts_after (NewTable table) past lasts) (NewTable table ∷ past)
+    (records_of lasts past)) ≡ records_of (last_statuses_after (NewTable table) past lasts) (NewTable table ∷ past)
 table_records lasts goal table past sound distinct = both (stage_of past) (entry_records table (records_of lasts past))
     (left_records table (records_of lasts past)) ∙ (λ i. (entries_same lasts) goal table past sound distinct i
     ++ (lefts_same lasts) goal table past sound distinct i)
-    ∙ sym (map-append (record_of (lasts_after (NewTable table) past lasts) (NewTable table ∷ past)) (ids_of table)
-    (filter (λ id. has_child id (known_children past)) (left_ids (NewTable table ∷ past)))) where
-      both : (o : Option Stage) (xs ys : List RecordState)
+    ∙ sym
+    (map-append (record_of (last_statuses_after (NewTable table) past lasts) (NewTable table ∷ past)) (ids_of table)
+    (filter (λ id. has_child id (known_children past)) (removed_ids (NewTable table ∷ past)))) where
+      both : (o : Option Stage) (xs ys : List SlotState)
           → judged_in o table (xs ++ ys) ≡ judged_in o table xs ++ judged_in o table ys
       both o xs ys = grind (arith, map-append)

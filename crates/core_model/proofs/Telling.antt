@@ -1,28 +1,31 @@
--- An answer that is told makes of the records what the past says after it, and it is of the order that a record has.
+-- When an answer is told, the records become what the past says after it, and the answer is one to the open order of
+-- its record.
 use Rattle.core_model.proofs.Words.{arith, ◌≡◌, refl, sym, ◌∙◌, ap, ℕ, Bool, true, false, not, ◌&&◌, ◌||◌, cond, List}
 use Rattle.core_model.proofs.Words.{[], ◌∷◌, ◌++◌, map, filter, Option, Some, None, is_some, is_none, Ok, list_any}
 use Rattle.core_model.proofs.Words.{option_map, option_map_or, false≢true, and_right, not-true, filter-append}
 use Rattle.core_model.proofs.Words.{filter_agree, Entry, Status, OrderKind, Start, Look, Term, Kill, Answer, same_id}
 use Rattle.core_model.proofs.Words.{answers, is_hit, is_miss, same_id-is, same_id-self, same_id-sym, both_ways}
 use Rattle.core_model.proofs.Words.{and_false, and_true, filter_both, find_none, ids_of, has_id, entry_of, act_of, Told}
-use Rattle.core_model.proofs.Words.{Goal, Event, table_of, time_of, Child, is_of, has_child, open_of, newborn}
+use Rattle.core_model.proofs.Words.{Goal, Event, table_of, time_of, Child, is_child_of, has_child, open_of, newborn}
 use Rattle.core_model.proofs.Words.{unreaped_children, known_children, answered_of, child_after, untold_hits}
-use Rattle.core_model.proofs.Words.{has_untold_miss, told_at, spell_hits, is_missed, left_ids, record_ids, wants_look}
+use Rattle.core_model.proofs.Words.{has_untold_miss, told_at, spell_hits, is_missed, removed_ids, record_ids}
+use Rattle.core_model.proofs.Words.{wants_look}
 use Rattle.core_model.proofs.Words.{is_sound, is_signal, told_other, same_has, open_in_records, start_in_table}
 use Rattle.core_model.proofs.Words.{ids_listed, missed_none, spell_told, missed_told, Tells, answered_tells, born_open}
 use Rattle.core_model.proofs.Words.{newborn_spared, unborn_childless, unborn_unlooked, left_apart, signal_excluded}
-use Rattle.core_model.proofs.Words.{signal_unmissed, has_after, told_leaves, answered_known, Stop, RecordState}
+use Rattle.core_model.proofs.Words.{signal_unmissed, has_after, told_leaves, answered_known, Stop, SlotState}
 use Rattle.core_model.proofs.Words.{after_hit, after_answer, is_over, LastStatuses, child_known, living, stop_after}
-use Rattle.core_model.proofs.Words.{stop_known, stop_of, is_to_look, was_missed, last_told, lasts_after, records_of}
+use Rattle.core_model.proofs.Words.{stop_known, stop_of, is_to_look, was_missed, last_status_after, last_statuses_after}
+use Rattle.core_model.proofs.Words.{records_of}
 use Rattle.init_words.specs.declared.orders.Answer.TheVariants as answer
 use Rattle.trace_events.specs.Wanted.{is_excluded}
 use Rattle.trace_laws.proofs.Told.{answers_open, same_find, told_child}
-use Rattle.core_records.specs.Lists as lists
+use Rattle.child_table.specs.Lists as lists
 use Rattle.core_model.specs.Fit.{record_of}
 use Rattle.core_model.proofs.Acts.{found_own, child_some, found_record, stop_same, missed_same}
 use Rattle.core_model.proofs.Tables.{none_found, mapped, filter_mapped, mapped_passing}
 
--- the record of an answered id is there, with an open order that is answered so
+-- the record of an answered id exists, and has an open order to which this is an answer
 module _ (lasts : LastStatuses) (goal : Goal) (past : List Event) (sound : is_sound goal past ≡ true) (id : List ℕ)
     (given : Answer) (is : answered_of id past ≡ Some given) where
   answered_record : lists.record_by_id id (records_of lasts past) ≡ Some (record_of lasts past id)
@@ -31,10 +34,10 @@ module _ (lasts : LastStatuses) (goal : Goal) (past : List Event) (sound : is_so
   pub told_taken : lists.refusal_of (lists.order_in id (records_of lasts past)) given ≡ Ok tt
   told_taken = grind (arith, answered_record, answers_open)
 
--- a Told of another id leaves the record of an id
+-- a Told of another id does not change the record of an id
 module _ (lasts : LastStatuses) (past : List Event) (id x : List ℕ) (differ : same_id x id ≡ false) where
   other_child : child_known x (Told id ∷ past) ≡ child_known x past
-  other_child = same_find (is_of x) (known_children (Told id ∷ past)) (known_children past)
+  other_child = same_find (is_child_of x) (known_children (Told id ∷ past)) (known_children past)
       (told_other x id (unreaped_children past) (known_children past) differ)
 
   pub other_has : has_child x (known_children (Told id ∷ past)) ≡ has_child x (known_children past)
@@ -53,7 +56,7 @@ module _ (lasts : LastStatuses) (past : List Event) (id x : List ℕ) (differ : 
   other_missed : was_missed x (Told id ∷ past) ≡ was_missed x past
   other_missed = grind (arith, other_child, missed_same, missed_told, apart, missed_none)
 
-  told_apart : record_of lasts past x ≡ record_of (lasts_after (Told id) past lasts) (Told id ∷ past) x
+  told_apart : record_of lasts past x ≡ record_of (last_statuses_after (Told id) past lasts) (Told id ∷ past) x
   told_apart = grind (arith, other_child, other_stop, other_has, other_missed)
 
 -- the record of the id whose answer is told
@@ -63,9 +66,9 @@ module _ (lasts : LastStatuses) (goal : Goal) (past : List Event) (sound : is_so
     next = Told id ∷ past
 
     abbrev later : LastStatuses
-    later = lasts_after (Told id) past lasts
+    later = last_statuses_after (Told id) past lasts
 
-    -- the signals and the Misses of the known child, by those that are under way
+    -- the signals and the Misses of the known child, given those under way
     hits_next : (child : Child) → child_known id past ≡ Some child → (hits : List (Option OrderKind))
         → untold_hits id past ≡ hits → spell_hits child next ≡ cond (is_excluded past child)
         (map (told_at (time_of past)) hits ++ spell_hits child past) (spell_hits child past)
@@ -87,7 +90,7 @@ module _ (lasts : LastStatuses) (goal : Goal) (past : List Event) (sound : is_so
           under : has_untold_miss child.id past ≡ miss
           under = ap (λ y. has_untold_miss y past) (found_own id (known_children past) child there) ∙ untold
 
-    -- where none is under way, the stop and the flag stay
+    -- if none is under way, the stop and the flag stay
     same_stop : untold_hits id past ≡ [] → stop_of id past ≡ stop_known next (child_known id past)
     same_stop untold = sym (stop_same next past (child_known id past) (λ child there. refl)
         (λ child there. hits_next child there [] untold ∙ alike (is_excluded past child) (spell_hits child past))) where
@@ -104,11 +107,12 @@ module _ (lasts : LastStatuses) (goal : Goal) (past : List Event) (sound : is_so
           goes_on true c none = refl
           goes_on false c none = sym (none refl)
 
-    -- how the last child ended, by the answer
-    last_next : (given : Answer) → answered_of id past ≡ Some given → last_told (Some given) (lasts id) ≡ later id
-    last_next given is = sym (λ i. cond (same_id-self id i) (last_told (is i) (lasts id)) (lasts id))
+    -- how the last child ended, given the answer
+    last_next : (given : Answer) → answered_of id past ≡ Some given
+        → last_status_after (Some given) (lasts id) ≡ later id
+    last_next given is = sym (λ i. cond (same_id-self id i) (last_status_after (is i) (lasts id)) (lasts id))
 
-    -- the record with a child, a stop, a look, a Miss and a last status that are those of the past after the Told
+    -- the record whose child, stop, flags and last status are those of the past after the Told
     told_as : (child : Option Child) (stop : Option Stop) (look missed : Bool) (last : Option Status)
         → child_known id next ≡ child → stop ≡ stop_known next child → look ≡ is_to_look id next
         → missed ≡ option_map_or (λ (c : Child). is_missed c next) child false → last ≡ later id
@@ -118,10 +122,10 @@ module _ (lasts : LastStatuses) (goal : Goal) (past : List Event) (sound : is_so
         ≡ record_of later next id
     told_as child stop look missed last known stops looks misses ends = grind (arith, same_id-self)
 
-    -- of an answer that leaves the child
+    -- an answer that does not change the child
     module _ (given : Answer) (is : answered_of id past ≡ Some given) (child_stays : (o : Option Child)
         → child_after id past given o ≡ o) (has_stays : (b : Bool) → has_after given b ≡ b)
-        (last_stays : (o : Option Status) → last_told (Some given) o ≡ o) where
+        (last_stays : (o : Option Status) → last_status_after (Some given) o ≡ o) where
       stays_with : (stop : Option Stop) (missed : Bool) → stop ≡ stop_known next (child_known id past)
           → missed ≡ option_map_or (λ child. is_missed child next) (child_known id past) false
           → record (record_of lasts past id) { order = None; stop = stop; missed = missed } ≡ record_of later next id
@@ -145,7 +149,7 @@ module _ (lasts : LastStatuses) (goal : Goal) (past : List Event) (sound : is_so
           → record (record_of lasts past id) { order = None } ≡ record_of later next id
       only_order hit miss = stays_with (stop_of id past) (was_missed id past) (no_hit hit) (no_miss miss)
 
-    -- a signal was sent: to an excluded child, on a TERM or a KILL
+    -- a signal was sent to an excluded child, on a TERM or a KILL
     hit_stop : answered_of id past ≡ Some answer.Hit
         → after_hit (open_of id past) (time_of past) (stop_of id past) ≡ stop_known next (child_known id past)
     hit_stop is = by_child (child_known id past) refl where
@@ -182,7 +186,7 @@ module _ (lasts : LastStatuses) (goal : Goal) (past : List Event) (sound : is_so
       by_child (Some child) known =
           by_order (open_of id past) refl (answers_open goal past sound id answer.Hit is) child known
 
-    -- and none missed the child before it
+    -- no signal missed the child before
     hit_flag : answered_of id past ≡ Some answer.Hit
         → false ≡ option_map_or (λ child. is_missed child next) (child_known id past) false
     hit_flag is = by_child (child_known id past) refl where
@@ -239,7 +243,7 @@ module _ (lasts : LastStatuses) (goal : Goal) (past : List Event) (sound : is_so
       by_child (Some child) known =
           by_order (open_of id past) refl (answers_open goal past sound id answer.Miss is) child known
 
-    -- a birth: of a child that is not excluded, of an id that had none
+    -- a birth: of a child that is not excluded, for an id that had none
     born_same : (n : ℕ) → answered_of id past ≡ Some (answer.Born n)
         → after_answer (answer.Born n) (time_of past) (record_of lasts past id) ≡ record_of later next id
     born_same n is = told_as (Some (newborn id n past)) None false (was_missed id past) (lasts id) (told_child goal past
@@ -247,7 +251,7 @@ module _ (lasts : LastStatuses) (goal : Goal) (past : List Event) (sound : is_so
         (sym (ap (λ b. cond b (Some (stop_after (spell_hits (newborn id n past) next))) None)
         spared)) (sym (ap (λ b. has_child id (known_children next) && b) (unborn_unlooked goal past sound id n is)
         ∙ and_false (has_child id (known_children next)))) (ap (λ o. option_map_or (λ (c : Child). is_missed c past) o
-        false) (find_none (is_of id) (known_children past) (unborn_childless goal past sound id n is))
+        false) (find_none (is_child_of id) (known_children past) (unborn_childless goal past sound id n is))
         ∙ sym (missed_none (newborn id n past) next spared)) (last_next (answer.Born n) is) where
           spared : is_excluded past (newborn id n past) ≡ false
           spared = newborn_spared goal past sound id n is
@@ -270,7 +274,7 @@ module _ (lasts : LastStatuses) (goal : Goal) (past : List Event) (sound : is_so
     told_own answer.Miss is = stays_with answer.Miss is (λ o. refl) (λ b. refl) (λ s. refl) (stop_of id past) true
         (no_hit answer.Miss is (λ o. refl) (λ b. refl) (λ s. refl) refl) (miss_flag is)
 
--- a filter that hides one id alone, where it isn't listed; and two filters that are one on the other ids
+-- a filter that removes one id, if it is not listed; and two filters that agree on all other ids
 hides_none : (id : List ℕ) (xs : List (List ℕ)) → list_any (same_id id) xs ≡ false
     → filter (λ x. not (same_id id x)) xs ≡ xs
 hides_none id [] none = grind arith
@@ -281,7 +285,7 @@ alike_but : (id : List ℕ) (p q : List ℕ → Bool) → ((x : List ℕ) → sa
 alike_but id p q same [] none = grind arith
 alike_but id p q same (x ∷ xs) none = grind (arith, alike_but id p q same xs)
 
--- an action is known exactly of the ids of a table
+-- an action is known exactly for the ids of a table
 act_listed : (id : List ℕ) (es : List Entry) → is_none (act_of id es) ≡ not (list_any (has_id id) es)
 act_listed id es = mapped_none (entry_of id es) ∙ none_found (has_id id) es where
   mapped_none : (o : Option Entry) → is_none (option_map (λ (e : Entry). e.act) o) ≡ is_none o
@@ -294,7 +298,7 @@ module _ (lasts : LastStatuses) (goal : Goal) (past : List Event) (sound : is_so
   after = Told id ∷ past
 
   abbrev lasts_then : LastStatuses
-  lasts_then = lasts_after (Told id) past lasts
+  lasts_then = last_statuses_after (Told id) past lasts
 
   abbrev is_kept : List ℕ → Bool
   is_kept x = has_child x (known_children past)
@@ -310,7 +314,7 @@ module _ (lasts : LastStatuses) (goal : Goal) (past : List Event) (sound : is_so
   kept_own x same = ap kept_after (sym (same_id-is id x same)) ∙ told_leaves goal past sound id given is
       ∙ ap (λ y. has_after given (is_kept y)) (same_id-is id x same)
 
-  -- where none of its records goes, its records are of the same ids, and each is as the past has it
+  -- if no record is removed, the records are of the same ids, and each is as the past gives it
   changed_same : record_ids past ≡ record_ids after
       → lists.with_changed id (after_answer given (time_of past)) (records_of lasts past) ≡ records_of lasts_then after
   changed_same ids =
@@ -325,18 +329,18 @@ module _ (lasts : LastStatuses) (goal : Goal) (past : List Event) (sound : is_so
         by x false differ = ap (λ b. cond b (after_answer given (time_of past) (record_of lasts past x))
             (record_of lasts past x)) differ ∙ told_apart lasts past id x (same_id-sym x id ∙ differ)
 
-  -- the answer ends no record: of an id of the table, or one that leaves the child of an id
+  -- the answer removes no record: the id is in the table, or its child stays
   ids_stay : list_any (has_id id) (table_of past) ≡ true → record_ids past ≡ record_ids after
   ids_stay there = ap (λ rest. ids_of (table_of past) ++ rest) (alike_but id is_kept kept_after
-      (λ x differ. sym (kept_other x differ)) (left_ids past) (left_apart goal past sound id there))
+      (λ x differ. sym (kept_other x differ)) (removed_ids past) (left_apart goal past sound id there))
 
   ids_kept : ((b : Bool) → has_after given b ≡ b) → record_ids past ≡ record_ids after
   ids_kept stays = grind (arith, filter_agree, kept_own, kept_other)
 
-  -- the record of a child that ended goes, where the table doesn't have the id
+  -- the record of a child that ended is removed if the table does not have the id
   ended_without : list_any (has_id id) (table_of past) ≡ false → ((b : Bool) → has_after given b ≡ false)
       → lists.without id (records_of lasts past) ≡ records_of lasts_then after
-  ended_without gone ends = filter_mapped (λ (slot : RecordState). not (lists.is_record_of id slot)) (record_of lasts
+  ended_without gone ends = filter_mapped (λ (slot : SlotState). not (lists.is_record_of id slot)) (record_of lasts
       past) (record_ids past) ∙ mapped_passing others (record_of lasts past) (record_of lasts_then after)
       (λ x other. (told_apart lasts) past id x (same_id-sym x id ∙ not-true (same_id id x) other)) (record_ids past)
       ∙ ap (map (record_of lasts_then after)) ids where
@@ -348,28 +352,29 @@ module _ (lasts : LastStatuses) (goal : Goal) (past : List Event) (sound : is_so
         by x false differ = and_true (is_kept x) ∙ sym (kept_other x differ)
 
         ids : filter others (record_ids past) ≡ record_ids after
-        ids = filter-append others (ids_of (table_of past)) (filter is_kept (left_ids past)) ∙ (λ i. hides_none id
+        ids = filter-append others (ids_of (table_of past)) (filter is_kept (removed_ids past)) ∙ (λ i. hides_none id
             (ids_of (table_of past)) (ids_listed id (table_of past) ∙ gone) i
-            ++ (filter_both others is_kept (left_ids past)
-            ∙ filter_agree (λ x. is_kept x && others x) kept_after (λ x. by x (same_id id x) refl) (left_ids past)) i)
+            ++ (filter_both others is_kept (removed_ids past)
+            ∙ filter_agree (λ x. is_kept x && others x) kept_after (λ x. by x (same_id id x) refl)
+            (removed_ids past)) i)
 
   over_same : lists.is_over_in id given (records_of lasts past) ≡ is_over given (record_of lasts past id)
-  over_same = ap (lists.is_over_of given) (answered_record lasts goal past sound id given is)
+  over_same = ap (lists.ends_record given) (answered_record lasts goal past sound id given is)
 
   stays_same : is_over given (record_of lasts past id) ≡ false → record_ids past ≡ record_ids after
-      → lists.after_told id given (time_of past) (records_of lasts past) ≡ records_of lasts_then after
+      → lists.after_answer_to id given (time_of past) (records_of lasts past) ≡ records_of lasts_then after
   stays_same stays ids = ap (λ b. cond b (lists.without id (records_of lasts past)) (lists.with_changed id
       (after_answer given (time_of past)) (records_of lasts past))) (over_same ∙ stays) ∙ changed_same ids
 
   goes_same : is_over given (record_of lasts past id) ≡ true → list_any (has_id id) (table_of past) ≡ false
       → ((b : Bool) → has_after given b ≡ false)
-      → lists.after_told id given (time_of past) (records_of lasts past) ≡ records_of lasts_then after
+      → lists.after_answer_to id given (time_of past) (records_of lasts past) ≡ records_of lasts_then after
   goes_same over gone ends = ap (λ b. cond b (lists.without id (records_of lasts past)) (lists.with_changed id
       (after_answer given (time_of past)) (records_of lasts past))) (over_same ∙ over) ∙ ended_without gone ends
 
 -- the records after an answer was told
 pub told_records : (lasts : LastStatuses) → (goal : Goal) (past : List Event) → is_sound goal past ≡ true
-    → (id : List ℕ) (given : Answer) → answered_of id past ≡ Some given → lists.after_told id given (time_of past)
-    (records_of lasts past) ≡ records_of (lasts_after (Told id) past lasts) (Told id ∷ past)
+    → (id : List ℕ) (given : Answer) → answered_of id past ≡ Some given → lists.after_answer_to id given (time_of past)
+    (records_of lasts past) ≡ records_of (last_statuses_after (Told id) past lasts) (Told id ∷ past)
 told_records lasts goal past sound id given is =
     grind (arith, stays_same, ids_stay, start_in_table, born_open, act_listed, goes_same, ids_kept)

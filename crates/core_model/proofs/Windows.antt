@@ -1,4 +1,4 @@
--- The limiter's starts and hold say of the window what the past says.
+-- The starts and the hold of the limiter give the same window as the past.
 use Rattle.core_model.proofs.Words.{Bool, true, false, not, ◌≡◌, ◌≤◌, ◌+◌, ◌&&◌, ◌||◌, ℕ, List, [], ◌∷◌, reverse}
 use Rattle.core_model.proofs.Words.{filter, length, max, min, nat_le, nat_lt, refl, sym, ap, ◌∙◌, arith, cond, All}
 use Rattle.core_model.proofs.Words.{list_any, list_all, IsNonDecreasing, and_parts, and_from, leb-true, le-leb}
@@ -10,7 +10,7 @@ use Rattle.respawn_limit.specs.Window as window
 use Rattle.trace_events.specs.declared.happenings.Happening.TheVariants.{Enter, Hold}
 use Rattle.trace_events.specs.Timing.{is_held, is_full}
 
--- times in order, none after now
+-- ordered times, none of which is later than now
 pub record Noted (now : ℕ) (times : List ℕ) : Type 0 where
   pub ordered : IsNonDecreasing times
   pub past : All (λ t. t ≤ now) times
@@ -25,7 +25,7 @@ noted_more now times noted = rw (reverse_onto times now []) (record {
   past = All-push (λ t. t ≤ now) (reverse times) now noted.past (omega arith);
 })
 
--- the starts of an id, oldest first, are in order
+-- the starts of an id, oldest first, are ordered
 pub starts_noted : (id : List ℕ) (past : List Event) → Noted (time_of past) (reverse (start_times id past))
 starts_noted id [] = record { ordered = λ i j d h k. absurd (omega arith); past = λ k d h. absurd (omega arith) }
 starts_noted id (NewTable table ∷ past) =
@@ -46,7 +46,7 @@ length-filter-reverse : (p : ℕ → Bool) (xs : List ℕ) → length (filter p 
 length-filter-reverse p [] = grind (arith, reverse_onto, filter-append, length-append)
 length-filter-reverse p (x ∷ xs) = grind (arith, length-filter-reverse p xs, reverse_onto, filter-append, length-append)
 
--- the window is full by the starts that are kept exactly if it is by the past
+-- the window is full by the starts that are kept exactly if it is full by the past
 pub full_fits : (id : List ℕ) (past : List Event)
     → window.is_full (window.last_starts (reverse (start_times id past))) (time_of past) ≡ is_full id past
 full_fits id past = is_full-last_starts (reverse (start_times id past)) (time_of past) (starts_noted id past).ordered
@@ -84,7 +84,7 @@ none_of : (now last : ℕ) (times : List ℕ) → list_all (λ began. nat_le beg
 none_of now last [] h over = grind arith
 none_of now last (t ∷ times) h over = grind (arith, none_of now last times)
 
--- a hold is in force by the last one exactly if one of all is
+-- the last hold is in force exactly if one of all holds is
 pub held_by_last : (id : List ℕ) (past : List Event) (now : ℕ) → window.is_held (last_hold_end (hold_times id past)) now
     ≡ list_any (λ began. nat_lt now (began + HOLD)) (hold_times id past)
 held_by_last id [] now = refl
@@ -110,7 +110,7 @@ pub held_fits : (id : List ℕ) (past : List Event)
     → window.is_held (last_hold_end (hold_times id past)) (time_of past) ≡ is_held id past
 held_fits id past = held_by_last id past (time_of past)
 
--- the limiter says yes exactly where no hold is in force and the window is not full
+-- the limiter allows a start exactly if no hold is in force and the window is not full
 pub allows_by : (limiter : LimiterState) (now : ℕ) → allows (window.may_of limiter now)
     ≡ (not (window.is_held limiter.held now) && not (window.is_full limiter.starts now))
 allows_by limiter now = grind arith

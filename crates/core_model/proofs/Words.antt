@@ -1,4 +1,4 @@
--- The words of the proofs of this crate.
+-- Names that the proofs of this crate share.
 pub use Rattle.std.proofs.Common.{arith, ◌≡◌, refl, sym, ◌∙◌, ap, ℕ, Bool, true, false, not, ◌&&◌, ◌||◌, cond, List, []}
 pub use Rattle.std.proofs.Common.{◌∷◌, map, find, Option, Some, None, is_some, zip, nat_lt, ◌≤◌, ◌+◌, subst, ◌++◌}
 pub use Rattle.std.proofs.Common.{filter, length, lit≤, le_trans, is_none, nat_le, ◌<◌, zero, suc, get_or, ◌==◌, ◌⊎◌}
@@ -19,12 +19,13 @@ pub use Rattle.trace_events.specs.declared.happenings.Happening.TheVariants.{Bir
 pub use Rattle.trace_events.specs.declared.happenings.Happening.TheVariants.{NewTable, Asked, Told, Nudge, Clock}
 pub use Rattle.trace_events.specs.declared.steps.Goal.{Goal}
 pub use Rattle.trace_events.specs.Event.{Event}
-pub use Rattle.trace_events.specs.Past.{Child, is_of, has_child, kept_children, known_children, table_of, open_orders}
+pub use Rattle.trace_events.specs.Past.{Child, is_child_of, has_child, kept_children, known_children, table_of}
+pub use Rattle.trace_events.specs.Past.{open_orders}
 pub use Rattle.trace_events.specs.Past.{stage_of, undone_of, grace_of, time_of, is_child, newborn, unreaped_children}
 pub use Rattle.trace_events.specs.Past.{open_of}
 pub use Rattle.trace_events.specs.Spells.{spell_hits, is_missed, Signal, stop_by, stop_due, untold_hits}
 pub use Rattle.trace_events.specs.Spells.{has_untold_miss, told_at}
-pub use Rattle.trace_events.specs.Due.{record_ids, wants_look, left_ids, due, first, steps_if, due_first, due_reexec}
+pub use Rattle.trace_events.specs.Due.{record_ids, wants_look, removed_ids, due, first, steps_if, due_first, due_reexec}
 pub use Rattle.trace_events.specs.Due.{due_reread, due_level, due_news, due_stops, due_starts, due_stage, due_settle}
 pub use Rattle.trace_events.specs.Due.{due_looks, enter_level, power_steps, letter_steps, stops_among, starts_among}
 pub use Rattle.trace_events.specs.Due.{is_announced, step_if, is_served, is_settled, can_start, start_steps}
@@ -36,13 +37,15 @@ pub use Rattle.trace_laws.proofs.Births.{one_child_at, is_table}
 pub use Rattle.trace_laws.proofs.Spells.{is_still, spell_still, missed_still, spell_birth, missed_none, spell_nudge}
 pub use Rattle.trace_laws.proofs.Spells.{spell_none, spell_enter, missed_enter, spell_table, missed_table, spell_told}
 pub use Rattle.trace_laws.proofs.Spells.{missed_told, Tells, answered_tells}
-pub use Rattle.core_records.specs.Lists.{record_by_id, is_record_of, are_distinct, can_ask_of, can_ask, has_record_of}
-pub use Rattle.core_records.specs.Lists.{changed, with_changed, is_busy, is_numbered, order_of, order_in, without}
-pub use Rattle.core_records.specs.Lists.{refusal_of, is_over_of}
+pub use Rattle.child_table.specs.Lists.{record_by_id, is_record_of, are_distinct, can_ask_of, can_ask, has_record_of}
+pub use Rattle.child_table.specs.Lists.{changed, with_changed, is_busy, is_numbered, order_of, order_in, without}
+pub use Rattle.child_table.specs.Lists.{refusal_of, ends_record}
 pub use Rattle.core_model.specs.Fit.{LastStatuses, child_known, living, known_child, stop_known, stop_of, is_to_look}
-pub use Rattle.core_model.specs.Fit.{was_missed, records_of, Fits, core_read, HasLasts, FitsAll, StillFits, lasts_after}
-pub use Rattle.core_model.specs.Fit.{lasts_of, with_lasts, fields_of, limiter_by, last_hold_end, stop_after, asked_of}
-pub use Rattle.core_model.specs.Fit.{called_of, limiter_of, limits_of, with_step, last_told}
+pub use Rattle.core_model.specs.Fit.{was_missed, records_of, Fits, core_read, HasLastStatuses, FitsWithLastStatuses}
+pub use Rattle.core_model.specs.Fit.{FitsExtendedTrace, last_statuses_after}
+pub use Rattle.core_model.specs.Fit.{last_statuses_of, with_last_statuses, fields_of, limiter_by, last_hold_end}
+pub use Rattle.core_model.specs.Fit.{stop_after, asked_of}
+pub use Rattle.core_model.specs.Fit.{called_of, limiter_of, limits_of, with_step, last_status_after}
 pub use Rattle.std.proofs.lemmas.Bool.Decides.{nat_tests}
 pub use Rattle.init_words.specs.declared.entries.Entry.{Entry}
 pub use Rattle.init_words.specs.declared.stages.Stage.{Stage}
@@ -51,17 +54,20 @@ pub use Rattle.init_words.specs.declared.orders.OrderKind.TheVariants.{Term, Kil
 pub use Rattle.respawn_limit.specs.Window.{may_of, with_start, with_hold, last_starts}
 pub use Rattle.trace_events.specs.declared.steps.Step.{Step}
 pub use Rattle.trace_events.specs.declared.steps.Step.TheVariants.{Order, Reread, Reexec, Idle}
-pub use Rattle.core_records.specs.declared.children.Stop.{Stop}
-pub use Rattle.core_records.specs.State.{RecordState, is_limited_record, new_record, act_born_with, stays_called_record}
-pub use Rattle.core_records.specs.Order.{IsInOrder}
-pub use Rattle.core_records.specs.Changes.{allows, can_be_asked, after_order, after_hold, after_begin_round, after_hit}
-pub use Rattle.core_records.specs.Changes.{after_answer, is_over, after_call, after_enter}
-pub use Rattle.trace_events.specs.CallSets.{keeps_kind, keeps_call, first_news, has_news, with_kind, with_call}
-pub use Rattle.trace_events.specs.CallSets.{news_count, news_of}
-pub use Rattle.core_model.specs.Rules.{may_follow, never_fall, IsFit, has_cause, is_birth_known, is_order_allowed}
-pub use Rattle.core_model.specs.Rules.{is_stop_judged, are_marks_due, is_limiter_kept, are_starts_in, are_starts_free}
-pub use Rattle.core_model.specs.Rules.{is_other_level, is_goal_reached, are_fields_kept, is_record_kept}
-pub use Rattle.core_model.specs.Rules.{are_records_kept, is_limit_kept, is_unused, is_kept, is_started}
+pub use Rattle.child_table.specs.declared.children.Stop.{Stop}
+pub use Rattle.child_table.specs.State.{SlotState, is_limited_record, new_record, act_born_with, stays_called_record}
+pub use Rattle.child_table.specs.Order.{IsInOrder}
+pub use Rattle.child_table.specs.Changes.{allows, can_be_asked, after_order, after_hold, after_nudge, after_hit}
+pub use Rattle.child_table.specs.Changes.{after_answer, is_over, after_call, after_enter}
+pub use Rattle.trace_events.specs.CallSets.{contains_kind, contains_letter, first_pending_step, has_news, with_kind}
+pub use Rattle.trace_events.specs.CallSets.{with_call}
+pub use Rattle.trace_events.specs.CallSets.{news_count, pending_calls}
+pub use Rattle.core_model.specs.Rules.{may_follow, is_non_decreasing, IsFit, has_cause, is_birth_known}
+pub use Rattle.core_model.specs.Rules.{is_order_allowed}
+pub use Rattle.core_model.specs.Rules.{is_stop_judged, are_marks_consistent, is_limiter_consistent, are_starts_in}
+pub use Rattle.core_model.specs.Rules.{are_starts_free}
+pub use Rattle.core_model.specs.Rules.{is_level_wish_valid, is_goal_reached, do_fields_obey, does_record_obey}
+pub use Rattle.core_model.specs.Rules.{do_records_obey, is_limit_kept, is_unused, is_kept, is_started}
 pub use Rattle.core_model.specs.Rules.{are_starts_along, is_excluded_in, allows_order, is_child_excluded}
 pub use Rattle.core_model.specs.Rules.{may_be_signalled, is_callable, is_hold_of, is_start_allowed}
 pub use Rattle.core_model.specs.State.{CoreState, opening_fields, opening_state}
@@ -86,14 +92,15 @@ pub use Rattle.init_words.specs.declared.levels.Level.{Level}
 pub use Rattle.init_words.specs.declared.orders.PowerKind.{PowerKind}
 pub use Rattle.init_words.specs.Actions.{is_limited, starts_by, served_by, wanted_by, stays_called, lives_by, same_act}
 pub use Rattle.trace_events.specs.Wishes.{in_run, goal_of, wants_reexec, wants_reread, level_wish, powers, letters}
-pub use Rattle.trace_events.specs.Wishes.{keeps_news, wish_stands, was_booted, is_level, heard_level, other_than}
-pub use Rattle.core_records.specs.declared.children.Stop.TheVariants.{Due, Termed, Killed}
+pub use Rattle.trace_events.specs.Wishes.{are_calls_pending, is_request_pending, was_booted, is_level}
+pub use Rattle.trace_events.specs.Wishes.{last_requested_level, other_than}
+pub use Rattle.child_table.specs.declared.children.Stop.TheVariants.{Due, Termed, Killed}
 pub use Rattle.trace_events.specs.declared.call_sets.CallSet.{CallSet}
 pub use Rattle.init_words.specs.Entries.{waited_of, starts_of, lives_of}
-pub use Rattle.trace_events.specs.Wanted.{is_wanted, same_acts, brings, is_asked, is_order, is_owed, may_live}
-pub use Rattle.trace_events.specs.Wanted.{entries_before, starts_now, starts_in, is_called, nothing_runs}
+pub use Rattle.trace_events.specs.Wanted.{is_wanted, same_acts, adds_or_changes, is_asked, is_order, is_owed, may_live}
+pub use Rattle.trace_events.specs.Wanted.{entries_before, starts_now, starts_in, is_called, has_no_running_child}
 pub use Rattle.trace_events.specs.Wanted.{is_owed_before}
-pub use Rattle.core_records.proofs.Found.{is_listed, others, rest_distinct, unchanged}
+pub use Rattle.child_table.proofs.Found.{is_listed, others, rest_distinct, unchanged}
 pub use Rattle.std.specs.List.Sorted.{IsNonDecreasing}
 pub use Rattle.respawn_limit.specs.declared.TheConstants.{HOLD, CLOCK_LIMIT, STARTS}
 pub use Rattle.init_words.specs.declared.actions.Act.{Act}
@@ -103,33 +110,34 @@ pub use Rattle.init_words.specs.Levels.{names, same_level}
 pub use Rattle.trace_events.specs.Timing.{hold_times, start_times}
 pub use Rattle.trace_laws.specs.Stretches.{is_steady, is_reaping_of}
 pub use Rattle.trace_laws.proofs.Settling.{settle_settled, settle_belongs}
-pub use Rattle.core_model.specs.Happened.{MayLive, AllMayLive, keeps_entry, is_told_of, WasStarted, WasEnded}
-pub use Rattle.core_model.specs.Happened.{starts_at_entry, IsThrough, AllThrough, HasChild, WasHeld, IsServed}
+pub use Rattle.core_model.specs.Happened.{MayLive, AllMayLive, leaves_entry_unchanged, is_told_of, WasStarted, WasEnded}
+pub use Rattle.core_model.specs.Happened.{starts_at_entry, IsEntryDone, AllEarlierDone, HasChild, WasHeld, IsServed}
 pub use Rattle.core_model.specs.Happened.{IsReached}
 pub use Rattle.init_words.specs.declared.orders.Answer.{Answer}
 pub use Rattle.initctl_frame.specs.declared.requests.HeardRequest.{HeardRequest}
 pub use Rattle.trace_events.specs.Answered.{answered_of, child_after}
 pub use Rattle.core_model.specs.Steps.{after_round, after_clock, after_got, after_adopt, after_not_read, after_handed}
-pub use Rattle.core_model.specs.Steps.{after_handed_on, is_boot, wished, heard_in, fields_heard, is_named, called_if}
+pub use Rattle.core_model.specs.Steps.{after_handed_on, is_boot, wished, fields_after_level, fields_after_request}
+pub use Rattle.core_model.specs.Steps.{is_named, called_if}
 pub use Rattle.core_model.specs.Steps.{with_called, judged_in, after_step}
-pub use Rattle.core_records.specs.Times.{is_timely, are_timely}
+pub use Rattle.child_table.specs.Times.{is_timely, are_timely}
 pub use Rattle.std.proofs.lemmas.Grind.{reverse_onto}
 pub use Rattle.respawn_limit.proofs.WindowLemmas.{drop_last_push, is_full-last_starts, IsNonDecreasing-push}
 pub use Rattle.trace_laws.proofs.Known.{quiet_start, has_known, wanted_known, owed_known, can_start_known}
 pub use Rattle.trace_laws.proofs.Known.{excluded_known, known_single}
 pub use Rattle.trace_laws.proofs.Records.{open_in_records, child_in_records, ids_listed, start_in_table}
 pub use Rattle.respawn_limit.specs.State.{LimiterState, unused}
-pub use Rattle.core_records.specs.declared.children.KnownChild.{KnownChild}
+pub use Rattle.child_table.specs.declared.children.KnownChild.{KnownChild}
 pub use Rattle.trace_laws.proofs.Agreement.{agrees_at}
 pub use Rattle.init_words.specs.declared.children.Status.{Status}
-pub use Rattle.core_records.proofs.Changed.{id-after_order, id-after_judge, timely_judge, timely_enter}
-pub use Rattle.core_records.proofs.Changed.{order-after_judge, id-after_answer}
-pub use Rattle.core_records.proofs.Ordered.{kept_by_one, order_changed, act-after_order, order_map, order_adopt}
-pub use Rattle.core_records.proofs.Ordered.{order_new, act-after_judge, over_none, order_told}
-pub use Rattle.core_records.proofs.Timely.{timely_changed, timely_order, timely_parts, timely_map, timely_later}
-pub use Rattle.core_records.proofs.Timely.{timely_told}
+pub use Rattle.child_table.proofs.Changed.{id-after_order, id-after_judge, timely_judge, timely_enter}
+pub use Rattle.child_table.proofs.Changed.{order-after_judge, id-after_answer}
+pub use Rattle.child_table.proofs.Ordered.{kept_by_one, order_changed, act-after_order, order_map, order_adopt}
+pub use Rattle.child_table.proofs.Ordered.{order_new, act-after_judge, over_none, order_told}
+pub use Rattle.child_table.proofs.Timely.{timely_changed, timely_order, timely_parts, timely_map, timely_later}
+pub use Rattle.child_table.proofs.Timely.{timely_told}
 pub use Rattle.std.proofs.lemmas.List.Folds.{list_all-append, list_any-append}
 pub use Rattle.std.proofs.lemmas.List.Sums.{count_by-le-length, length-filter}
-pub use Rattle.core_records.specs.Adopting.{adopted, left_over, is_left_over, entry_records, left_records}
-pub use Rattle.core_records.specs.Judging.{after_judge, judged, judged_child}
+pub use Rattle.child_table.specs.Adopting.{adopted, left_over, is_left_over, entry_records, left_records}
+pub use Rattle.child_table.specs.Judging.{after_judge, judged, judged_child}
 pub use Rattle.std.proofs.lemmas.List.{map-append}

@@ -1,188 +1,204 @@
--- The step that init takes, as a function of what it keeps (init(8)).
+-- The step that init takes, as a function of its state (init(8)).
 use Rattle.std.specs.Prelude.{ℕ, Bool, false, not, ◌&&◌, ◌||◌, ◌+◌, if◌then◌else◌, List, [], ◌∷◌, zip, nat_le, Option}
 use Rattle.std.specs.Prelude.{Some, None, is_some, is_none}
 use Rattle.std.specs.List.{list_any, list_all}
 use Rattle.core_model.specs.Words.{Entry, Level, S, At, Stage, Start, Look, Term, Kill, wanted_by, is_limited}
 use Rattle.core_model.specs.Words.{served_by, starts_of, waited_of, same_level, names, may_of, is_held, Step, Order}
-use Rattle.core_model.specs.Words.{Settle, Reread, Reexec, Idle, Goal, is_order, in_run, Stop, Due, Termed, RecordState}
+use Rattle.core_model.specs.Words.{Settle, Reread, Reexec, Idle, Goal, is_order, in_run, Stop, Due, Termed, SlotState}
 use Rattle.core_model.specs.Words.{allows, is_quiet}
 use Rattle.init_words.specs.declared.stages.Stage.TheVariants as stage
 use Rattle.trace_events.specs.declared.steps.Step.TheVariants.{Enter, Hold}
-use Rattle.trace_events.specs.CallSets.{has_news, first_news}
+use Rattle.trace_events.specs.CallSets.{has_news, first_pending_step}
 use Rattle.core_model.specs.State.{CoreState}
 
+-- the first step if there is one, otherwise the later one
 abbrev pub or_else : Option Step → Option Step → Option Step
 or_else None later = later
 or_else (Some step) later = Some step
 
+-- the step if there is one, otherwise Idle
 abbrev pub or_idle : Option Step → Step
 or_idle None = Idle
 or_idle (Some step) = step
 
--- a wish for another level: through Boot on the first way to a level other than S
+-- enter the requested level, or Boot if the level is not S and Boot was never entered
 abbrev pub level_step : Bool → Option Goal → Option Step
 level_step booted None = None
 level_step booted (Some wish) =
     let first_way = not (same_level wish.level S) && not booted in
     Some (Enter (if first_way then stage.Boot else stage.Run wish.level) wish.grace)
 
--- the news counts in a run level alone
+-- call the entries for the first pending power event or letter; only in a runlevel
 abbrev pub news_step : Stage → CoreState → Option Step
-news_step stage c = if in_run (Some stage) then first_news c.fields.pending else None
+news_step stage c = if in_run (Some stage) then first_pending_step c.fields.pending else None
 
--- what is wished, at a point where no start and no signal is open
+-- the step for the first pending request
 abbrev pub wished_step : Stage → CoreState → Option Step
 wished_step stage c =
     if c.fields.reexec then Some Reexec else if c.fields.reread then Some Reread
     else or_else (level_step c.fields.booted c.fields.level_wish) (news_step stage c)
 
+-- the same, at a point where no start and no signal is open
 abbrev pub wish_step : Stage → CoreState → Option Step
 wish_step stage c = if is_quiet c.slots then wished_step stage c else None
 
--- a wish stands
+-- power events or letters are pending, and the stage is a runlevel
 abbrev pub counts_news : Stage → CoreState → Bool
 counts_news stage c = in_run (Some stage) && has_news c.fields.pending
 
+-- a request is pending
 abbrev pub stands : Stage → CoreState → Bool
 stands stage c = c.fields.reexec || c.fields.reread || is_some c.fields.level_wish || counts_news stage c
 
--- the signal that is due to an excluded child, by how far its stop has come: TERM, then KILL after the grace
+-- the signal that is due to an excluded child, by how far its stopping has come: TERM, then KILL after the grace period
 abbrev pub signal_step : ℕ → ℕ → List ℕ → Option Stop → Option Step
 signal_step grace now id (Some Due) = Some (Order id Term)
 signal_step grace now id (Some (Termed time)) = if nat_le (time + grace) now then Some (Order id Kill) else None
 signal_step grace now id _ = None
 
-abbrev pub stop_step : ℕ → ℕ → RecordState → Option Step
+-- the signal that is due to the record's child, if no order is open and no signal has missed it
+abbrev pub stop_step : ℕ → ℕ → SlotState → Option Step
 stop_step grace now slot =
     if is_some slot.child && is_none slot.order && not slot.missed then signal_step grace now slot.id slot.stop
     else None
 
 -- the first signal in record order
-abbrev pub stop_among : ℕ → ℕ → List RecordState → Option Step
+abbrev pub stop_among : ℕ → ℕ → List SlotState → Option Step
 stop_among grace now [] = None
 stop_among grace now (slot ∷ slots) = or_else (stop_step grace now slot) (stop_among grace now slots)
 
--- a child is excluded: its stop has begun
-abbrev pub has_excluded : List RecordState → Bool
-has_excluded slots = list_any (λ (slot : RecordState). is_some slot.stop) slots
+-- some child is excluded: its record says that it is to be stopped
+abbrev pub has_excluded : List SlotState → Bool
+has_excluded slots = list_any (λ (slot : SlotState). is_some slot.stop) slots
 
 -- the entry with this record is wanted in the stage
-abbrev pub is_wanted_record : Stage → Entry → RecordState → Bool
+abbrev pub is_wanted_record : Stage → Entry → SlotState → Bool
 is_wanted_record stage e slot =
     starts_of e stage
     && wanted_by e.act (is_none slot.child && not (is_order Start slot.order)) (not slot.asked) slot.called
 
--- it is owed: init waits for it
-abbrev pub is_owed_record : Stage → Entry → RecordState → Bool
+-- the entry with this record is owed: init waits for it, and it has a child, an open start, or is wanted
+abbrev pub is_owed_record : Stage → Entry → SlotState → Bool
 is_owed_record stage e slot =
     waited_of e && (is_some slot.child || is_order Start slot.order || is_wanted_record stage e slot)
 
--- the start or the hold of an entry that could be started, if its limiter has not held it already
-abbrev pub limited_step : ℕ → Entry → RecordState → Option Step
+-- start the entry; if the respawn limit applies to it, it is skipped while it is held, and held if the limiter does not
+-- allow a start
+abbrev pub limited_step : ℕ → Entry → SlotState → Option Step
 limited_step now e slot =
     if is_limited e.act then
     (if is_held slot.limiter.held now then None
     else Some (if allows (may_of slot.limiter now) then Order e.id Start else Hold e.id))
     else Some (Order e.id Start)
 
-abbrev pub can_start_record : Stage → Entry → RecordState → Bool
+-- the entry with this record can be started: it is wanted, and has no child and no open order
+abbrev pub can_start_record : Stage → Entry → SlotState → Bool
 can_start_record stage e slot = is_wanted_record stage e slot && is_none slot.child && is_none slot.order
 
-abbrev pub start_step : Stage → ℕ → Entry → RecordState → Option Step
+-- the start or the hold of the entry, if it can be started
+abbrev pub start_step : Stage → ℕ → Entry → SlotState → Option Step
 start_step stage now e slot = if can_start_record stage e slot then limited_step now e slot else None
 
--- the first start or hold in table order, up to the first owed entry
-abbrev pub start_along : Stage → ℕ → List (Entry × RecordState) → Option Step
+-- the first start or hold among these entries, up to and including the first owed one
+abbrev pub start_along : Stage → ℕ → List (Entry × SlotState) → Option Step
 start_along stage now [] = None
 start_along stage now (p ∷ ps) =
     or_else (start_step stage now p.0 p.1) (if is_owed_record stage p.0 p.1 then None else start_along stage now ps)
 
-abbrev pub start_among : Stage → ℕ → List Entry → List RecordState → Option Step
+-- the first start or hold in table order, up to and including the first owed entry
+abbrev pub start_among : Stage → ℕ → List Entry → List SlotState → Option Step
 start_among stage now table slots = start_along stage now (zip table slots)
 
--- nothing is left to do for the entry in Sysinit or Boot
-abbrev pub is_done_record : Stage → Entry → RecordState → Bool
+-- nothing is left to do for the entry in Sysinit or Boot: it is not wanted, and init does not wait for its child
+abbrev pub is_done_record : Stage → Entry → SlotState → Bool
 is_done_record stage e slot = not (is_wanted_record stage e slot) && not (waited_of e && is_some slot.child)
 
-abbrev pub all_done : Stage → List Entry → List RecordState → Bool
-all_done stage table slots = list_all (λ (p : Entry × RecordState). is_done_record stage p.0 p.1) (zip table slots)
+-- nothing is left to do for any entry
+abbrev pub all_done : Stage → List Entry → List SlotState → Bool
+all_done stage table slots = list_all (λ (p : Entry × SlotState). is_done_record stage p.0 p.1) (zip table slots)
 
--- a stage of the way up is over: nothing is open in it but looks, and nothing left to do
-abbrev pub is_over_among : Stage → List Entry → List RecordState → Bool
+-- Sysinit or Boot is over: no start and no signal is open, and nothing is left to do for any entry
+abbrev pub is_over_among : Stage → List Entry → List SlotState → Bool
 is_over_among stage table slots = is_quiet slots && all_done stage table slots
 
--- after Sysinit and Boot, the stage that comes next
+-- the stage that comes after Sysinit or Boot
 abbrev pub next_stage : Stage → Level → Option Stage
 next_stage stage.Sysinit goal = Some (if same_level goal S then stage.Run S else stage.Boot)
 next_stage stage.Boot goal = Some (stage.Run goal)
 next_stage (stage.Run level) goal = None
 
+-- enter the stage, if there is one
 abbrev pub enter_step : Option Stage → ℕ → Option Step
 enter_step None grace = None
 enter_step (Some stage) grace = Some (Enter stage grace)
 
-abbrev pub stage_step : Stage → Goal → List Entry → List RecordState → Option Step
+-- if the stage is Sysinit or Boot and is over, enter the next one
+abbrev pub stage_step : Stage → Goal → List Entry → List SlotState → Option Step
 stage_step stage goal table slots =
     if is_over_among stage table slots then enter_step (next_stage stage goal.level) goal.grace else None
 
--- no order at all is open
-abbrev pub is_idle : List RecordState → Bool
-is_idle slots = not (list_any (λ (slot : RecordState). is_some slot.order) slots)
+-- no order is open
+abbrev pub is_idle : List SlotState → Bool
+is_idle slots = not (list_any (λ (slot : SlotState). is_some slot.order) slots)
 
--- the entry with this record keeps no level from being settled
-abbrev pub is_served_record : Level → ℕ → Entry → RecordState → Bool
+-- the entry with this record does not keep the level from being settled
+abbrev pub is_served_record : Level → ℕ → Entry → SlotState → Bool
 is_served_record level now e slot = not (is_owed_record (stage.Run level) e slot)
     && (not (names (At level) e.levels.items)
     || served_by e.act slot.asked (is_some slot.child || is_held slot.limiter.held now))
 
-abbrev pub all_served : Level → ℕ → List Entry → List RecordState → Bool
+-- no entry keeps the level from being settled
+abbrev pub all_served : Level → ℕ → List Entry → List SlotState → Bool
 all_served level now table slots =
-    list_all (λ (p : Entry × RecordState). is_served_record level now p.0 p.1) (zip table slots)
+    list_all (λ (p : Entry × SlotState). is_served_record level now p.0 p.1) (zip table slots)
 
--- in a run level, that it is settled, once
-abbrev pub settle_step : Stage → Bool → ℕ → List Entry → List RecordState → Option Step
+-- in a runlevel, announce once that it is settled
+abbrev pub settle_step : Stage → Bool → ℕ → List Entry → List SlotState → Option Step
 settle_step (stage.Run level) announced now table slots =
     if not announced && is_idle slots && all_served level now table slots then Some (Settle level) else None
 settle_step _ announced now table slots = None
 
--- the first record whose child is to be looked at
-abbrev pub can_look_record : RecordState → Bool
+-- the child of the record is to be looked at, and no order is open
+abbrev pub can_look_record : SlotState → Bool
 can_look_record slot = is_some slot.child && is_none slot.order && slot.look
 
-abbrev pub look_among : List RecordState → Option Step
+-- the first look in record order
+abbrev pub look_among : List SlotState → Option Step
 look_among [] = None
 look_among (slot ∷ slots) = if can_look_record slot then Some (Order slot.id Look) else look_among slots
 
--- where no child is excluded: a start or a hold, the next stage, or that the level is settled
+-- if no child is excluded: a start or a hold, the next stage, or the announcement that the level is settled
 abbrev pub calm_step : Stage → CoreState → Option Step
 calm_step stage c =
     or_else (start_among stage c.fields.time c.table c.slots)
     (or_else (stage_step stage c.fields.goal c.table c.slots)
     (settle_step stage c.fields.announced c.fields.time c.table c.slots))
 
--- where no wish stands: a signal, or one of those
+-- if no request is pending: a signal, or one of those steps
 abbrev pub work_step : Stage → CoreState → Option Step
 work_step stage c =
     if stands stage c then None
     else or_else (stop_among c.fields.grace c.fields.time c.slots)
     (if has_excluded c.slots then None else calm_step stage c)
 
--- the step: before the first stage Sysinit, where no start and no signal is open; then what is wished, what is to be
--- done, a look, or nothing
+-- before the first stage, enter Sysinit if no start and no signal is open
 abbrev pub first_step : CoreState → Option Step
 first_step c = if is_quiet c.slots then Some (Enter stage.Sysinit c.fields.goal.grace) else None
 
+-- the step in this stage: for a pending request, otherwise work, otherwise a look, otherwise Idle
 abbrev pub decide_in : Option Stage → CoreState → Step
 decide_in None c = or_idle (first_step c)
 decide_in (Some stage) c = or_idle (or_else (wish_step stage c) (or_else (work_step stage c) (look_among c.slots)))
 
+-- the step that init takes
 abbrev pub decide : CoreState → Step
 decide c = decide_in c.fields.stage c
 
--- a run level is announced, no record has a child or an order, no wish stands, and no entry is held
-abbrev pub is_busy_record : ℕ → RecordState → Bool
+-- the record has a child or an open order, or its entry is held
+abbrev pub is_busy_record : ℕ → SlotState → Bool
 is_busy_record now slot = is_some slot.child || is_some slot.order || is_held slot.limiter.held now
 
+-- init is drained: it is in a runlevel that was announced settled, no request is pending, and no record is busy
 abbrev pub is_drained_in : Option Stage → CoreState → Bool
 is_drained_in (Some (stage.Run level)) c =
     c.fields.announced && not (stands (stage.Run level) c) && not (list_any (is_busy_record c.fields.time) c.slots)

@@ -1,15 +1,15 @@
--- The laws of births and of announced levels, of happenings alone: what came before, and since when.
--- A trace is a list of happenings, the newest first: `since ++ happening ∷ before` is a trace in which it came.
+-- The laws of births and of announced levels in terms of happenings alone: what came before, and since when.
+-- A trace is a list of happenings, newest first: `since ++ happening ∷ before` is a trace that contains the happening.
 use Rattle.std.specs.Prelude.{◌≡◌, ◌<◌, ◌+◌, ◌⊎◌, ⊤, ℕ, Bool, true, false, not, ◌&&◌, IsTrue, List, [], ◌∷◌, ◌++◌, Some}
 use Rattle.std.specs.List.{list_any}
 use Rattle.core_model.specs.Words.{HOLD, Entry, Act, Level, Start, Stage, Run, same_id, starts_of, lives_of, waited_of}
 use Rattle.core_model.specs.Words.{has_id, entry_of, act_of, NewTable, Asked, Birth, Told, Event, table_of, stage_of}
-use Rattle.core_model.specs.Words.{time_of, same_acts, brings, is_steady, is_reaping_of}
+use Rattle.core_model.specs.Words.{time_of, same_acts, adds_or_changes, is_steady, is_reaping_of}
 use Rattle.init_words.specs.declared.actions.Act.TheVariants as act
 use Rattle.trace_events.specs.declared.happenings.Happening.TheVariants.{Enter, Hold}
 
--- a child of the id, born behind `before`, may live: the table in force has its entry, with the action that it had at
--- the birth, and the entry lives in the stage in force
+-- a child of the id, born after `before`, may live: the table in force has an entry for the id, with the action that
+-- the table had at the birth, and a child of the entry may live in the stage in force
 pub record MayLive (id : List ℕ) (before past : List Event) : Type 0 where
   pub entry : Entry
   pub stage : Stage
@@ -18,62 +18,64 @@ pub record MayLive (id : List ℕ) (before past : List Event) : Type 0 where
   pub entered : stage_of past ≡ Some stage
   pub lives : IsTrue (lives_of entry stage)
 
--- each child that was born, and not reaped since, may live
+-- each child that was born and not reaped since may live
 abbrev pub AllMayLive : List Event → Type 0
 AllMayLive past =
     (id : List ℕ) (number : ℕ) (since before : List Event)
     → past ≡ since ++ Birth id number ∷ before → list_any (is_reaping_of id number) since ≡ false
     → MayLive id before past
 
--- in a stretch no stage was entered, and no table came that brought the id's entry
-abbrev pub keeps_entry : List ℕ → List Event → List Event → Bool
-keeps_entry id [] before = true
-keeps_entry id (Enter stage grace ∷ stretch) before = false
-keeps_entry id (NewTable table ∷ stretch) before =
-    not (brings id table (table_of (stretch ++ before))) && keeps_entry id stretch before
-keeps_entry id (_ ∷ stretch) before = keeps_entry id stretch before
+-- in this stretch, no stage was entered, and no table brought the id's entry
+abbrev pub leaves_entry_unchanged : List ℕ → List Event → List Event → Bool
+leaves_entry_unchanged id [] before = true
+leaves_entry_unchanged id (Enter stage grace ∷ stretch) before = false
+leaves_entry_unchanged id (NewTable table ∷ stretch) before =
+    not (adds_or_changes id table (table_of (stretch ++ before))) && leaves_entry_unchanged id stretch before
+leaves_entry_unchanged id (_ ∷ stretch) before = leaves_entry_unchanged id stretch before
 
+-- the happening is a Told of the id
 abbrev pub is_told_of : List ℕ → Event → Bool
 is_told_of id (Told i) = same_id id i
 is_told_of id _ = false
 
--- a Start of the id was ordered since the stage was entered and its entry was brought, and what came of it was told
+-- a Start of the id was ordered since the stage was entered and since the entry was brought, and its outcome was told
 pub record WasStarted (id : List ℕ) (past : List Event) : Type 0 where
   pub since : List Event
   pub before : List Event
   pub ordered : past ≡ since ++ Asked id Start ∷ before
-  pub kept : IsTrue (keeps_entry id since (Asked id Start ∷ before))
+  pub kept : IsTrue (leaves_entry_unchanged id since (Asked id Start ∷ before))
   pub told : IsTrue (list_any (is_told_of id) since)
 
--- a child was reaped, and then it was told
+-- the child was reaped, and init was told of its id after that
 pub record WasEnded (id : List ℕ) (number : ℕ) (since : List Event) : Type 0 where
   pub later : List Event
   pub between : List Event
   pub told : since ≡ later ++ Told id ∷ between
   pub reaped : IsTrue (list_any (is_reaping_of id number) between)
 
--- the actions of waited entries that start when a stage is entered
+-- the waited actions whose entries start when a stage is entered, without being called
 abbrev pub starts_at_entry : Act → Bool
 starts_at_entry act.Sysinit = true
 starts_at_entry act.Bootwait = true
 starts_at_entry act.Wait = true
 starts_at_entry _ = false
 
--- nothing is under way of the entry: each of its children was ended, and where it starts in the stage, it was started
-pub record IsThrough (e : Entry) (past : List Event) : Type 0 where
+-- the entry is through: each of its children has ended, and if its action starts when a stage is entered, and it starts
+-- in the stage in force, it was started
+pub record IsEntryDone (e : Entry) (past : List Event) : Type 0 where
   pub ended : (number : ℕ) (since before : List Event)
       → past ≡ since ++ Birth e.id number ∷ before → WasEnded e.id number since
   pub started : (stage : Stage) → stage_of past ≡ Some stage → IsTrue (starts_of e stage)
       → IsTrue (starts_at_entry e.act) → WasStarted e.id past
 
--- each waited entry of the table in force that stands before that of the id is through
-abbrev pub AllThrough : List ℕ → List Event → Type 0
-AllThrough id past =
+-- each waited entry of the table in force before the first one of the id is through
+abbrev pub AllEarlierDone : List ℕ → List Event → Type 0
+AllEarlierDone id past =
     (front rest : List Entry) (e : Entry)
     → table_of past ≡ front ++ e ∷ rest → list_any (has_id id) front ≡ false → same_id id e.id ≡ false
-    → IsTrue (waited_of e) → IsThrough e past
+    → IsTrue (waited_of e) → IsEntryDone e past
 
--- a child of the id was born, and not reaped since
+-- a child of the id was born and not reaped since
 pub record HasChild (id : List ℕ) (past : List Event) : Type 0 where
   pub number : ℕ
   pub since : List Event
@@ -81,7 +83,7 @@ pub record HasChild (id : List ℕ) (past : List Event) : Type 0 where
   pub born : past ≡ since ++ Birth id number ∷ before
   pub unreaped : list_any (is_reaping_of id number) since ≡ false
 
--- the id was held in the stage, less than five minutes ago
+-- the id was held less than five minutes ago, with no new stage and no table since
 pub record WasHeld (id : List ℕ) (past : List Event) : Type 0 where
   pub since : List Event
   pub before : List Event
@@ -89,19 +91,20 @@ pub record WasHeld (id : List ℕ) (past : List Event) : Type 0 where
   pub steady : IsTrue (is_steady since)
   pub lately : time_of past < time_of before + HOLD
 
--- an entry of a level that was reached, by its action
+-- what an entry of a reached level needs: a wait or once entry was started, a respawn entry has a child or was held,
+-- and any other entry needs nothing
 abbrev pub IsServed : Act → List ℕ → List Event → Type 0
 IsServed act.Wait id past = WasStarted id past
 IsServed act.Once id past = WasStarted id past
 IsServed act.Respawn id past = HasChild id past ⊎ WasHeld id past
 IsServed _ id past = ⊤
 
--- the level is that of the stage, each child may live, each waited entry is through, and each entry that starts in the
--- level is served
+-- the level is reached: it is the stage in force, each child may live, each waited entry is through, and each entry
+-- that starts in the level has what it needs
 pub record IsReached (level : Level) (past : List Event) : Type 0 where
   pub entered : stage_of past ≡ Some (Run level)
   pub living : AllMayLive past
   pub through : (front rest : List Entry) (e : Entry)
-      → table_of past ≡ front ++ e ∷ rest → IsTrue (waited_of e) → IsThrough e past
+      → table_of past ≡ front ++ e ∷ rest → IsTrue (waited_of e) → IsEntryDone e past
   pub served : (front rest : List Entry) (e : Entry)
       → table_of past ≡ front ++ e ∷ rest → IsTrue (starts_of e (Run level)) → IsServed e.act e.id past

@@ -1,18 +1,18 @@
--- What init keeps, as plain values: what its state text says (telinit(8), `u`).
+-- The state of init as plain values, as its state text has them (telinit(8), `u`).
 use Rattle.std.specs.Prelude.{List, map}
-use Rattle.core_model.specs.Words.{Entry, RecordState, child_number, birth_act}
+use Rattle.core_model.specs.Words.{Entry, SlotState, child_number, birth_act}
 use Rattle.core_model.specs.declared.parts.CoreFields.{CoreFields}
-use Rattle.core_model.specs.declared.parts.PlainRecord.{PlainRecord}
+use Rattle.core_model.specs.declared.parts.PlainSlot.{PlainSlot}
 use Rattle.core_model.specs.State.{CoreState}
 
--- the fields, the table, and a record for each id in record order
+-- the fields, the table, and a record for each id, in record order
 pub record SavedState : Type 0 where
   pub fields : CoreFields
   pub table : List Entry
-  pub records : List PlainRecord
+  pub records : List PlainSlot
 
--- what a record of init's keeps
-abbrev pub record_of : RecordState → PlainRecord
+-- the plain values of a record
+abbrev pub record_of : SlotState → PlainSlot
 record_of slot = record {
   id = slot.id;
   child = child_number slot;
@@ -28,6 +28,6 @@ record_of slot = record {
   last = slot.last;
 }
 
--- what a core keeps, as plain values
+-- the plain values of a core
 abbrev pub state_of : CoreState → SavedState
 state_of core = record { fields = core.fields; table = core.table; records = map record_of core.slots }

@@ -1,8 +1,9 @@
-//! What init keeps in mind, what it decides by it, and what each happening makes of it, as definitions; and the laws
-//! that tie them to the trace of a run (init(8)). What keeps and decides so is in `core_steps`.
+//! The model of init's decisions, as definitions: the state that init keeps, the step that it decides on, and how each
+//! happening changes the state (init(8)). The laws in this crate relate the model to the trace of a run. The
+//! implementation is in `level_core`.
 //!
-//! A core fits a trace where what it keeps is what the trace says. Then the step that it decides on is the first that
-//! is due, and its children, corrected by the answers under way, are the children that the system has.
+//! A core fits a trace if its state is the one that the trace gives. Then the step that it decides on is the first due
+//! step, and its children, corrected by the answers under way, are the children that the system has.
 #![tactic(auto)]
 
 mod headline;
@@ -11,4 +12,4 @@ mod parts;
 
 pub use headline::law_agreement;
 pub use laws::{law_of_acts, law_of_lasts};
-pub use parts::{CoreFields, Parts, PlainRecord};
+pub use parts::{CoreFields, Parts, PlainSlot};

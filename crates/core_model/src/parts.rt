@@ -1,11 +1,11 @@
-//! The plain values that a core is written as, and made again of.
+//! The state of a core as plain values, which are written as text and from which a core is rebuilt.
 
 ghost use Rattle.std.specs.Prelude.{◌≡◌};
 ghost use Rattle.core_model.specs.Parts.{record_of};
 ghost use Rattle.core_model.specs.State.{opening_fields};
 
 use arrayvec::ArrayVec;
-use core_records::{Record, Stop};
+use child_table::{Slot, Stop};
 use init_words::{Act, ChildNumber, Id, OrderKind, Stage, Status};
 use inittab_text::Table;
 use respawn_limit::STARTS;
@@ -13,34 +13,34 @@ use std::alloc::{Allocator, Global};
 use std::marker::Model;
 use trace_events::{CallSet, Goal};
 
-/// What init keeps, but for its table and its records.
+/// The state of init, without its table and its records.
 #[derive(Clone, Copy)]
 pub struct CoreFields {
-    /// How often init was re-executed.
+    /// The number of times that init was re-executed.
     pub generation: u64,
     /// The time, in seconds.
     pub time: u64,
-    /// The stage, none before the first is entered.
+    /// The stage in force; none before the first is entered.
     pub stage: Option<Stage>,
-    /// The seconds between the two signals that stop a child.
+    /// The seconds between SIGTERM and SIGKILL.
     pub grace: u16,
     pub goal: Goal,
-    /// Boot was entered.
+    /// Whether the stage Boot was entered.
     pub booted: bool,
-    /// The runlevel was announced settled.
+    /// Whether the runlevel was announced settled.
     pub announced: bool,
-    /// inittab is to be read again.
+    /// Whether inittab is to be read again.
     pub reread: bool,
-    /// Init is to be re-executed.
+    /// Whether init is to be re-executed.
     pub reexec: bool,
-    /// The level that was asked for.
+    /// The pending request for another runlevel.
     pub level_wish: Option<Goal>,
-    /// What is to be called.
+    /// The pending power events and letters.
     pub pending: CallSet,
 }
 
 impl CoreFields {
-    /// Those of an opening with the goal: no stage yet, and no wish.
+    /// Returns the fields of a new core with this goal: no stage yet, and no pending request.
     pub fn opening(goal: Goal) -> CoreFields
         ensures { result ≡ opening_fields goal }
     {
@@ -60,17 +60,17 @@ impl CoreFields {
     }
 }
 
-/// What init keeps of one id.
+/// The state that init keeps for one id.
 #[derive(Drop)]
-pub struct PlainRecord {
+pub struct PlainSlot {
     pub id: Id,
-    /// The number of its child.
+    /// The number of the child.
     pub child: Option<ChildNumber>,
-    /// The action that the id had when its child was born.
+    /// The action that the table had for the id when the child was born.
     pub act: Option<Act>,
     /// The order that is not answered yet.
     pub order: Option<OrderKind>,
-    /// How far the stopping of its child has come.
+    /// How far the stopping of the child has come.
     pub stop: Option<Stop>,
     pub asked: bool,
     pub called: bool,
@@ -80,20 +80,20 @@ pub struct PlainRecord {
     pub held_until: Option<u64>,
     /// The times of the last starts, in seconds.
     pub starts: ArrayVec<u64, STARTS>,
-    /// How the last child of the id ended of which init was told.
+    /// How the last child of the id ended, as far as init was told.
     pub last: Option<Status>,
 }
 
-impl PlainRecord {
-    /// What a record of init's keeps.
-    pub fn of(slot: &Record) -> PlainRecord
+impl PlainSlot {
+    /// Returns the plain values of a record.
+    pub fn of(slot: &Slot) -> PlainSlot
         ensures { result ≡ record_of slot.now }
     {
         let mut starts = ArrayVec::new();
         if starts.try_extend_from_slice(slot.starts()).is_err() {
             unreachable!()
         }
-        PlainRecord {
+        PlainSlot {
             id: slot.id(),
             child: slot.child(),
             act: slot.act(),
@@ -110,13 +110,13 @@ impl PlainRecord {
     }
 }
 
-/// What init keeps, as plain values: what its state text says, and what it is rebuilt from.
+/// The state of init as plain values, from which its state text is written and from which a core is rebuilt.
 #[derive(Drop)]
 pub struct Parts<A: Allocator = Global> {
     pub fields: CoreFields,
     pub table: Table<A>,
-    /// In record order.
-    pub records: Vec<PlainRecord, A>,
+    /// The records, in record order.
+    pub records: Vec<PlainSlot, A>,
 }
 
 impl<A: Allocator> Model for Parts<A> {

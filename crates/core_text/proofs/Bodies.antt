@@ -1,4 +1,5 @@
--- The lines before the last: what is read of them, and that nothing else is; and a text split at its last line.
+-- The lines of a text before its last one: what is read from them, and that nothing else can be. Also, how a text is
+-- split at its last line.
 use Rattle.core_text.proofs.CommonWords.{◌≡◌, ◌≢◌, ℕ, zero, suc, ◌-◌, Bool, true, false, cond, not, ◌&&◌, ◌==◌, List}
 use Rattle.core_text.proofs.CommonWords.{[], ◌∷◌, ◌++◌, length, take, map, append-nil, codes, Option, Some, None}
 use Rattle.core_text.proofs.CommonWords.{Result, Ok, Err, refl, sym, ap, ◌∙◌, subst, arith, list_all, starts_with}
@@ -6,7 +7,7 @@ use Rattle.core_text.proofs.CommonWords.{and_parts, and_from, lt-ltb, not-true, 
 use Rattle.core_text.proofs.CommonWords.{option_and_then_some, same_Some, some_pair_parts, after_lines, cut, has_byte}
 use Rattle.core_text.proofs.CommonWords.{newlines, cut-append, cut-parts, newlines-append, newlines-line, take-front}
 use Rattle.core_text.proofs.CommonWords.{Entry, table_parts, option_map_some, one_line, parts, fields_written, is_empty}
-use Rattle.core_text.proofs.CommonWords.{is_table, is_written, CoreFields, StateFault, PlainRecord, SavedState, Version}
+use Rattle.core_text.proofs.CommonWords.{is_table, is_written, CoreFields, StateFault, PlainSlot, SavedState, Version}
 use Rattle.core_text.proofs.CommonWords.{holds_table, body_lines, head_lines, slot_line, table_line, text_of_lines}
 use Rattle.core_text.proofs.CommonWords.{version_line, are_fields, is_record, is_state, OnLine, end_split, fields_read}
 use Rattle.core_text.proofs.CommonWords.{last_line, table_read, version_read, AreRecords, IsBody, IsBodyIn, NoBody}
@@ -19,7 +20,7 @@ use Rattle.core_text.proofs.Whole.{records_text, table_back, table_own, table_te
 use Rattle.core_text.proofs.WordForms.{time_lacks, version_lacks}
 use Rattle.core_text.proofs.Written.{text_of_lines-append}
 
--- a refusal that is handed on, and one that means more
+-- a fault that is passed on, and what it implies
 pub err_kept : {T E : Type 0} (r : Result T E) (e : E) (Q : E → Type 0) → IsErrAnd r (λ x. x ≡ e) → Q e → IfErr r Q
 err_kept (Ok t) e Q is q = tt
 err_kept (Err x) e Q is q = subst Q (sym is) q
@@ -48,7 +49,7 @@ on_body text f fault.Generation p = p
 on_body text f fault.Unfit p = p
 on_body text f fault.Worn p = p
 
--- THE BODY
+-- The lines before the last one.
 
 unfoldable pub body_text : Version → SavedState → List ℕ
 body_text v state = text_of_lines (body_lines v state)
@@ -56,7 +57,7 @@ body_text v state = text_of_lines (body_lines v state)
 unfoldable pub fields_text : CoreFields → List ℕ
 fields_text fields = text_of_lines (head_lines fields)
 
--- the first line with its newline, and more
+-- the version's line with its newline, followed by more text
 abbrev begun : Version → List ℕ → List ℕ
 begun v rest = (version_line v ++ 10 ∷ []) ++ rest
 
@@ -79,7 +80,7 @@ version_own v text rest is = sym (begun_as v rest) ∙ (version_front.own text v
 pub version_back : (v : Version) (rest : List ℕ) → version_read (version_line v ++ 10 ∷ rest) ≡ Some (v, rest)
 version_back v rest = ap version_read (sym (begun_as v rest)) ∙ version_front.back v rest refl
 
--- the fields, the table and the records of a state
+-- the conditions on the fields, the table and the records of a state
 pub record Kept (v : Version) (state : SavedState) : Type 0 where
   pub fields : are_fields state.fields ≡ true
   pub table : is_table state.table ≡ true
@@ -89,7 +90,7 @@ pub record Kept (v : Version) (state : SavedState) : Type 0 where
 pub state_parts : (v : Version) (state : SavedState) → is_state v state ≡ true → Kept v state
 state_parts v state is = grind arith
 
--- what is read of the text of a state, and of more behind it
+-- what is read from the text of a state, and from more text after it
 pub record Steps (v : Version) (state : SavedState) (text more : List ℕ) : Type 0 where
   pub begins : version_read text
       ≡ Some (v, fields_text state.fields ++ (table_text state.table ++ (records_text v state.records ++ more)))
@@ -125,7 +126,7 @@ pub steps_of : (v : Version) (state : SavedState) (text : List ℕ) → IsBodyIn
 unfolding body_text
 steps_of v state text is = steps v state text [] is.0 (append-nil (text_of_lines (body_lines v state)) ∙ is.1)
 
--- a body is one of the version that its first line names
+-- the lines before the last one are those of the version named in the first line
 pub of_version : (v : Version) (state : SavedState) (text first : List ℕ) → version_read text ≡ Some (v, first)
     → IsBody text state → IsBodyIn v text state
 of_version v state text first at is = subst (λ w. IsBodyIn w text state) same is.1
@@ -133,7 +134,7 @@ of_version v state text first at is = subst (λ w. IsBodyIn w text state) same i
     same : is.0 ≡ v
     same = (some_pair_parts _ _ _ _ (sym (steps_of is.0 state text is.1).begins ∙ at)).0
 
--- and so is what is behind that line
+-- and so is the text after that line
 pub behind_version : (v : Version) (state : SavedState) (text first : List ℕ) → version_read text ≡ Some (v, first)
     → Steps v state text []
     → first ≡ fields_text state.fields ++ (table_text state.table ++ (records_text v state.records ++ []))
@@ -151,7 +152,7 @@ no_fields v text first at none = (
       lost _ (sym none ∙ ap fields_read (behind_version v state text first at read) ∙ read.fields),
 )
 
--- behind the fields
+-- after the fields
 pub to_fields : (v : Version) (state : SavedState) (text first second : List ℕ) (fields : CoreFields)
     → version_read text ≡ Some (v, first) → fields_read first ≡ Some (fields, second) → Steps v state text []
     → (fields ≡ state.fields) × (second ≡ table_text state.table ++ (records_text v state.records ++ []))
@@ -184,7 +185,7 @@ no_body v text first second third fields table at found then never = (
 )
 
 pub is_body : (v : Version) (text first second third : List ℕ) (fields : CoreFields) (table : List Entry)
-    (records : List PlainRecord) → version_read text ≡ Some (v, first) → fields_read first ≡ Some (fields, second)
+    (records : List PlainSlot) → version_read text ≡ Some (v, first) → fields_read first ≡ Some (fields, second)
     → table_read v second ≡ Some (table, third) → AreRecords v third records
     → IsBody text (record { fields = fields; table = table; records = records })
 unfolding body_text fields_text records_text
@@ -202,9 +203,9 @@ is_body v text first second third fields table records at found then are =
       ),
     )
 
--- THE LAST LINE
+-- The last line.
 
--- lines without newlines
+-- lines without newlines in them
 pub newlines_are : (lines : List (List ℕ)) → list_all is_line lines ≡ true
     → newlines (text_of_lines lines) ≡ length lines
 newlines_are [] are = grind (arith, newlines-append, newlines-line, not-true)
@@ -215,7 +216,7 @@ after_these : (lines : List (List ℕ)) (rest : List ℕ) → list_all is_line l
 after_these [] rest are = grind (arith, append_assoc, cut-append, not-true)
 after_these (line ∷ lines) rest are = grind (arith, after_these lines rest, append_assoc, cut-append, not-true)
 
--- the lines that stand before the rest
+-- the lines that precede the rest
 record Lined (text rest : List ℕ) : Type 0 where
   pub lines : List (List ℕ)
   pub whole : text_of_lines lines ++ rest ≡ text
@@ -235,7 +236,7 @@ lined (suc n) text rest is =
       are = more_lines_are parts.0 after_prefix.lines first.1 after_prefix.are;
     })
 
--- the split of a whole text
+-- how a whole text is split
 pub split_back : (lines : List (List ℕ)) (last text : List ℕ) → list_all is_line lines ≡ true → is_line last ≡ true
     → starts_with ◌==◌ last (codes "end ") ≡ true → text_of_lines lines ++ (last ++ 10 ∷ []) ≡ text
     → end_split text ≡ Some (text_of_lines lines, last)
@@ -302,7 +303,7 @@ split_own text body last found =
       whole = ap (λ r. text_of_lines front.lines ++ r) own.0 ∙ front.whole;
     }))
 
--- THE LINES OF A STATE
+-- The lines of a state.
 
 entries_are : (table : List Entry) → list_all is_written table ≡ true
     → list_all is_line (map fields_written table) ≡ true
@@ -312,7 +313,7 @@ entries_are (e ∷ table) are =
     more_lines_are (fields_written e) (map fields_written table) (one_line e (parts e both.0))
     (entries_are table both.1)
 
-slots_are : (v : Version) (records : List PlainRecord) → list_all (is_record v) records ≡ true
+slots_are : (v : Version) (records : List PlainSlot) → list_all (is_record v) records ≡ true
     → list_all is_line (map (slot_line v) records) ≡ true
 slots_are v [] are = refl
 slots_are v (r ∷ records) are =

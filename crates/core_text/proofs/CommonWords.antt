@@ -1,4 +1,4 @@
--- The words of the proofs of this crate.
+-- Names that all proofs of this crate import.
 pub use Rattle.std.proofs.Common.{◌≡◌, ◌≢◌, ℕ, zero, suc, ◌-◌, Bool, true, false, cond, not, ◌&&◌, ◌==◌, List, [], ◌∷◌}
 pub use Rattle.std.proofs.Common.{◌++◌, length, take, map, append-nil, codes, Option, Some, None, Result, Ok, Err, refl}
 pub use Rattle.std.proofs.Common.{sym, ap, ◌∙◌, subst, arith, ◌+◌, ◌/◌, ◌%◌, ◌<◌, nat_lt, drop, decimal, lit<}
@@ -21,7 +21,7 @@ pub use Rattle.inittab_text.specs.Written.{fields_written, is_empty, is_table, i
 pub use Rattle.inittab_text.specs.Written.{text_of}
 pub use Rattle.core_model.specs.declared.parts.CoreFields.{CoreFields}
 pub use Rattle.core_text.specs.declared.state_fault.StateFault.{StateFault}
-pub use Rattle.core_model.specs.declared.parts.PlainRecord.{PlainRecord}
+pub use Rattle.core_model.specs.declared.parts.PlainSlot.{PlainSlot}
 pub use Rattle.core_model.specs.Parts.{SavedState, record_of, state_of}
 pub use Rattle.core_text.specs.declared.versions.Version.{Version}
 pub use Rattle.core_text.specs.Versions.{holds_table, holds_id}
@@ -62,7 +62,7 @@ pub use Rattle.trace_text.specs.Lines.{level_word, order_word, stage_word}
 pub use Rattle.trace_events.specs.Range.{is_status}
 pub use Rattle.core_text.specs.declared.versions.Version.TheVariants.{V1, V2}
 pub use Rattle.respawn_limit.specs.declared.TheConstants.{CLOCK_LIMIT, HOLD, STARTS}
-pub use Rattle.core_records.specs.declared.children.Stop.{Stop}
+pub use Rattle.child_table.specs.declared.children.Stop.{Stop}
 pub use Rattle.init_words.specs.declared.children.Status.TheVariants.{Exit}
-pub use Rattle.core_records.specs.declared.children.Stop.TheVariants.{Due, Termed, Killed}
+pub use Rattle.child_table.specs.declared.children.Stop.TheVariants.{Due, Termed, Killed}
 pub use Rattle.std.proofs.lemmas.Grind.{flat_map-append, common_steps}

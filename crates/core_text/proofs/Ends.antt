@@ -1,10 +1,10 @@
--- No line of a state's text but the last begins with `end `: so no text that is cut short is whole.
+-- Only the last line of a state's text begins with `end `, so no text that is cut short is whole.
 use Rattle.core_text.proofs.CommonWords.{◌≡◌, ℕ, zero, suc, ◌+◌, ◌/◌, ◌%◌, ◌<◌, Bool, true, false, cond, not, ◌==◌}
 use Rattle.core_text.proofs.CommonWords.{nat_lt, List, [], ◌∷◌, ◌++◌, length, drop, map, codes, decimal, refl, sym, ap}
 use Rattle.core_text.proofs.CommonWords.{◌∙◌, subst, arith, lit<, length-append, list_all, starts_with, and_parts}
 use Rattle.core_text.proofs.CommonWords.{ne_eqb, not-true, or_from, append_assoc, list_all-append, some_pair_parts}
 use Rattle.core_text.proofs.CommonWords.{starts_is, cut, has_byte, cut-append, Entry, word_of, is_id_byte, id_parts}
-use Rattle.core_text.proofs.CommonWords.{table_parts, parts, fields_written, is_written, levels_written, PlainRecord}
+use Rattle.core_text.proofs.CommonWords.{table_parts, parts, fields_written, is_written, levels_written, PlainSlot}
 use Rattle.core_text.proofs.CommonWords.{SavedState, Version, body_lines, end_line, slot_line, text_of_lines, is_state}
 use Rattle.core_text.proofs.CommonWords.{IsTextOf, Whole, is_line}
 use Rattle.std.specs.Fmt.{digit_glyph, digits, digits_onto}
@@ -12,9 +12,9 @@ use Rattle.std.proofs.lemmas.Bool.Decides.{Decides-eqb}
 use Rattle.core_text.proofs.Bodies.{body_lines_are, state_parts}
 use Rattle.core_text.proofs.Taken.{whole_text}
 
--- ---- the lines before the last
+-- The lines before the last one.
 
--- a line that begins otherwise than the last of a text
+-- the line does not begin like the last line of a text
 abbrev is_inner : List ℕ → Bool
 is_inner line = not (starts_with ◌==◌ line (codes "end "))
 
@@ -25,7 +25,7 @@ first : List ℕ → ℕ
 first [] = 0
 first (b ∷ text) = b
 
--- an id has no blank, and stands before a colon
+-- an id has no blank, and is followed by a colon
 no_end : (id rest more : List ℕ) → list_all is_id_byte id ≡ true → id ++ 58 ∷ rest ≡ codes "end " ++ more → ⊥
 unfolding first
 no_end [] rest more are same = let bytes : 58 ≡ 101 = ap first same in absurd (omega (arith, bytes))
@@ -57,7 +57,7 @@ entries_inner : (table : List Entry) → list_all is_written table ≡ true
 entries_inner [] are = grind (arith, entry_inner)
 entries_inner (e ∷ table) are = grind (arith, entries_inner table, entry_inner)
 
-slots_inner : (v : Version) (records : List PlainRecord) → list_all is_inner (map (slot_line v) records) ≡ true
+slots_inner : (v : Version) (records : List PlainSlot) → list_all is_inner (map (slot_line v) records) ≡ true
 slots_inner v [] = grind arith
 slots_inner v (r ∷ records) = grind (arith, slots_inner v records)
 
@@ -69,9 +69,9 @@ body_inner : (v : Version) (state : SavedState) → is_state v state ≡ true
     → list_all is_inner (body_lines v state) ≡ true
 body_inner v state is = grind (arith, lines_inner)
 
--- ---- the last line
+-- The last line.
 
--- no newline stands in a number
+-- a number contains no newline
 module _ (byte : ℕ) (low : byte < 48) where
   glyph_lacks : (d : ℕ) (b : Bool) → (cond b (48 + d) (87 + d) == byte) ≡ false
   glyph_lacks d true = ne_eqb (48 + d) byte (λ same. omega (arith, low, same))
@@ -99,20 +99,20 @@ module _ (byte : ℕ) (low : byte < 48) where
 end_lacks : (n : ℕ) → has_byte 10 (end_line n) ≡ false
 end_lacks n = number_lacks 10 (lit< tt) n
 
--- ---- whole texts
+-- Whole texts.
 
 regrouped : (line : List ℕ) (lines : List (List ℕ)) (rest : List ℕ)
     → text_of_lines (line ∷ lines) ++ rest ≡ line ++ 10 ∷ (text_of_lines lines ++ rest)
 regrouped line lines rest = append_assoc (line ++ 10 ∷ []) (text_of_lines lines) rest
     ∙ append_assoc line (10 ∷ []) (text_of_lines lines ++ rest)
 
--- two texts whose first lines are one
+-- two equal texts have the same first line
 first_same : (one two rest more : List ℕ) → has_byte 10 one ≡ false → has_byte 10 two ≡ false
     → one ++ 10 ∷ rest ≡ two ++ 10 ∷ more → (one ≡ two) × (rest ≡ more)
 first_same one two rest more here there same = some_pair_parts one two rest more
     (sym (cut-append 10 one rest here) ∙ ap (cut 10) same ∙ cut-append 10 two more there)
 
--- a line that begins as the last of a text is the last
+-- a line that begins like the last one is the last one
 at_end : (lines body : List (List ℕ)) (last end more : List ℕ) → list_all is_line lines ≡ true → is_line last ≡ true
     → starts_with ◌==◌ last (codes "end ") ≡ true
     → list_all is_line body ≡ true → list_all is_inner body ≡ true → has_byte 10 end ≡ false
@@ -152,7 +152,7 @@ whole_ends text front more state says parts whole =
     (body_lines_are v state says.1.0) (body_inner v state says.1.0) (end_lacks (length (body_lines v state)))
     (grouped ∙ parts ∙ sym says.1.1 ∙ whole_text v state)
 
--- a state's text is whole, so it is no proper prefix of another
+-- the text of a state is whole, so it is not a proper prefix of another one
 whole_state : (text : List ℕ) (state : SavedState) → IsTextOf text state → Whole text
 whole_state text state says =
     let v = says.0 in

@@ -1,4 +1,5 @@
--- Written forms that are read exactly: what is written is read as it was, and what is read is written so.
+-- Forms that are read exactly: a value that is written is read as that value, and a word that is read is the one
+-- written for its value.
 use Rattle.core_text.proofs.CommonWords.{arith, ◌≡◌, ◌⊎◌, inl, inr, ℕ, Bool, true, false, cond, ◌&&◌, ◌==◌, List, []}
 use Rattle.core_text.proofs.CommonWords.{◌∷◌, ◌++◌, Option, Some, None, refl, sym, ap, ◌∙◌, subst, and_parts, and_from}
 use Rattle.core_text.proofs.CommonWords.{or_from, append_assoc, option_and_then_some, same_Some, cut}
@@ -12,11 +13,11 @@ pub record Form {X : Type 0} (ok : X → Bool) (write : X → List ℕ) (read : 
   pub back : (x : X) → ok x ≡ true → read (write x) ≡ Some x
   pub own : (word : List ℕ) (x : X) → read word ≡ Some x → (write x ≡ word) × (ok x ≡ true)
 
--- a byte stands in no such text
+-- the byte does not occur in any such word
 abbrev pub Lacks : {X : Type 0} → ℕ → (X → Bool) → (X → List ℕ) → Type 0
 Lacks {X} mark ok write = (x : X) → ok x ≡ true → has_byte mark (write x) ≡ false
 
--- the same under a test and a writing that are equal to these
+-- the same form with an equal test
 pub retested : {X : Type 0} (ok test : X → Bool) (write : X → List ℕ) (read : List ℕ → Option X)
     → ((x : X) → ok x ≡ test x) → Form ok write read → Form test write read
 retested ok test write read same form = record {
@@ -24,7 +25,7 @@ retested ok test write read same form = record {
   own = λ word x is. let both = form.own word x is in (both.0, sym (same x) ∙ both.1);
 }
 
--- what was read, and passed
+-- a value that was read and passed the test
 pub checked_some : {X P : Type 0} (test : X → Bool) (o : Option X) (x : X) → checked_by test o ≡ Some x
     → (o ≡ Some x → test x ≡ true → P) → P
 checked_some test None x is next = absurd (cc)
@@ -42,7 +43,7 @@ checked_form test ok write read form = record {
       (λ found passed. let own = form.own word x found in (own.0, and_from (ok x) (test x) own.1 passed));
 }
 
--- two texts and a byte between them
+-- two words with a byte between them
 pub pair_form : {X Y : Type 0} (mark : ℕ) (okx : X → Bool) (wx : X → List ℕ) (rx : List ℕ → Option X) (oky : Y → Bool)
     (wy : Y → List ℕ) (ry : List ℕ → Option Y)
     → Form okx wx rx → Lacks mark okx wx → Form oky wy ry
@@ -67,7 +68,7 @@ pair_lacks byte mark okx wx oky wy other first second = λ p is.
     has_byte-append byte (wx p.0) (mark ∷ wy p.1) (first p.0 parts.0)
     (or_from (mark == byte) (has_byte byte (wy p.1)) other (second p.1 parts.1))
 
--- a text behind a name and a byte
+-- a word after a name and a byte
 pub behind_some : {P : Type 0} (name : List ℕ) (mark : ℕ) (text rest : List ℕ) → after_prefix name mark text ≡ Some rest
     → (name ++ mark ∷ rest ≡ text → P) → P
 behind_some {P} name mark text rest is next =
@@ -95,7 +96,7 @@ named_form name mark ok write read lacks form = record {
       let own = form.own rest x found in (ap (λ t. name ++ mark ∷ t) own.0 ∙ whole, own.1)));
 }
 
--- a text made into another value
+-- a form whose value is converted
 pub made_form : {X Y : Type 0} (make : X → Y) (parts : Y → X) (okx : X → Bool) (oky : Y → Bool) (wx : X → List ℕ)
     (wy : Y → List ℕ) (read : List ℕ → Option X)
     → ((x : X) → parts (make x) ≡ x) → ((y : Y) → make (parts y) ≡ y) → ((y : Y) → okx (parts y) ≡ oky y)
@@ -108,7 +109,7 @@ made_form {X} {Y} make parts okx oky wx wy read undo redo tested written form = 
       (sym (written y) ∙ ap wx this ∙ own.0, sym (tested y) ∙ ap okx this ∙ own.1));
 }
 
--- a word that says that there is none, or another
+-- a word for no value, or another word
 or_back : {X : Type 0} (none : List ℕ) (ok : X → Bool) (write : X → List ℕ) (read : List ℕ → Option X)
     → read none ≡ None → Form ok write read
     → (o : Option X) → passes ok o ≡ true → or_read none read (or_word none write o) ≡ Some o
@@ -140,7 +141,7 @@ pub or_lacks : {X : Type 0} (byte : ℕ) (none : List ℕ) (ok : X → Bool) (wr
 or_lacks byte none ok write lacks rest None is = lacks
 or_lacks byte none ok write lacks rest (Some x) is = rest x is
 
--- a bit before others
+-- a flag followed by others
 bit_back : (flag : Bool) → bit_read (bit flag) ≡ Some flag
 bit_back true = refl
 bit_back false = refl
@@ -165,14 +166,13 @@ pub first_bit_lacks : {X : Type 0} (byte : ℕ) (ok : X → Bool) (write : X →
 first_bit_lacks byte ok write is rest =
     λ p good. or_from (bit p.0 == byte) (has_byte byte (write p.1)) (bit_lacks byte p.0 is) (rest p.1 good)
 
--- TEXTS THAT OTHERS BEGIN WITH
+-- Forms at the start of a text.
 
 pub record Front {X : Type 0} (ok : X → Bool) (write : X → List ℕ) (read : List ℕ → Option (X × List ℕ)) : Type 0 where
   pub back : (x : X) (rest : List ℕ) → ok x ≡ true → read (write x ++ rest) ≡ Some (x, rest)
   pub own : (text : List ℕ) (x : X) (rest : List ℕ) → read text ≡ Some (x, rest)
       → (write x ++ rest ≡ text) × (ok x ≡ true)
 
--- a line
 abbrev pub ended_line : List ℕ → List ℕ
 ended_line line = line ++ 10 ∷ []
 
@@ -181,7 +181,7 @@ pub line_front : {X : Type 0} (ok : X → Bool) (write : X → List ℕ) (read :
 line_front ok write read h form =
     grind (arith, append_assoc, cut-append, option_and_then_some, option_map_some, cut-parts)
 
--- one behind the other
+-- two forms, one after the other
 pub then_front : {X Y : Type 0} (okx : X → Bool) (wx : X → List ℕ) (rx : List ℕ → Option (X × List ℕ)) (oky : Y → Bool)
     (wy : Y → List ℕ) (ry : List ℕ → Option (Y × List ℕ))
     → Front okx wx rx → Front oky wy ry
@@ -206,7 +206,7 @@ then_front {X} {Y} okx wx rx oky wy ry first second = record {
           and_from (okx q.0) (oky r.0) one.1 two.1,
         )
 
--- made into another value
+-- a form whose value is converted
 pub made_front : {X Y : Type 0} (make : X → Y) (parts : Y → X) (okx : X → Bool) (oky : Y → Bool) (wx : X → List ℕ)
     (wy : Y → List ℕ) (read : List ℕ → Option (X × List ℕ))
     → ((x : X) → parts (make x) ≡ x) → ((y : Y) → make (parts y) ≡ y) → ((y : Y) → okx (parts y) ≡ oky y)

@@ -4,7 +4,7 @@ use Rattle.core_text.proofs.CommonWords.{◌++◌, nat_le, append-nil, codes, de
 use Rattle.core_text.proofs.CommonWords.{refl, ap, ◌∙◌, arith, lit<, and_parts, and_from, append_assoc, has_byte, Act}
 use Rattle.core_text.proofs.CommonWords.{Status, OrderKind, Stage, act_read, word_of, is_id, option_map_some}
 use Rattle.core_text.proofs.CommonWords.{level_word, order_word, stage_word, is_status, child_of_word, order_of_word}
-use Rattle.core_text.proofs.CommonWords.{stage_of_word, CoreFields, PlainRecord, Version, V1, V2, holds_id, bit}
+use Rattle.core_text.proofs.CommonWords.{stage_of_word, CoreFields, PlainSlot, Version, V1, V2, holds_id, bit}
 use Rattle.core_text.proofs.CommonWords.{clock_line, flags_line, generation_line, goal_line, goal_word, head_lines}
 use Rattle.core_text.proofs.CommonWords.{or_dash, or_word, slot_line, stage_line, starts_word, status_word, stop_word}
 use Rattle.core_text.proofs.CommonWords.{text_of_lines, version_line, wish_line, are_fields, are_starts, is_child}
@@ -31,7 +31,7 @@ use Rattle.core_text.proofs.WordForms.{one_bit_lacks, order_form, order_lacks, s
 use Rattle.core_text.proofs.WordForms.{stage_lacks, starts_form, starts_lacks, status_form, status_lacks, stop_form}
 use Rattle.core_text.proofs.WordForms.{stop_lacks, time_form, time_lacks, version_form, version_lacks}
 
--- a byte that sets words or lines apart
+-- a byte that separates words or lines
 abbrev Plain : ℕ → Type 0
 Plain byte = (byte ≡ 10) ⊎ (byte ≡ 32)
 
@@ -47,7 +47,6 @@ newline = inl refl
 blank : Plain 32
 blank = inr refl
 
--- several bits
 two_form : Form (λ (p : Bool × Bool). true) (λ p. bit p.0 ∷ bit p.1 ∷ []) two_bits
 two_form = first_bit_form always (λ flag. bit flag ∷ []) one_bit one_bit_form
 
@@ -79,7 +78,7 @@ four_form = first_bit_form (λ (p : Three). true) three_word three_bits three_fo
 four_lacks : (byte : ℕ) → Plain byte → Lacks byte (λ (p : Four). true) four_word
 four_lacks byte is = first_bit_lacks byte (λ (p : Three). true) three_word is (three_lacks byte is)
 
--- the lines of the generation and the clock
+-- the lines of the generation and of the clock
 pub generation_line_form : Form is_generation generation_line generation_line_read
 generation_line_form = named_form (codes "generation") 32 is_generation decimal generation_read refl generation_form
 
@@ -120,7 +119,6 @@ stage_pair_lacks = λ p is.
 pub stage_line_form : Form (λ (p : Option Stage × ℕ). is_stage p.0 p.1) (λ p. stage_line p.0 p.1) stage_line_read
 stage_line_form = named_form (codes "stage") 32 _ stage_words stage_pair_read refl stage_pair_form
 
--- a goal
 goal_form : (mark : ℕ) → Lacks mark always level_word
     → Form is_goal (λ (g : Goal). level_word g.level ++ mark ∷ decimal g.grace) (goal_read mark)
 goal_form mark lacks =
@@ -136,11 +134,10 @@ goal_lacks byte mark below other = λ g is. pair_lacks byte mark always level_wo
 pub goal_line_form : Form is_goal goal_line goal_line_read
 goal_line_form = named_form (codes "goal") 32 is_goal _ (goal_read 32) refl (goal_form 32 (level_lacks 32 (lit< tt)))
 
--- the flags
 pub flags_line_form : Form (λ (p : Bool × Bool). true) (λ p. flags_line p.0 p.1) flags_line_read
 flags_line_form = named_form (codes "flags") 32 _ _ two_bits refl two_form
 
--- the wishes
+-- the pending requests
 no_goal : goal_read 58 (codes "-") ≡ None
 no_goal = refl
 
@@ -283,7 +280,7 @@ dashed_status = or_form (codes "-") is_status status_word status_read no_status 
 status_or_lacks : (byte : ℕ) → Plain byte → Lacks byte (passes is_status) (or_dash status_word)
 status_or_lacks byte is = or_lacks byte (codes "-") is_status status_word (dash_plain byte is) (status_lacks byte is)
 
--- its last starts, and how the last child ended
+-- its last starts, and how its last child ended
 abbrev is_ends : Version → EndWords → Bool
 is_ends v w = are_starts w.0 && is_last_status v w.1
 
@@ -369,7 +366,7 @@ module _ (v : Version) where
       (λ p. or_dash order_word p.0 ++ 32 ∷ mark_words p.1) refl (act_or_lacks 10 newline)
       (pair_lacks 10 32 always (or_dash order_word) is_marks mark_words refl (order_or_lacks 10 newline) marks_lacks)))
 
-abbrev slot_parts : PlainRecord → SlotWords
+abbrev slot_parts : PlainSlot → SlotWords
 slot_parts r = (
   r.id,
   (
@@ -385,11 +382,11 @@ five_tests true true false d e = refl
 five_tests true true true false e = refl
 five_tests true true true true e = refl
 
-slot_tested : (v : Version) (r : PlainRecord) → is_slot v (slot_parts r) ≡ is_record v r
+slot_tested : (v : Version) (r : PlainSlot) → is_slot v (slot_parts r) ≡ is_record v r
 slot_tested v r = five_tests (is_id r.id && holds_id v r.id) (passes is_child r.child) (passes is_stop r.stop)
     (passes is_time r.held_until) (are_starts r.starts.items && is_last_status v r.last)
 
-slot_written : (v : Version) (r : PlainRecord) → codes "slot" ++ 32 ∷ slot_words v (slot_parts r) ≡ slot_line v r
+slot_written : (v : Version) (r : PlainSlot) → codes "slot" ++ 32 ∷ slot_words v (slot_parts r) ≡ slot_line v r
 slot_written v r = grind arith
 
 pub slot_line_form : (v : Version) → Form (is_record v) (slot_line v) (slot_line_read v)
@@ -409,7 +406,7 @@ slot_front v = line_front (is_record v) (slot_line v) (slot_line_read v) (slot_l
 pub version_front : Front always (λ v. version_line v ++ 10 ∷ []) version_read
 version_front = line_front always version_line version_of_line version_form version_lacks
 
--- no newline stands in a line
+-- no line contains a newline
 pub more_lines_are : (line : List ℕ) (lines : List (List ℕ)) → has_byte 10 line ≡ false → list_all is_line lines ≡ true
     → list_all is_line (line ∷ lines) ≡ true
 more_lines_are line lines lacks are = and_from (is_line line) (list_all is_line lines) (ap not lacks) are

@@ -1,7 +1,7 @@
--- A text of a state says one state, and the generation that its second line names.
+-- The text of a state represents only one state, and its second line names that state's generation.
 use Rattle.core_text.proofs.CommonWords.{◌≡◌, ℕ, true, false, subst, List, [], ◌∷◌, ◌++◌, length, drop, Some, refl, sym}
 use Rattle.core_text.proofs.CommonWords.{ap, ◌∙◌, arith, list_all, and_parts, append_assoc, some_pair_parts, has_byte}
-use Rattle.core_text.proofs.CommonWords.{cut-append, CoreFields, PlainRecord, SavedState, Version, V1, V2, body_lines}
+use Rattle.core_text.proofs.CommonWords.{cut-append, CoreFields, PlainSlot, SavedState, Version, V1, V2, body_lines}
 use Rattle.core_text.proofs.CommonWords.{end_line, generation_line, slot_line, state_lines, text_of_lines, version_line}
 use Rattle.core_text.proofs.CommonWords.{are_fields, is_generation, is_record, generation_line_read, generation_of}
 use Rattle.core_text.proofs.CommonWords.{fields_read, line_read, slot_line_read, table_read, IsTextIn, IsTextOf}
@@ -15,14 +15,14 @@ first : List ℕ → ℕ
 first [] = 0
 first (b ∷ text) = b
 
--- a record's line begins otherwise than the last one
-first_slot : (v : Version) (r : PlainRecord) (records : List PlainRecord) (rest : List ℕ)
+-- the line of a record begins with another byte than the last line
+first_slot : (v : Version) (r : PlainSlot) (records : List PlainSlot) (rest : List ℕ)
     → first (records_text v (r ∷ records) ++ rest) ≡ 115
 unfolding first records_text
 first_slot V1 r records rest = refl
 first_slot V2 r records rest = refl
 
--- what is read of a text that is that of two states
+-- what is read from a text that begins like those of two states
 record Alike (v : Version) (one two : SavedState) (more rest : List ℕ) : Type 0 where
   pub fields : one.fields ≡ two.fields
   pub table : one.table ≡ two.table
@@ -39,8 +39,8 @@ alike v one two text more rest left right =
     (records_text v two.records ++ rest) (sym left.table ∙ ap (table_read v) fields.1 ∙ right.table) in
     record { fields = fields.0; table = table.0; ends = table.1 }
 
--- the records of two such texts
-same_ends : (v : Version) (one two : List PlainRecord) (m n : ℕ) → list_all (is_record v) one ≡ true
+-- the records of two such texts are the same
+same_ends : (v : Version) (one two : List PlainSlot) (m n : ℕ) → list_all (is_record v) one ≡ true
     → list_all (is_record v) two ≡ true
     → records_text v one ++ (end_line m ++ 10 ∷ []) ≡ records_text v two ++ (end_line n ++ 10 ∷ []) → one ≡ two
 unfolding first records_text
@@ -60,7 +60,7 @@ same_ends v (r ∷ one) (s ∷ two) m n left right same =
     (slot_line_read v)) regrouped ∙ (slot_front v).back s (records_text v two ++ (end_line n ++ 10 ∷ [])) there.0) in
     rw (both.0, same_ends v one two m n here.1 there.1 both.1) refl
 
--- what is read of the text of a state in a version
+-- what is read from the text of a state in a version
 steps_in : (v : Version) (state : SavedState) (text : List ℕ) → IsTextIn v text state
     → Steps v state text (end_line (length (body_lines v state)) ++ 10 ∷ [])
 unfolding body_text
@@ -85,7 +85,7 @@ one_state text one two first second =
     same = (some_pair_parts _ _ _ _
         (sym (steps_in first.0 one text first.1).begins ∙ (steps_in second.0 two text second.1).begins)).0
 
--- the generation of a state's text
+-- the generation in a state's text
 said_by : (v : Version) (line more text : List ℕ) (generation : ℕ) → has_byte 10 line ≡ false
     → generation_line_read line ≡ Some generation → (version_line v ++ 10 ∷ []) ++ ((line ++ 10 ∷ []) ++ more) ≡ text
     → generation_of text ≡ Some generation

@@ -1,4 +1,4 @@
--- A state that keeps the rules can be said in a text, where its seconds are in range.
+-- A state that keeps the rules can be represented in a text, if its seconds are in range.
 use Rattle.core_text.proofs.CommonWords.{◌≡◌, refl, ℕ, ◌+◌, ◌^◌, ◌<◌, ◌≤◌, ◌==◌, Bool, true, false, ◌&&◌, cond, List}
 use Rattle.core_text.proofs.CommonWords.{[], ◌∷◌, map, length, nat_le, Option, is_none, arith, list_all, and_parts}
 use Rattle.core_text.proofs.CommonWords.{and_from, lt-ltb, le-leb, leb-true, eqb-true, Entry, is_id, id_parts}
@@ -9,13 +9,14 @@ use Rattle.core_text.proofs.CommonWords.{is_time, passes}
 use Rattle.init_words.specs.declared.ids.TheConstants.{ID_LIMIT}
 use Rattle.inittab_text.specs.declared.tables.TheConstants.{ENTRY_LIMIT}
 use Rattle.respawn_limit.specs.State.{LimiterState}
-use Rattle.core_records.specs.State.{RecordState, child_number, is_limited_record}
-use Rattle.core_records.specs.Times.{is_timely, is_stop_timely}
-use Rattle.core_model.specs.Rules.{IsFit, is_hold_of, is_limit_kept, is_limiter_kept, is_unused, never_fall}
+use Rattle.child_table.specs.State.{SlotState, child_number, is_limited_record}
+use Rattle.child_table.specs.Times.{is_timely, is_stop_timely}
+use Rattle.core_model.specs.Rules.{IsFit, is_hold_of, is_limit_kept, is_limiter_consistent, is_unused}
+use Rattle.core_model.specs.Rules.{is_non_decreasing}
 use Rattle.core_model.specs.State.{CoreState}
 use Rattle.core_model.proofs.Kept.{rules_of}
 
--- a time up to the clock's limit, and a hold's end
+-- a time up to the clock's limit, and the end of a hold
 time_fits : (now time : ℕ) → now ≤ CLOCK_LIMIT → time ≤ now + HOLD → is_time time ≡ true
 time_fits now time clock within = lt-ltb time (2 ^ 64) (omega (arith, clock, within))
 
@@ -42,11 +43,11 @@ record LimiterFits (limiter : LimiterState) : Type 0 where
 limiter_fits : (now : ℕ) → now ≤ CLOCK_LIMIT → (limited : Bool) (limiter : LimiterState)
     → cond limited (is_limit_kept now limiter) (is_unused limiter) ≡ true → LimiterFits limiter
 limiter_fits now clock true limiter plain =
-    let outer = and_parts (nat_le (length limiter.starts) STARTS && never_fall limiter.starts)
+    let outer = and_parts (nat_le (length limiter.starts) STARTS && is_non_decreasing limiter.starts)
     (is_hold_of now limiter limiter.held) plain in
     record {
       held = by limiter.held outer.1;
-      few = (and_parts (nat_le (length limiter.starts) STARTS) (never_fall limiter.starts) outer.0).0;
+      few = (and_parts (nat_le (length limiter.starts) STARTS) (is_non_decreasing limiter.starts) outer.0).0;
     }
   where
     by : (held : Option ℕ) → is_hold_of now limiter held ≡ true → passes is_time held ≡ true
@@ -62,7 +63,7 @@ limiter_fits now clock false limiter plain =
     by : (held : Option ℕ) → is_none held ≡ true → passes is_time held ≡ true
     by held h = grind arith
 
--- version 2 has room for each id, and each table
+-- version 2 allows every id and every table
 id_held : (id : List ℕ) → is_id id ≡ true → holds_id V2 id ≡ true
 id_held id is = le-leb (length id) ID_LIMIT (id_parts id is).few
 
@@ -77,7 +78,7 @@ table_held table is =
     and_from (nat_le (length table) ENTRY_LIMIT) (list_all (λ (e : Entry). holds_id V2 e.id) table)
     (le-leb (length table) ENTRY_LIMIT known.0) (ids_held table known.2)
 
-record_ranged : (now : ℕ) → now ≤ CLOCK_LIMIT → (slot : RecordState) → is_limiter_kept now slot ≡ true
+record_ranged : (now : ℕ) → now ≤ CLOCK_LIMIT → (slot : SlotState) → is_limiter_consistent now slot ≡ true
     → is_timely now slot ≡ true → has_ranged_words slot ≡ true → is_record V2 (record_of slot) ≡ true
 record_ranged now clock slot limiter timely ids =
     let fits = limiter_fits now clock (is_limited_record slot) slot.limiter limiter in
@@ -96,12 +97,12 @@ record_ranged now clock slot limiter timely ids =
     (stop_fits now clock slot.stop times.1)) fits.held)
     (and_from (are_starts slot.limiter.starts) (passes is_status slot.last) starts words.1)
 
-records_ranged : (now : ℕ) → now ≤ CLOCK_LIMIT → (slots : List RecordState)
-    → list_all (is_limiter_kept now) slots ≡ true → list_all (is_timely now) slots ≡ true
+records_ranged : (now : ℕ) → now ≤ CLOCK_LIMIT → (slots : List SlotState)
+    → list_all (is_limiter_consistent now) slots ≡ true → list_all (is_timely now) slots ≡ true
     → list_all has_ranged_words slots ≡ true → list_all (is_record V2) (map record_of slots) ≡ true
 records_ranged now clock [] limiters timely ids = refl
 records_ranged now clock (slot ∷ slots) limiters timely ids =
-    let plain = and_parts (is_limiter_kept now slot) (list_all (is_limiter_kept now) slots) limiters in
+    let plain = and_parts (is_limiter_consistent now slot) (list_all (is_limiter_consistent now) slots) limiters in
     let past = and_parts (is_timely now slot) (list_all (is_timely now) slots) timely in
     let own = and_parts (has_ranged_words slot) (list_all has_ranged_words slots) ids in
     and_from (is_record V2 (record_of slot)) (list_all (is_record V2) (map record_of slots))

@@ -1,7 +1,7 @@
--- The text of a state: no entry, and one child that is to be stopped, with a signal under way; and as version 1 says
--- it.
+-- A worked example: the text of a state without entries and with one child that is to be stopped, while a signal is
+-- under way; and the same in version 1.
 use Rattle.core_text.proofs.CommonWords.{◌≡◌, refl, true, false, [], ◌∷◌, codes, Some, None, lit<, Exit, Due}
-use Rattle.core_text.proofs.CommonWords.{CoreFields, PlainRecord, SavedState, V1, state_text, text_in}
+use Rattle.core_text.proofs.CommonWords.{CoreFields, PlainSlot, SavedState, V1, state_text, text_in}
 use Rattle.std.proofs.lemmas.Fmt.{decimal_digit}
 use Rattle.init_words.specs.declared.actions.Act.TheVariants as act
 use Rattle.init_words.specs.declared.levels.Level.TheVariants as level
@@ -9,7 +9,7 @@ use Rattle.init_words.specs.declared.orders.OrderKind.TheVariants.{Term}
 use Rattle.init_words.specs.declared.stages.Stage.TheVariants as stage
 use Rattle.trace_events.specs.CallSets.{no_news}
 
-abbrev left : PlainRecord
+abbrev left : PlainSlot
 left = record {
   id = codes "a";
   child = Some 7;

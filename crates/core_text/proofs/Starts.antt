@@ -1,4 +1,4 @@
--- Times read one by one, and how many there may be.
+-- Times are read one by one, up to the maximum number.
 use Rattle.core_text.proofs.CommonWords.{◌≡◌, ℕ, ◌<◌, ◌≤◌, true, false, nat_le, List, [], ◌∷◌, codes, ◌++◌, length}
 use Rattle.core_text.proofs.CommonWords.{Option, Some, None, refl, sym, ap, ◌∙◌, arith, length-append, leb-true}
 use Rattle.core_text.proofs.CommonWords.{false_from_ne_true, append_assoc, cut, pieces_of, pieces_of-cut}
@@ -6,11 +6,11 @@ use Rattle.core_text.proofs.CommonWords.{pieces_of-whole, both, same_id, STARTS,
 use Rattle.core_text.proofs.CommonWords.{time_read}
 use Rattle.std.specs.Option.{option_map}
 
--- these before what was read
+-- these times, followed by those that were read
 pub joined : List ℕ → Option (List ℕ) → Option (List ℕ)
 joined xs o = option_map (λ ys. xs ++ ys) o
 
--- as many as there may be
+-- the times, if there are not too many
 pub few : Option (List ℕ) → Option (List ℕ)
 few all = checked_by (λ times. nat_le (length times) STARTS) all
 
@@ -36,7 +36,7 @@ pub times_of-last : (word : List ℕ) → cut 44 word ≡ None → times_of word
 unfolding times_of
 times_of-last word is = ap (all_read time_read) (pieces_of-whole 44 word is)
 
--- one time more was read
+-- one more time was read
 pub step : (word first more xs : List ℕ) (t : ℕ) (all : Option (List ℕ)) → cut 44 word ≡ Some (first, more)
     → time_read first ≡ Some t → joined xs (times_of word) ≡ all → joined (xs ++ t ∷ []) (times_of more) ≡ all
 step word first more xs t all is read so = sym (one_more xs t (times_of more)) ∙ ap (λ o. joined xs
@@ -48,7 +48,7 @@ unfolding joined
 last word xs t all is read so =
     ap (λ o. joined xs (both ◌∷◌ o (Some []))) (sym read) ∙ ap (joined xs) (sym (times_of-last word is)) ∙ so
 
--- a word that is no time
+-- a word that is not a time
 pub no_time : (word first more xs : List ℕ) (all : Option (List ℕ)) → cut 44 word ≡ Some (first, more)
     → time_read first ≡ None → joined xs (times_of word) ≡ all → None ≡ few all
 unfolding joined few
@@ -59,7 +59,7 @@ pub no_last : (word xs : List ℕ) (all : Option (List ℕ)) → cut 44 word ≡
 unfolding joined few
 no_last word xs all is read so = rw (← so, times_of-last word is, read) refl
 
--- a time too many
+-- there are too many times
 too_many : (times : List ℕ) → STARTS < length times → None ≡ few (Some times)
 unfolding few
 too_many times more =
@@ -86,7 +86,7 @@ many_last word xs t all is read full so =
     many_by xs t (Some []) all full
     (ap (λ o. joined xs (both ◌∷◌ o (Some []))) (sym read) ∙ ap (joined xs) (sym (times_of-last word is)) ∙ so)
 
--- times of which there are not too many
+-- there are not too many times
 pub enough : (times : List ℕ) → length times ≤ STARTS → few (Some times) ≡ Some times
 unfolding few
 enough times is =

@@ -1,9 +1,9 @@
--- A whole text is read as one state at most, and why it is refused.
+-- A whole text is read as at most one state, and the reasons for which it is rejected.
 use Rattle.core_text.proofs.CommonWords.{◌≡◌, ◌≢◌, ℕ, ◌<◌, ◌^◌, true, false, not, ◌==◌, List, [], ◌∷◌, ◌++◌, length}
 use Rattle.core_text.proofs.CommonWords.{append-nil, codes, Option, Some, None, refl, sym, ap, ◌∙◌, arith, lit<}
 use Rattle.core_text.proofs.CommonWords.{length-append, list_all, starts_with, and_parts, lt-ltb, not-true}
 use Rattle.core_text.proofs.CommonWords.{append_assoc, some_pair_parts, cut, has_byte, newlines, cut-append, StateFault}
-use Rattle.core_text.proofs.CommonWords.{Version, PlainRecord, SavedState, body_lines, end_line, slot_line, text_in}
+use Rattle.core_text.proofs.CommonWords.{Version, PlainSlot, SavedState, body_lines, end_line, slot_line, text_in}
 use Rattle.core_text.proofs.CommonWords.{text_of_lines, version_line, is_record, is_time, end_line_read, end_split}
 use Rattle.core_text.proofs.CommonWords.{line_read, slot_line_read, table_read, version_read, BeginsAs, BeginsAsKnown}
 use Rattle.core_text.proofs.CommonWords.{IsBody, IsBodyIn, IsCut, IsOtherVersion, Refused, RefusedBody, IsTextIn}
@@ -17,8 +17,8 @@ use Rattle.core_text.proofs.Whole.{records_text, table_text}
 use Rattle.core_text.proofs.WordForms.{time_lacks, version_lacks}
 use Rattle.core_text.proofs.Written.{text_of_lines-append}
 
--- the records of one text are one
-empty_records : (v : Version) (r : PlainRecord) (records : List PlainRecord) → [] ≡ records_text v (r ∷ records) → ⊥
+-- a text is that of only one list of records
+empty_records : (v : Version) (r : PlainSlot) (records : List PlainSlot) → [] ≡ records_text v (r ∷ records) → ⊥
 unfolding records_text
 empty_records v r records same = omega (
   arith,
@@ -27,7 +27,7 @@ empty_records v r records same = omega (
   length-append (slot_line v r) (10 ∷ []),
 )
 
-pub same_records : (v : Version) (one two : List PlainRecord) → list_all (is_record v) one ≡ true
+pub same_records : (v : Version) (one two : List PlainSlot) → list_all (is_record v) one ≡ true
     → list_all (is_record v) two ≡ true → records_text v one ≡ records_text v two → one ≡ two
 unfolding records_text
 same_records v [] [] first second same = refl
@@ -40,7 +40,7 @@ same_records v (r ∷ one) (s ∷ two) first second same =
     one) left.0) ∙ ap (line_read (slot_line_read v)) same ∙ (slot_front v).back s (records_text v two) right.0) in
     rw (both.0, same_records v one two left.1 right.1 both.1) refl
 
--- the states of one text are one
+-- a text is that of only one state
 same_in : (v : Version) (one two : SavedState) (text : List ℕ) → IsBodyIn v text one → IsBodyIn v text two → one ≡ two
 same_in v one two text first second =
     let left = steps_of v one text first in
@@ -59,7 +59,7 @@ same_body one two text first second =
     same_in first.0 one two text first.1
     (of_version first.0 two text _ (steps_of first.0 one text first.1).begins second)
 
--- THE WHOLE TEXT
+-- The whole text.
 
 pub whole_text : (v : Version) (state : SavedState)
     → text_in v state ≡ text_of_lines (body_lines v state) ++ (end_line (length (body_lines v state)) ++ 10 ∷ [])
@@ -88,7 +88,7 @@ pub no_split : (state : SavedState) (text : List ℕ) → IsTextOf text state �
     → ⊥
 no_split state text says fits none = lost _ (sym none ∙ split_in says.0 state text says.1 fits)
 
--- the body of a state's text
+-- the lines before the last one, in the text of a state
 pub body_of : (state : SavedState) (text body last : List ℕ) → IsTextOf text state → length text < 2 ^ 64
     → end_split text ≡ Some (body, last) → IsBody body state × (end_line_read last ≡ Some (newlines body))
 body_of state text body last says fits at =
@@ -119,7 +119,7 @@ says_of state text body last at is end =
       ),
     )
 
--- WHY A TEXT IS REFUSED
+-- Why a text is rejected.
 
 pub whole_of : (text body last : List ℕ) → end_split text ≡ Some (body, last) → Whole text
 whole_of text body last at =
@@ -144,7 +144,7 @@ known_of v text body last rest at read =
     sym (append_assoc (version_line v) (10 ∷ rest) (last ++ 10 ∷ []))
     ∙ ap (λ b. b ++ (last ++ 10 ∷ [])) (version_own v body rest read ∙ sym split.body_is) ∙ split.whole
 
--- of another version is the body
+-- a text of an unknown version begins with an unknown line
 pub other_body : (text body last : List ℕ) → end_split text ≡ Some (body, last) → IsOtherVersion text
     → version_read body ≡ None
 other_body text body last at other = by (version_read body) refl
@@ -153,7 +153,7 @@ other_body text body last at other = by (version_read body) refl
     by None is = refl
     by (Some p) is = absurd (other.1 p.0 (p.1 ++ (last ++ 10 ∷ [])) (known_of p.0 text body last p.1 at is))
 
--- what is cut off at the first newline of a text that begins with the version's line
+-- cutting a text that begins with the version's line at its first newline
 cut_version : (v : Version) (rest : List ℕ) → cut 10 (version_line v ++ 10 ∷ rest) ≡ Some (version_line v, rest)
 cut_version v rest = cut-append 10 (version_line v) rest (version_lacks v refl)
 
@@ -188,7 +188,7 @@ known_by : (text body last : List ℕ) → end_split text ≡ Some (body, last) 
 known_by text body last at known =
     (known.version, (known.rest ++ (last ++ 10 ∷ []), known_of known.version text body last known.rest at known.read))
 
--- what refuses the body refuses the text
+-- what rejects the lines before the last one rejects the text
 pub body_refused : (text body last : List ℕ) (generation : ℕ) (why : StateFault) → length text < 2 ^ 64
     → end_split text ≡ Some (body, last) → RefusedBody body why → Refused text generation why
 body_refused text body last generation fault.Cut fits at is = absurd is
@@ -209,7 +209,7 @@ body_refused text body last generation fault.Unfit fits at is = is
 body_refused text body last generation fault.Worn fits at is = is
 body_refused text body last generation fault.Memory fits at is = tt
 
--- and a state's text is refused for want of memory alone
+-- the text of a state is only rejected for lack of memory
 pub body_never : (text body last : List ℕ) (state : SavedState) (why : StateFault) → length text < 2 ^ 64
     → end_split text ≡ Some (body, last) → IsTextOf text state → RefusedBody body why → why ≡ fault.Memory
 body_never text body last state fault.Cut fits at says is = absurd is
@@ -223,7 +223,7 @@ body_never text body last state fault.Unfit fits at says is = absurd is
 body_never text body last state fault.Worn fits at says is = absurd is
 body_never text body last state fault.Memory fits at says is = refl
 
--- the last line counts wrongly
+-- the last line gives a wrong number
 pub end_refused : (text body last : List ℕ) (state : SavedState) → length text < 2 ^ 64
     → end_split text ≡ Some (body, last) → IsBody body state → end_line_read last ≢ Some (newlines body)
     → Whole text × BeginsAsKnown text × SaysNone text

@@ -1,9 +1,9 @@
--- A whole text, part by part: what is read of the text of a state, and that nothing else is.
+-- A whole text, part by part: what is read from the text of a state, and that nothing else can be.
 use Rattle.core_text.proofs.CommonWords.{◌≡◌, ◌≢◌, ℕ, ◌<◌, ◌^◌, true, ◌&&◌, List, [], ◌∷◌, ◌++◌, length, map}
 use Rattle.core_text.proofs.CommonWords.{append-nil, Option, Some, None, refl, sym, ap, ◌∙◌, arith, lit<, length-append}
 use Rattle.core_text.proofs.CommonWords.{list_all, and_parts, and_from, lt-ltb, append_assoc, list_all-append}
 use Rattle.core_text.proofs.CommonWords.{option_and_then_some, some_pair_parts, Entry, table_parts, table_begun}
-use Rattle.core_text.proofs.CommonWords.{fields_written, is_table, text_of, PlainRecord, Version, holds_table}
+use Rattle.core_text.proofs.CommonWords.{fields_written, is_table, text_of, PlainSlot, Version, holds_table}
 use Rattle.core_text.proofs.CommonWords.{slot_line, table_line, text_of_lines, is_record, line_read, slot_line_read}
 use Rattle.core_text.proofs.CommonWords.{table_in, table_line_read, table_read}
 use Rattle.inittab_text.proofs.LineLemmas.{begun_back, begun_own}
@@ -12,7 +12,7 @@ use Rattle.core_text.proofs.LineForms.{slot_front, table_line_form}
 use Rattle.core_text.proofs.WordForms.{time_lacks}
 use Rattle.core_text.proofs.Written.{table_lines}
 
--- THE TABLE
+-- The table.
 
 unfoldable pub table_text : List Entry → List ℕ
 table_text table = text_of_lines (table_line (length table) ∷ map fields_written table)
@@ -58,25 +58,25 @@ table_own v text rest table is =
       holds,
     )))
 
--- THE RECORDS
+-- The records.
 
-unfoldable pub records_text : Version → List PlainRecord → List ℕ
+unfoldable pub records_text : Version → List PlainSlot → List ℕ
 records_text v records = text_of_lines (map (slot_line v) records)
 
-pub push_text : (v : Version) (records : List PlainRecord) (slot : PlainRecord)
+pub push_text : (v : Version) (records : List PlainSlot) (slot : PlainSlot)
     → records_text v (records ++ slot ∷ []) ≡ records_text v records ++ (slot_line v slot ++ 10 ∷ [])
 unfolding records_text
 push_text v [] slot = append-nil (slot_line v slot ++ 10 ∷ [])
 push_text v (r ∷ records) slot = ap (λ t. (slot_line v r ++ 10 ∷ []) ++ t) (push_text v records slot)
     ∙ sym (append_assoc (slot_line v r ++ 10 ∷ []) (records_text v records) (slot_line v slot ++ 10 ∷ []))
 
-pub push_records : (v : Version) (records : List PlainRecord) (slot : PlainRecord) → list_all (is_record v) records
+pub push_records : (v : Version) (records : List PlainSlot) (slot : PlainSlot) → list_all (is_record v) records
     ≡ true → is_record v slot ≡ true → list_all (is_record v) (records ++ slot ∷ []) ≡ true
 push_records v records slot are is = list_all-append (is_record v) records (slot ∷ []) ∙ and_from
     (list_all (is_record v) records) (is_record v slot && true) are (and_from (is_record v slot) true is refl)
 
--- a line more is read
-pub one_record : (v : Version) (text rest more : List ℕ) (records : List PlainRecord) (slot : PlainRecord)
+-- one more line is read
+pub one_record : (v : Version) (text rest more : List ℕ) (records : List PlainSlot) (slot : PlainSlot)
     → list_all (is_record v) records ≡ true → records_text v records ++ rest ≡ text
     → line_read (slot_line_read v) rest ≡ Some (slot, more)
     → (list_all (is_record v) (records ++ slot ∷ []) ≡ true) × (records_text v (records ++ slot ∷ []) ++ more ≡ text)
@@ -94,8 +94,8 @@ one_record v text rest more records slot are whole read =
       ),
     )
 
--- a text that no line more is read of is that of no records
-pub no_records : (v : Version) (before records : List PlainRecord) (rest : List ℕ)
+-- a text whose next line cannot be read is not that of any records
+pub no_records : (v : Version) (before records : List PlainSlot) (rest : List ℕ)
     → list_all (is_record v) before ≡ true → list_all (is_record v) records ≡ true → rest ≢ []
     → line_read (slot_line_read v) rest ≡ None → records_text v records ≡ records_text v before ++ rest → ⊥
 unfolding records_text
@@ -105,7 +105,7 @@ no_records v [] (r ∷ records) rest one two some none same =
     (slot_front v).back r (records_text v records) (and_parts (is_record v r) (list_all (is_record v) records) two).0 in
     lost (sym none ∙ ap (line_read (slot_line_read v)) (sym same) ∙ read)
   where
-    lost : ◌≡◌ {A = Option (PlainRecord × List ℕ)} None (Some (r, records_text v records)) → ⊥
+    lost : ◌≡◌ {A = Option (PlainSlot × List ℕ)} None (Some (r, records_text v records)) → ⊥
     lost e = cc
 no_records v (b ∷ before) [] rest one two some none same =
     omega (
@@ -126,19 +126,19 @@ no_records v (b ∷ before) (r ∷ records) rest one two some none same =
     no_records v before records rest left.1 right.1 some none
     (some_pair_parts r b (records_text v records) (records_text v before ++ rest) begins).1
 
--- no record yet, and nothing left
+-- the state before the first record, and after the last one
 pub start : (v : Version) (text : List ℕ)
     → record { are : list_all (is_record v) [] ≡ true; whole : records_text v [] ++ text ≡ text }
 unfolding records_text
 start v text = record { are = refl; whole = refl }
 
-pub none_left : (v : Version) (text rest : List ℕ) (records : List PlainRecord) → records_text v records ++ rest ≡ text
+pub none_left : (v : Version) (text rest : List ℕ) (records : List PlainSlot) → records_text v records ++ rest ≡ text
     → rest ≡ [] → text_of_lines (map (slot_line v) records) ≡ text
 unfolding records_text
 none_left v text rest records whole empty = sym (append-nil (text_of_lines (map (slot_line v) records)))
     ∙ ap (λ r. text_of_lines (map (slot_line v) records) ++ r) (sym empty) ∙ whole
 
-pub records_are : (v : Version) (records : List PlainRecord)
+pub records_are : (v : Version) (records : List PlainSlot)
     → records_text v records ≡ text_of_lines (map (slot_line v) records)
 unfolding records_text
 records_are v records = refl

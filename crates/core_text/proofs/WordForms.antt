@@ -1,4 +1,4 @@
--- Each word of a state text is read exactly, and no blank and no newline stands in it.
+-- Each word of a state text is read exactly, and contains no blank and no newline.
 use Rattle.core_text.proofs.CommonWords.{◌≡◌, ◌⊎◌, inl, inr, ℕ, ◌+◌, ◌<◌, ◌≤◌, ◌^◌, Bool, true, false, not, ◌&&◌, ◌==◌}
 use Rattle.core_text.proofs.CommonWords.{nat_lt, nat_le, List, [], ◌∷◌, ◌++◌, length, map, find, codes, decimal, Some}
 use Rattle.core_text.proofs.CommonWords.{None, refl, sym, ap, ◌∙◌, subst, arith, lit<, list_all, join_with_byte}
@@ -24,7 +24,6 @@ use Rattle.init_words.specs.Actions.{act_read}
 use Rattle.trace_text.proofs.LineTexts.{lacks_low, level_back, order_back, stage_back}
 use Rattle.core_text.proofs.Forms.{Form, Lacks, behind_some, bit_lacks, checked_form, checked_some}
 
--- numbers
 below : (limit n : ℕ) → limit ≤ 2 ^ 64 → nat_lt n limit ≡ true → n < 2 ^ 64
 below limit n fits is = omega (arith, ltb-true n limit is, fits)
 
@@ -58,7 +57,7 @@ seconds_lacks byte low = number_lacks byte (GRACE_LIMIT + 1) low (lit< tt)
 pub generation_form : Form is_generation decimal generation_read
 generation_form = checked_form (λ n. nat_le 1 n) is_time decimal time_read time_form
 
--- a dash is no number
+-- a dash is not a number
 dash_lost : (limit n : ℕ) → number_read limit (codes "-") ≡ Some n → limit ≤ 2 ^ 64 → ⊥
 dash_lost limit n is fits =
     let own = decimal-number_read limit (codes "-") n is in
@@ -78,7 +77,6 @@ no_time = no_number (2 ^ 64) (omega arith)
 pub no_child : child_of_word (codes "-") ≡ None
 no_child = no_number (2 ^ 32) (lit< tt)
 
--- levels
 abbrev pub always : {X : Type 0} → X → Bool
 always x = true
 
@@ -97,7 +95,6 @@ no_colon level = grind arith
 pub level_lacks_colon : Lacks 58 always level_word
 level_lacks_colon = λ level is. no_colon level
 
--- stages
 pub stage_form : Form always stage_word stage_of_word
 stage_form = record { back = λ now is. stage_back now; own = λ word now is. (stage_own word now is, refl) }
 
@@ -110,7 +107,6 @@ stage_plain byte is now = grind arith
 pub stage_lacks : (byte : ℕ) → (byte ≡ 10) ⊎ (byte ≡ 32) → Lacks byte always stage_word
 stage_lacks byte is = λ now good. stage_plain byte is now
 
--- orders
 pub order_form : Form always order_word order_of_word
 order_form = record { back = λ order is. order_back order; own = λ word order is. (order_own word order is, refl) }
 
@@ -123,21 +119,19 @@ order_plain byte is order = grind arith
 pub order_lacks : (byte : ℕ) → (byte ≡ 10) ⊎ (byte ≡ 32) → Lacks byte always order_word
 order_lacks byte is = λ order good. order_plain byte is order
 
--- ids
 pub id_form : Form is_id (λ id. id) id_read
 id_form = record { back = λ id is. rw is refl; own = id_own }
 
 pub id_lacks : (byte : ℕ) → byte < 33 → Lacks byte is_id (λ id. id)
 id_lacks byte low = λ id is. lacks_low byte id low (id_parts id is).bytes
 
--- ids, as long as a version has them
+-- ids within the length limit of a version
 pub id_in_form : (v : Version) → Form (λ id. is_id id && holds_id v id) (λ id. id) (id_in_read v)
 id_in_form v = checked_form (holds_id v) is_id (λ id. id) id_read id_form
 
 pub id_in_lacks : (v : Version) (byte : ℕ) → byte < 33 → Lacks byte (λ id. is_id id && holds_id v id) (λ id. id)
 id_in_lacks v byte low = λ id is. id_lacks byte low id (and_parts (is_id id) (holds_id v id) is).0
 
--- versions
 version_line_back : (v : Version) → version_of_line (version_line v) ≡ Some v
 version_line_back v = grind arith
 
@@ -158,7 +152,6 @@ no_newline v = grind arith
 pub version_lacks : Lacks 10 always version_line
 version_lacks = λ v is. no_newline v
 
--- one bit
 one_bit_back : (flag : Bool) → one_bit (bit flag ∷ []) ≡ Some flag
 one_bit_back true = refl
 one_bit_back false = refl
@@ -172,7 +165,6 @@ one_bit_form = record { back = λ flag is. one_bit_back flag; own = one_bit_own 
 pub one_bit_lacks : (byte : ℕ) → (byte ≡ 10) ⊎ (byte ≡ 32) → Lacks byte always (λ flag. bit flag ∷ [])
 one_bit_lacks byte is = λ flag good. or_from (bit flag == byte) false (bit_lacks byte flag is) refl
 
--- stops
 stop_back : (stop : Stop) → is_stop stop ≡ true → stop_read (stop_word stop) ≡ Some stop
 stop_back stop is = grind (arith, time_form)
 
@@ -251,7 +243,6 @@ status_plain byte is status good = grind (arith, code_lacks)
 pub status_lacks : (byte : ℕ) → (byte ≡ 10) ⊎ (byte ≡ 32) → Lacks byte is_status status_word
 status_lacks byte is = λ status good. status_plain byte is status good
 
--- actions
 found_word : (word : List ℕ) (among : List Act) (a : Act) → find (λ b. bytes_eq (word_of b) word) among ≡ Some a
     → word_of a ≡ word
 found_word word [] a is = nothing a is
@@ -276,7 +267,7 @@ act_plain a = grind arith
 pub act_lacks : (byte : ℕ) → (byte ≡ 10) ⊎ (byte ≡ 32) → Lacks byte always word_of
 act_lacks byte is = λ a good. elim is [ inl e ↦ rw e (act_plain a).0 | inr e ↦ rw e (act_plain a).1 ]
 
--- times, joined by commas
+-- times, separated by commas
 times_back : (times : List ℕ) → list_all is_time times ≡ true → all_read time_read (map decimal times) ≡ Some times
 times_back [] are = grind (arith, time_form)
 times_back (time ∷ times) are = grind (arith, times_back times, time_form)

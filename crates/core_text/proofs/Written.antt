@@ -1,16 +1,15 @@
--- What is appended part by part.
+-- Texts that are appended part by part.
 use Rattle.core_text.proofs.CommonWords.{◌≡◌, ℕ, ◌+◌, List, [], ◌∷◌, ◌++◌, codes, map, length, decimal, append-nil}
 use Rattle.core_text.proofs.CommonWords.{refl, sym, ap, ◌∙◌, arith, length-append, flat_map, flat_map-append}
 use Rattle.core_text.proofs.CommonWords.{append_assoc, length-map, Entry, fields_written, text_of, SavedState, Version}
 use Rattle.core_text.proofs.CommonWords.{body_lines, slot_line, starts_word, table_line, text_of_lines}
 
--- times with commas between them
+-- times separated by commas
 pub starts_joined : (time : ℕ) (times : List ℕ)
     → starts_word (time ∷ times) ≡ decimal time ++ flat_map (λ t. 44 ∷ decimal t) times
 starts_joined time [] = sym (append-nil (decimal time))
 starts_joined time (next ∷ times) = ap (λ t. decimal time ++ 44 ∷ t) (starts_joined next times)
 
--- more lines
 pub text_of_lines-append : (xs ys : List (List ℕ)) → text_of_lines (xs ++ ys) ≡ text_of_lines xs ++ text_of_lines ys
 text_of_lines-append xs ys = flat_map-append (λ line. line ++ 10 ∷ []) xs ys
 
@@ -45,7 +44,7 @@ table_part old new count table is =
     is ∙ ap (λ t. old ++ (text_of_lines (table_line count ∷ []) ++ t)) (table_lines table)
     ∙ ap (λ t. old ++ t) (sym (text_of_lines-append (table_line count ∷ []) (map fields_written table)))
 
--- how many lines stand before the last
+-- the number of lines before the last one
 pub body_length : (v : Version) (state : SavedState)
     → length (body_lines v state) ≡ 8 + length state.table + length state.records
 body_length v state = grind (arith, length-append, map, fields_written, slot_line, length-map)

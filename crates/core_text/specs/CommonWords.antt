@@ -1,4 +1,4 @@
--- The words of the definitions and clauses of this crate that come from others.
+-- Names from other crates that the definitions and clauses of this crate use.
 pub use Rattle.init_words.specs.declared.children.Status.{Status}
 pub use Rattle.init_words.specs.declared.children.Status.TheVariants.{Exit}
 pub use Rattle.init_words.specs.declared.stages.Stage.{Stage}
@@ -6,11 +6,11 @@ pub use Rattle.init_words.specs.Actions.{word_of, act_read}
 pub use Rattle.inittab_text.specs.Written.{fields_written, is_table, is_empty, table_begun, text_of}
 pub use Rattle.trace_events.specs.declared.steps.Goal.{Goal}
 pub use Rattle.trace_text.specs.Lines.{level_word, stage_word, order_word}
-pub use Rattle.core_records.specs.declared.children.Stop.{Stop}
-pub use Rattle.core_records.specs.declared.children.Stop.TheVariants.{Due, Termed, Killed}
+pub use Rattle.child_table.specs.declared.children.Stop.{Stop}
+pub use Rattle.child_table.specs.declared.children.Stop.TheVariants.{Due, Termed, Killed}
 pub use Rattle.trace_events.specs.declared.call_sets.CallSet.{CallSet}
 pub use Rattle.core_model.specs.declared.parts.CoreFields.{CoreFields}
-pub use Rattle.core_model.specs.declared.parts.PlainRecord.{PlainRecord}
+pub use Rattle.core_model.specs.declared.parts.PlainSlot.{PlainSlot}
 pub use Rattle.core_model.specs.Parts.{SavedState, record_of}
 pub use Rattle.init_words.specs.Ids.{is_id, id_read, same_id}
 pub use Rattle.respawn_limit.specs.declared.TheConstants.{STARTS}

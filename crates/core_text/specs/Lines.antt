@@ -1,27 +1,28 @@
--- The text of a state (telinit(8)), by its version: its lines, and the words of each line, set apart by single blanks.
+-- The text of a state (telinit(8)) in each version: its lines, and the words of each line, separated by single blanks.
 use Rattle.std.specs.Prelude.{ℕ, Bool, if◌then◌else◌, List, [], ◌∷◌, ◌++◌, map, length, codes, decimal, Option, Some}
 use Rattle.std.specs.Prelude.{None}
 use Rattle.std.specs.List.{flat_map, join_with_byte}
 use Rattle.core_text.specs.CommonWords.{Status, Exit, Stage, word_of, fields_written, Goal, level_word, stage_word}
-use Rattle.core_text.specs.CommonWords.{order_word, Stop, Due, Termed, Killed, CallSet, CoreFields, PlainRecord}
+use Rattle.core_text.specs.CommonWords.{order_word, Stop, Due, Termed, Killed, CallSet, CoreFields, PlainSlot}
 use Rattle.core_text.specs.CommonWords.{SavedState}
 use Rattle.init_words.specs.declared.children.Status.TheVariants.{Killed as KilledBySignal}
 use Rattle.core_text.specs.declared.versions.Version.{Version}
 use Rattle.core_text.specs.declared.versions.Version.TheVariants.{V1, V2}
 
--- a yes or no; some of them in a row
+-- a flag as a digit
 abbrev pub bit : Bool → ℕ
 bit flag = if flag then 49 else 48
 
+-- flags as a row of digits
 abbrev pub bits : List Bool → List ℕ
 bits flags = map bit flags
 
--- a word, and another where there is none
+-- the word for a value, or another word if there is none
 abbrev pub or_word : {X : Type 0} → List ℕ → (X → List ℕ) → Option X → List ℕ
 or_word none write None = none
 or_word none write (Some x) = write x
 
--- a word, and a dash where there is none
+-- the word for a value, or a dash if there is none
 abbrev pub or_dash : {X : Type 0} → (X → List ℕ) → Option X → List ℕ
 or_dash write o = or_word (codes "-") write o
 
@@ -42,12 +43,12 @@ abbrev pub status_word : Status → List ℕ
 status_word (Exit code) = codes "exit" ++ 58 ∷ decimal code
 status_word KilledBySignal = codes "killed"
 
--- readings, joined by commas
+-- readings of the clock, separated by commas, or a dash if there are none
 abbrev pub starts_word : List ℕ → List ℕ
 starts_word [] = codes "-"
 starts_word (time ∷ times) = join_with_byte 44 (map decimal (time ∷ times))
 
--- a line of these words
+-- the line of these words
 abbrev pub spaced : List (List ℕ) → List ℕ
 spaced words = join_with_byte 32 words
 
@@ -81,6 +82,7 @@ wish_line reread reexec level pending =
     spaced (codes "wish" ∷ bits (reread ∷ reexec ∷ []) ∷ or_dash goal_word level ∷ bits (power_bits pending)
     ∷ bits (letter_bits pending) ∷ [])
 
+-- the lines of the fields
 abbrev pub head_lines : CoreFields → List (List ℕ)
 head_lines fields =
     generation_line fields.generation
@@ -94,41 +96,43 @@ head_lines fields =
 abbrev pub table_line : ℕ → List ℕ
 table_line count = spaced (codes "table" ∷ decimal count ∷ [])
 
-abbrev pub slot_flags : PlainRecord → List Bool
+abbrev pub slot_flags : PlainSlot → List Bool
 slot_flags plain = plain.asked ∷ plain.called ∷ plain.look ∷ plain.missed ∷ []
 
--- the words of a record; version 2 has how the last child ended behind them
-abbrev pub record_words : PlainRecord → List (List ℕ)
+-- the words of a record, except how its last child ended
+abbrev pub record_words : PlainSlot → List (List ℕ)
 record_words plain =
     codes "slot" ∷ plain.id ∷ or_dash decimal plain.child ∷ or_dash word_of plain.act
     ∷ or_dash order_word plain.order ∷ or_dash stop_word plain.stop ∷ bits (slot_flags plain)
     ∷ or_dash decimal plain.held_until ∷ starts_word plain.starts.items ∷ []
 
-abbrev pub slot_line : Version → PlainRecord → List ℕ
+-- the line of a record; version 2 adds how its last child ended
+abbrev pub slot_line : Version → PlainSlot → List ℕ
 slot_line V1 plain = spaced (record_words plain)
 slot_line V2 plain = spaced (record_words plain ++ or_dash status_word plain.last ∷ [])
 
 abbrev pub end_line : ℕ → List ℕ
 end_line count = spaced (codes "end" ∷ decimal count ∷ [])
 
--- the lines of a state before its last: the version, the fields, how many entries the table has and a line of
--- inittab(5) for each, and a line for each record
+-- the lines of a state before its last: the version; the fields; the number of entries of the table, and one line of
+-- inittab(5) for each; and one line for each record
 abbrev pub body_lines : Version → SavedState → List (List ℕ)
 body_lines version state =
     version_line version ∷ (head_lines state.fields ++ (table_line (length state.table)
     ∷ (map fields_written state.table ++ map (slot_line version) state.records)))
 
--- the lines of a state: the last one counts those before it
+-- the lines of a state; the last one gives the number of those before it
 abbrev pub state_lines : Version → SavedState → List (List ℕ)
 state_lines version state = body_lines version state ++ end_line (length (body_lines version state)) ∷ []
 
--- lines, each ended by a newline
+-- the text of these lines, each ended by a newline
 abbrev pub text_of_lines : List (List ℕ) → List ℕ
 text_of_lines lines = flat_map (λ line. line ++ 10 ∷ []) lines
 
+-- the text of a state in a version
 abbrev pub text_in : Version → SavedState → List ℕ
 text_in version state = text_of_lines (state_lines version state)
 
--- the text as it is written
+-- the text that is written, which is that of version 2
 abbrev pub state_text : SavedState → List ℕ
 state_text state = text_in V2 state

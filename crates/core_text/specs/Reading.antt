@@ -1,5 +1,5 @@
--- A line of a state text word by word: what these words say. The meaning of a text is that a state is written so
--- (Lines); this is the way there.
+-- How a line of a state text is read, word by word. The meaning of a text is defined by writing (`Lines`): it stands
+-- for the state that is written like this. The definitions here say how the reader finds that state.
 use Rattle.std.specs.Prelude.{◌≡◌, ℕ, Bool, true, false, not, ◌==◌, ◌-◌, ◌&&◌, ◌^◌, if◌then◌else◌, nat_le, List, []}
 use Rattle.std.specs.Prelude.{◌∷◌, length, take, codes, Option, Some, None, option_and_then}
 use Rattle.std.specs.Option.{option_map}
@@ -7,7 +7,7 @@ use Rattle.std.specs.List.{starts_with}
 use Rattle.core_text.specs.CommonWords.{cut, pieces_of, after_lines, newlines, Status, Entry, Stage, act_read, id_read}
 use Rattle.core_text.specs.CommonWords.{same_id, is_empty, table_begun, Goal, both, level_of_word, stage_of_word}
 use Rattle.core_text.specs.CommonWords.{order_of_word, seconds_of_word, child_of_word, code_of_word, STARTS, Stop, Due}
-use Rattle.core_text.specs.CommonWords.{Termed, Killed, CallSet, CoreFields, PlainRecord}
+use Rattle.core_text.specs.CommonWords.{Termed, Killed, CallSet, CoreFields, PlainSlot}
 use Rattle.text_lines.specs.Numbers.{number_read}
 use Rattle.init_words.specs.declared.actions.Act.{Act}
 use Rattle.init_words.specs.declared.children.Status.TheVariants.{Killed as KilledBySignal}
@@ -21,7 +21,7 @@ use Rattle.core_text.specs.declared.versions.Version.{Version}
 use Rattle.core_text.specs.declared.versions.Version.TheVariants.{V1, V2}
 use Rattle.core_text.specs.Versions.{holds_id, holds_table}
 
--- what was read, where it passes
+-- the value that was read, if it passes the test
 abbrev pub checked_by : {X : Type 0} → (X → Bool) → Option X → Option X
 checked_by test None = None
 checked_by test (Some x) = if test x then Some x else None
@@ -29,11 +29,11 @@ checked_by test (Some x) = if test x then Some x else None
 abbrev pub pair : {X Y : Type 0} → X → Y → X × Y
 pair x y = (x, y)
 
--- the text before the first such byte, and the text after it
+-- the values of the text before the first occurrence of a byte, and of the text after it
 abbrev pub pair_read : {X Y : Type 0} → ℕ → (List ℕ → Option X) → (List ℕ → Option Y) → List ℕ → Option (X × Y)
 pair_read mark first second text = option_and_then (λ parts. both pair (first parts.0) (second parts.1)) (cut mark text)
 
--- the text after a name and such a byte
+-- the text after a name and this byte; none if the text does not begin with them
 abbrev pub after_prefix : List ℕ → ℕ → List ℕ → Option (List ℕ)
 after_prefix name mark text =
     option_and_then (λ parts. if same_id parts.0 name then Some parts.1 else None) (cut mark text)
@@ -41,7 +41,7 @@ after_prefix name mark text =
 abbrev pub named_read : {X : Type 0} → List ℕ → ℕ → (List ℕ → Option X) → List ℕ → Option X
 named_read name mark read text = option_and_then read (after_prefix name mark text)
 
--- a word that says that there is none, or what another says
+-- an optional value: the word for no value, or the word of a value
 abbrev pub or_read : {X : Type 0} → List ℕ → (List ℕ → Option X) → List ℕ → Option (Option X)
 or_read none read word = if same_id word none then Some None else option_map Some (read word)
 
@@ -54,14 +54,16 @@ time_read word = number_read (2 ^ 64) word
 abbrev pub generation_read : List ℕ → Option ℕ
 generation_read word = checked_by (λ n. nat_le 1 n) (time_read word)
 
--- a word of one bit, and one with a bit before others
+-- the flag of a digit
 abbrev pub bit_read : ℕ → Option Bool
 bit_read byte = if byte == 48 then Some false else if byte == 49 then Some true else None
 
+-- a word of one flag
 abbrev pub one_bit : List ℕ → Option Bool
 one_bit (byte ∷ []) = bit_read byte
 one_bit _ = None
 
+-- a word of a flag followed by other flags
 abbrev pub first_bit : {X : Type 0} → (List ℕ → Option X) → List ℕ → Option (Bool × X)
 first_bit rest [] = None
 first_bit rest (byte ∷ word) = both pair (bit_read byte) (rest word)
@@ -75,50 +77,55 @@ three_bits word = first_bit two_bits word
 abbrev pub four_bits : List ℕ → Option (Bool × (Bool × (Bool × Bool)))
 four_bits word = first_bit three_bits word
 
--- a stage and its seconds, none before the first stage
+-- a stage and its seconds, which are 0 before the first stage
 abbrev pub stage_pair_read : List ℕ → Option (Option Stage × ℕ)
 stage_pair_read words =
     checked_by (λ p. is_stage p.0 p.1) (pair_read 32 (or_read (codes "none") stage_of_word) seconds_of_word words)
 
--- a level and its seconds, set apart by a byte
+-- a goal, given its level and seconds
 abbrev pub goal_made : Level × ℕ → Goal
 goal_made p = record { level = p.0; grace = p.1 }
 
+-- a level and its seconds, separated by this byte
 abbrev pub goal_read : ℕ → List ℕ → Option Goal
 goal_read mark words = option_map goal_made (pair_read mark level_of_word seconds_of_word words)
 
--- whether inittab is to be read again; no other re-execution may be wished
+-- whether inittab is to be read again; no further re-execution may be pending
 abbrev pub reread_read : List ℕ → Option (Bool × Bool)
 reread_read word = checked_by (λ p. not p.1) (two_bits word)
 
+-- the values in the line of the pending requests
 abbrev pub WishWords : Type 0
 WishWords = (Bool × Bool) × (Option Goal × ((Bool × (Bool × Bool)) × (Bool × (Bool × Bool))))
 
+-- the pending requests
 abbrev pub wishes_read : List ℕ → Option WishWords
 wishes_read words =
     pair_read 32 reread_read (pair_read 32 (dash_read (goal_read 58)) (pair_read 32 three_bits three_bits)) words
 
--- the stop of a child, by the signal that was sent and its time
+-- the stop state with this signal, sent at this time
 abbrev pub signal_read : List ℕ × List ℕ → Option Stop
 signal_read parts =
     if same_id parts.0 (codes "term") then option_map Termed (time_read parts.1)
     else if same_id parts.0 (codes "kill") then option_map Killed (time_read parts.1)
     else None
 
+-- the stop state of a child
 abbrev pub stop_read : List ℕ → Option Stop
 stop_read word = if same_id word (codes "due") then Some Due else option_and_then signal_read (cut 58 word)
 
--- each of a list is read
+-- the values of all elements of a list; none if one cannot be read
 abbrev pub all_read : {X Y : Type 0} → (X → Option Y) → List X → Option (List Y)
 all_read read [] = Some []
 all_read read (x ∷ xs) = both ◌∷◌ (read x) (all_read read xs)
 
+-- the times of starts, separated by commas, or a dash; at most as many as the respawn limit counts
 abbrev pub starts_read : List ℕ → Option (List ℕ)
 starts_read word =
     if same_id word (codes "-") then Some []
     else checked_by (λ times. nat_le (length times) STARTS) (all_read time_read (pieces_of 44 word))
 
--- an id, as long as the version has them
+-- an id, if its length is allowed by the version
 abbrev pub id_in_read : Version → List ℕ → Option (List ℕ)
 id_in_read version word = checked_by (holds_id version) (id_read word)
 
@@ -127,18 +134,19 @@ abbrev pub status_read : List ℕ → Option Status
 status_read word =
     if same_id word (codes "killed") then Some KilledBySignal else named_read (codes "exit") 58 code_of_word word
 
--- the last starts, and how the last child ended, which version 1 doesn't say
+-- the last starts, and how the last child ended
 abbrev pub EndWords : Type 0
 EndWords = List ℕ × Option Status
 
 abbrev pub without_status : List ℕ → EndWords
 without_status starts = (starts, None)
 
+-- the last starts and how the last child ended, which version 1 does not record
 abbrev pub ends_read : Version → List ℕ → Option EndWords
 ends_read V1 words = option_map without_status (starts_read words)
 ends_read V2 words = pair_read 32 starts_read (dash_read status_read) words
 
--- the words of a record
+-- the end of the last hold, and the values after it
 abbrev pub LimitWords : Type 0
 LimitWords = Option ℕ × EndWords
 
@@ -148,7 +156,7 @@ MarkWords = Option Stop × ((Bool × (Bool × (Bool × Bool))) × LimitWords)
 abbrev pub SlotWords : Type 0
 SlotWords = List ℕ × (Option ℕ × (Option Act × (Option OrderKind × MarkWords)))
 
-abbrev pub record_made : List ℕ → Option ℕ → Option Act → Option OrderKind → MarkWords → PlainRecord
+abbrev pub record_made : List ℕ → Option ℕ → Option Act → Option OrderKind → MarkWords → PlainSlot
 record_made id child act order marks = record {
   id = id;
   child = child;
@@ -164,7 +172,7 @@ record_made id child act order marks = record {
   last = marks.1.1.1.1;
 }
 
-abbrev pub slot_made : SlotWords → PlainRecord
+abbrev pub slot_made : SlotWords → PlainSlot
 slot_made words = record_made words.0 words.1.0 words.1.1.0 words.1.1.1.0 words.1.1.1.1
 
 abbrev pub limits_read : Version → List ℕ → Option LimitWords
@@ -174,12 +182,13 @@ abbrev pub marks_read : Version → List ℕ → Option MarkWords
 marks_read version words =
     pair_read 32 (dash_read stop_read) (pair_read 32 four_bits (limits_read version)) words
 
+-- the words of a record
 abbrev pub slot_words_read : Version → List ℕ → Option SlotWords
 slot_words_read version words =
     pair_read 32 (id_in_read version) (pair_read 32 (dash_read child_of_word) (pair_read 32 (dash_read act_read)
     (pair_read 32 (dash_read order_of_word) (marks_read version)))) words
 
--- the lines
+-- the values in the lines of a state text, one definition for each kind of line
 abbrev pub generation_line_read : List ℕ → Option ℕ
 generation_line_read line = named_read (codes "generation") 32 generation_read line
 
@@ -204,14 +213,14 @@ table_line_read line = named_read (codes "table") 32 time_read line
 abbrev pub end_line_read : List ℕ → Option ℕ
 end_line_read line = named_read (codes "end") 32 time_read line
 
-abbrev pub slot_line_read : Version → List ℕ → Option PlainRecord
+abbrev pub slot_line_read : Version → List ℕ → Option PlainSlot
 slot_line_read version line = option_map slot_made (named_read (codes "slot") 32 (slot_words_read version) line)
 
--- what a first line says, and the text after it
+-- the value of the first line, and the text after it
 abbrev pub line_read : {X : Type 0} → (List ℕ → Option X) → List ℕ → Option (X × List ℕ)
 line_read read text = option_and_then (λ parts. option_map (λ x. (x, parts.1)) (read parts.0)) (cut 10 text)
 
--- what a text begins with, then what the rest begins with, and the text after both
+-- the values of two parts, one after the other, and the text after both
 abbrev pub then_read : {X Y : Type 0} → (List ℕ → Option (X × List ℕ)) → (List ℕ → Option (Y × List ℕ))
     → List ℕ → Option ((X × Y) × List ℕ)
 then_read first second text = option_and_then (λ p. option_map (λ q. ((p.0, q.0), q.1)) (second p.1)) (first text)
@@ -220,6 +229,7 @@ abbrev pub version_of_line : List ℕ → Option Version
 version_of_line line =
     if same_id line (version_line V1) then Some V1 else if same_id line (version_line V2) then Some V2 else None
 
+-- the version in the first line, and the text after it
 abbrev pub version_read : List ℕ → Option (Version × List ℕ)
 version_read text = line_read version_of_line text
 
@@ -270,40 +280,42 @@ fields_made words =
       pending = news_made flags.1.1.1.0 flags.1.1.1.1;
     }
 
--- what is made of what was read
+-- the value made of what was read
 abbrev pub made_read : {X Y : Type 0} → (X → Y) → Option (X × List ℕ) → Option (Y × List ℕ)
 made_read make found = option_map (λ p. (make p.0, p.1)) found
 
+-- the fields at the start of a text, and the text after them
 abbrev pub fields_read : List ℕ → Option (CoreFields × List ℕ)
 fields_read text = made_read fields_made (then_read times_read (then_read places_read flags_read) text)
 
--- the table of the next given number of lines, as large as the version has them, and the text after it
+-- the table that consists of the given number of lines, if the version allows its size, and the text after it
 abbrev pub table_in : Version → ℕ → List ℕ → Option (List Entry × List ℕ)
 table_in version count text =
     checked_by (λ (p : List Entry × List ℕ). holds_table version p.0) (table_begun count text)
 
--- the table that the text begins with, and the text after it
+-- the table at the start of a text, and the text after it
 abbrev pub table_read : Version → List ℕ → Option (List Entry × List ℕ)
 table_read version text = option_and_then (λ p. table_in version p.0 p.1) (line_read table_line_read text)
 
--- the last line, where it is ended and begins as it should; the text before it, and it
+-- the text without its newline, if it is a single line that is ended by a newline and begins with `end `
 abbrev pub last_line : List ℕ → Option (List ℕ)
 last_line text =
     option_and_then
     (λ parts. if is_empty parts.1 && starts_with ◌==◌ parts.0 (codes "end ") then Some parts.0 else None) (cut 10 text)
 
+-- the text before the last line, and that line; none if it is not ended by a newline or does not begin with `end `
 abbrev pub end_split : List ℕ → Option (List ℕ × List ℕ)
 end_split text =
     option_and_then (λ rest. option_map (λ last. (take (length text - length rest) text, last)) (last_line rest))
     (after_lines (newlines text - 1) text)
 
--- a line is refused, as it is known to be wrong
+-- the fault names a line and this fact holds, or it is lack of memory
 abbrev pub OnLine : Type 0 → StateFault → Type 0
 OnLine fact (Line number) = fact
 OnLine fact Memory = Unit {0}
 OnLine fact _ = ⊥
 
--- why what a part of a text says was not read
+-- why a part of a text was not read
 abbrev pub UnreadState : {X : Type 0} → Option X → StateFault → Type 0
 UnreadState found why = OnLine (found ≡ None) why
 

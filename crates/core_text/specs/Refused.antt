@@ -1,7 +1,7 @@
--- Which texts are those of states, and why a text is refused.
+-- Which texts are those of states, and why a text is rejected.
 use Rattle.std.specs.Prelude.{◌≡◌, ◌≢◌, ◌==◌, ℕ, Bool, true, not, List, [], ◌∷◌, ◌++◌, map, codes, None}
 use Rattle.std.specs.List.{list_all, starts_with}
-use Rattle.core_text.specs.CommonWords.{has_byte, PlainRecord, SavedState}
+use Rattle.core_text.specs.CommonWords.{has_byte, PlainSlot, SavedState}
 use Rattle.core_text.specs.declared.state_fault.StateFault.{StateFault}
 use Rattle.core_text.specs.declared.state_fault.StateFault.TheVariants.{Cut, Version as OtherVersion, Line, Generation}
 use Rattle.core_text.specs.declared.state_fault.StateFault.TheVariants.{Memory}
@@ -10,7 +10,7 @@ use Rattle.core_text.specs.Lines.{body_lines, slot_line, text_in, text_of_lines,
 use Rattle.core_text.specs.Range.{is_record, is_state}
 use Rattle.core_text.specs.Reading.{OnLine, version_read}
 
--- a line has no newline in it
+-- a line contains no newline
 abbrev pub is_line : List ℕ → Bool
 is_line line = not (has_byte 10 line)
 
@@ -23,30 +23,35 @@ pub record Whole (text : List ℕ) : Type 0 where
   pub begins : starts_with ◌==◌ last (codes "end ") ≡ true
   pub whole : text_of_lines lines ++ (last ++ 10 ∷ []) ≡ text
 
--- the text of a state in a version; and in one of the versions
+-- the text is that of the state in this version
 abbrev pub IsTextIn : Version → List ℕ → SavedState → Type 0
 IsTextIn version text state = (is_state version state ≡ true) × (text_in version state ≡ text)
 
+-- the text is that of the state in some version
 abbrev pub IsTextOf : List ℕ → SavedState → Type 0
 IsTextOf text state = (version : Version) × IsTextIn version text state
 
+-- the text is that of no state
 abbrev pub SaysNone : List ℕ → Type 0
 SaysNone text = (state : SavedState) → IsTextOf text state → ⊥
 
--- the first line is that of the version; and of one of them
+-- the text is the first line of this version followed by the rest
 abbrev pub BeginsAs : Version → List ℕ → List ℕ → Type 0
 BeginsAs version text rest = version_line version ++ 10 ∷ rest ≡ text
 
+-- the text begins with the first line of this version
 abbrev pub Begins : List ℕ → Version → Type 0
 Begins text version = (rest : List ℕ) × BeginsAs version text rest
 
+-- the text begins with the first line of some version
 abbrev pub BeginsAsKnown : List ℕ → Type 0
 BeginsAsKnown text = (version : Version) × Begins text version
 
--- the text is not whole; it is whole, and its first line is another
+-- the text is not whole
 abbrev pub IsCut : List ℕ → Type 0
 IsCut text = Whole text → ⊥
 
+-- the text is whole, and its first line is that of no version
 abbrev pub IsOtherVersion : List ℕ → Type 0
 IsOtherVersion text = Whole text × ((version : Version) (rest : List ℕ) → BeginsAs version text rest → ⊥)
 
@@ -56,7 +61,9 @@ pub record IsOther (text : List ℕ) (generation : ℕ) : Type 0 where
   pub says : IsTextOf text state
   pub other : state.fields.generation ≢ generation
 
--- the first check that a text fails: it is cut; another version; a line; another generation
+-- What holds of a text that is rejected for this reason. It is cut short; or it is whole, and its first line is that of
+-- no version; or it is whole and of some version, but not the text of a state (which line is named is not specified);
+-- or it is the text of a state of another generation. Lack of memory says nothing about the text.
 abbrev pub Refused : List ℕ → ℕ → StateFault → Type 0
 Refused text generation Cut = IsCut text
 Refused text generation OtherVersion = IsOtherVersion text
@@ -65,26 +72,30 @@ Refused text generation Generation = IsOther text generation
 Refused text generation Memory = Unit {0}
 Refused text generation _ = ⊥
 
--- the records whose lines make a text of a version
-abbrev pub AreRecords : Version → List ℕ → List PlainRecord → Type 0
+-- the lines of these records form the text in this version
+abbrev pub AreRecords : Version → List ℕ → List PlainSlot → Type 0
 AreRecords version text records =
     (list_all (is_record version) records ≡ true) × (text_of_lines (map (slot_line version) records) ≡ text)
 
+-- the text is not that of any records in this version
 abbrev pub NoRecords : Version → List ℕ → Type 0
 NoRecords version text =
-    (records : List PlainRecord) → list_all (is_record version) records ≡ true
+    (records : List PlainSlot) → list_all (is_record version) records ≡ true
     → text_of_lines (map (slot_line version) records) ≢ text
 
--- the state whose lines before the last make a text
+-- the lines of the state before its last one form the text in this version
 abbrev pub IsBodyIn : Version → List ℕ → SavedState → Type 0
 IsBodyIn version text state = (is_state version state ≡ true) × (text_of_lines (body_lines version state) ≡ text)
 
+-- the lines of the state before its last one form the text in some version
 abbrev pub IsBody : List ℕ → SavedState → Type 0
 IsBody text state = (version : Version) × IsBodyIn version text state
 
+-- the text is not that of the lines of any state before its last one
 abbrev pub NoBody : List ℕ → Type 0
 NoBody text = (state : SavedState) → IsBody text state → ⊥
 
+-- why the lines before the last one are rejected: the version is unknown, or another line is wrong
 abbrev pub RefusedBody : List ℕ → StateFault → Type 0
 RefusedBody text OtherVersion = version_read text ≡ None
 RefusedBody text why = OnLine ((version_read text ≢ None) × NoBody text) why

@@ -1,4 +1,4 @@
-//! The fields of a state text's lines, read.
+//! Reads the fields in the lines of a state text.
 
 ghost use Rattle.std.specs.Prelude.{◌≡◌};
 ghost use Rattle.std.specs.Option.{option_map};
@@ -12,15 +12,15 @@ use crate::words::{
     read_stop_or_dash, read_three_bits, read_time_or_dash, read_two_bits,
 };
 use arrayvec::ArrayVec;
-use core_model::PlainRecord;
-use core_records::Stop;
+use child_table::Stop;
+use core_model::PlainSlot;
 use init_words::{Act, ChildNumber, Id, OrderKind, Stage, Status};
 use respawn_limit::STARTS;
 use text_lines::{cut, read_number};
 use trace_events::Goal;
 use trace_text::words::{is, read_seconds};
 
-/// The text after the name and a blank.
+/// Returns the text after a name and a blank, if the line begins with them.
 pub(crate) fn after_prefix<'a>(name: &[u8], line: &'a [u8]) -> Option<&'a [u8]>
     ensures { option_map (λ rest. rest.now) result ≡ after_prefix name.now 32 line.now }
 {
@@ -28,12 +28,14 @@ pub(crate) fn after_prefix<'a>(name: &[u8], line: &'a [u8]) -> Option<&'a [u8]>
     if is(word, name) { Some(rest) } else { None }
 }
 
+/// Reads the line with the generation.
 pub(crate) fn read_generation_line(line: &[u8]) -> Option<u64>
     ensures { result ≡ generation_line_read line.now }
 {
     read_generation(after_prefix(b"generation", line)?)
 }
 
+/// Reads the stage and its seconds.
 pub(crate) fn read_stage_pair(words: &[u8]) -> Option<(Option<Stage>, u16)>
     ensures { result ≡ stage_pair_read words.now }
 {
@@ -46,7 +48,8 @@ pub(crate) fn read_stage_pair(words: &[u8]) -> Option<(Option<Stage>, u16)>
     Some((stage, grace))
 }
 
-/// Whether inittab is to be read again; the bit after it is 0, as a re-execution that goes on is wished no more.
+/// Reads whether inittab is to be read again. The bit after it has to be 0, because a re-execution is no longer pending
+/// once it is under way.
 fn read_reread(word: &[u8]) -> Option<(bool, bool)>
     ensures { result ≡ reread_read word.now }
 {
@@ -57,10 +60,11 @@ fn read_reread(word: &[u8]) -> Option<(bool, bool)>
     Some((reread, reexec))
 }
 
-/// What is kept of the power, and of the letters.
+/// Three flags: those of the power events, or those of the letters.
 type Bits = (bool, (bool, bool));
 
-/// Whether inittab is to be read again and init to be re-executed, the level that is wished for, and the news.
+/// Whether inittab is to be read again and init to be re-executed, the level requested, and the flags of the power
+/// events and of the letters.
 pub(crate) type WishFields = ((bool, bool), (Option<Goal>, (Bits, Bits)));
 
 fn read_news(words: &[u8]) -> Option<(Bits, Bits)>
@@ -70,6 +74,7 @@ fn read_news(words: &[u8]) -> Option<(Bits, Bits)>
     Some((read_three_bits(powers)?, read_three_bits(letters)?))
 }
 
+/// Reads the words in the line of the pending requests.
 pub(crate) fn read_wishes(words: &[u8]) -> Option<WishFields>
     ensures { result ≡ wishes_read words.now }
 {
@@ -79,6 +84,7 @@ pub(crate) fn read_wishes(words: &[u8]) -> Option<WishFields>
     Some((bits, (read_goal_or_dash(level)?, read_news(words)?)))
 }
 
+/// Reads the last line, which has the number of lines before it.
 pub(crate) fn read_end_line(line: &[u8]) -> Option<u64>
     ensures { result ≡ end_line_read line.now }
 {
@@ -101,7 +107,7 @@ fn read_new_ends(words: &[u8]) -> Option<Ends>
     Some((read_starts(starts)?, read_status_or_dash(last)?))
 }
 
-/// The end of a slot line, from its starts on.
+/// Reads the end of a slot line, from its starts on.
 fn read_ends(version: Version, words: &[u8]) -> Option<Ends>
     ensures { option_map (λ p. (p.0.items, p.1)) result ≡ ends_read version words.now }
 {
@@ -111,7 +117,7 @@ fn read_ends(version: Version, words: &[u8]) -> Option<Ends>
     }
 }
 
-/// The end of the last hold, and what is after it.
+/// Reads the end of the last hold and the fields after it.
 fn read_limits(version: Version, words: &[u8]) -> Option<(Option<u64>, Ends)>
     ensures { option_map (λ p. (p.0, (p.1.0.items, p.1.1))) result ≡ limits_read version words.now }
 {
@@ -119,7 +125,7 @@ fn read_limits(version: Version, words: &[u8]) -> Option<(Option<u64>, Ends)>
     Some((read_time_or_dash(held)?, read_ends(version, ends)?))
 }
 
-/// The end of a slot line, from its stop on.
+/// Reads the end of a slot line, from its stop state on.
 fn read_marks(
     version: Version,
     id: Id,
@@ -127,7 +133,7 @@ fn read_marks(
     act: Option<Act>,
     order: Option<OrderKind>,
     words: &[u8],
-) -> Option<PlainRecord>
+) -> Option<PlainSlot>
     ensures { result ≡ option_map (record_made id child act order) (marks_read version words.now) }
 {
     let (stop, words) = cut(b' ', words)?;
@@ -135,7 +141,7 @@ fn read_marks(
     let (flags, words) = cut(b' ', words)?;
     let (asked, (called, (look, missed))) = read_four_bits(flags)?;
     let (held_until, (starts, last)) = read_limits(version, words)?;
-    Some(PlainRecord {
+    Some(PlainSlot {
         id,
         child,
         act,
@@ -151,7 +157,7 @@ fn read_marks(
     })
 }
 
-fn read_slot(version: Version, words: &[u8]) -> Option<PlainRecord>
+fn read_slot(version: Version, words: &[u8]) -> Option<PlainSlot>
     ensures { result ≡ option_map slot_made (slot_words_read version words.now) }
 {
     let (id, words) = cut(b' ', words)?;
@@ -165,7 +171,8 @@ fn read_slot(version: Version, words: &[u8]) -> Option<PlainRecord>
     read_marks(version, id, child, act, order, words)
 }
 
-pub(crate) fn read_slot_line(version: Version, line: &[u8]) -> Option<PlainRecord>
+/// Reads the line of a record.
+pub(crate) fn read_slot_line(version: Version, line: &[u8]) -> Option<PlainSlot>
     ensures { result ≡ slot_line_read version line.now }
 {
     read_slot(version, after_prefix(b"slot", line)?)

@@ -1,11 +1,14 @@
-//! A law of state texts that were cut short.
+//! The laws of state texts: none is a prefix of another one, and each is that of only one state.
 
 ghost use Rattle.std.specs.Prelude.{◌≡◌, ◌++◌, ℕ, List, []};
 ghost use Rattle.core_text.specs.CommonWords.{SavedState};
 ghost use Rattle.core_text.specs.Refused.{IsTextOf, Whole};
 
-/// No proper prefix of the text of a state is whole, as no line before the last begins with `end `; so none is the text
-/// of a state: a text that was cut short is never taken for a whole one. It does nothing: its contract is the law.
+/// States in its contract that a text that was cut short is never taken for a whole one. The function itself does
+/// nothing.
+///
+/// No proper prefix of the text of a state is whole, because no line before the last one begins with `end `. So no
+/// proper prefix is the text of a state.
 pub fn law_of_prefixes()
     ensures whole { (text front more : List ℕ) (state : SavedState) → IsTextOf text state
         → front ++ more ≡ text → Whole front → more ≡ [] }
@@ -13,8 +16,8 @@ pub fn law_of_prefixes()
         → IsTextOf text state → IsTextOf (text ++ more) other → more ≡ [] }
 {}
 
-/// Two states that have one text are one, whichever versions they are written in. It does nothing: its contract is the
-/// law.
+/// States in its contract that two states with the same text are equal, whichever versions they are written in. The
+/// function itself does nothing.
 pub fn law_of_texts()
     ensures { (text : List ℕ) (state other : SavedState)
         → IsTextOf text state → IsTextOf text other → state ≡ other }

@@ -1,7 +1,8 @@
-//! The text of init's state, by which init re-executes itself without losing a child (telinit(8), `u`): one line for
-//! each thing that it keeps, one for each entry of its table and one for each of its records, and a last line that
-//! counts them. A state has one text, and a text that is cut short is distinguished from a whole one. The first line
-//! names the version: the second is written, and both are read.
+//! The text of init's state, which allows init to re-execute itself without losing a child (telinit(8), `u`).
+//!
+//! The text has one line for each field, one for each entry of the table and one for each record, and a last line that
+//! counts them. A state has exactly one text in each version, and a text that is cut short can be told from a whole
+//! one. The first line names the version; version 2 is written, and versions 1 and 2 are read.
 #![tactic(auto)]
 
 mod fields;

@@ -1,4 +1,4 @@
-//! A state text, read.
+//! Reads a state text.
 
 ghost use Rattle.std.specs.List.{list_all};
 ghost use Rattle.std.specs.Prelude.{ℕ, ◌≡◌, ◌≢◌, ◌∷◌, List, true, false, None, Some, Err, IfOk, IfErr, IfSome, IfNone, OnOk, ◌++◌, []};
@@ -16,15 +16,15 @@ use crate::fields::{
 use crate::state_fault::StateFault;
 use crate::versions::Version;
 use crate::words::{read_generation, read_goal, read_two_bits, read_version};
-use core_model::{CoreFields, Parts, PlainRecord};
+use core_model::{CoreFields, Parts, PlainSlot};
 use init_words::{Entry, Memory, Stage};
 use inittab_text::{Table, table_begun};
 use std::alloc::{AllocError, Allocator};
 use text_lines::{after_lines, cut, newlines, read_number};
 use trace_events::{CallSet, Goal};
 
-/// The text without its last line, and that line without its newline; None where the text doesn't end with a newline
-/// or the line doesn't begin with `end `.
+/// Splits a text into the part before its last line, and that line without its newline. Returns `None` if the text does
+/// not end with a newline or the line does not begin with `end `.
 fn split_end(text: &[u8]) -> Option<(&[u8], &[u8])>
     ensures { option_map (λ parts. (parts.0.now, parts.1.now)) result ≡ end_split text.now }
 {
@@ -36,7 +36,7 @@ fn split_end(text: &[u8]) -> Option<(&[u8], &[u8])>
     Some((&text[..text.len() - rest.len()], last))
 }
 
-/// The first line of a text, whose number is given, and the text after it.
+/// Returns the first line of a text and the text after it. `number` is the number of that line.
 fn take_line(text: &[u8], number: u64) -> Result<(&[u8], &[u8]), StateFault>
     ensures ok { IfOk result (λ parts. cut 10 text.now ≡ Some (parts.0.now, parts.1.now)) }
     ensures err { IfErr result (λ why. UnreadState (cut 10 text.now) why) }
@@ -47,7 +47,8 @@ fn take_line(text: &[u8], number: u64) -> Result<(&[u8], &[u8]), StateFault>
     }
 }
 
-/// The words behind the name on the first line of a text, whose number is given, and the text after it.
+/// Returns the words after the name in the first line of a text, and the text after that line. `number` is the number
+/// of that line.
 fn take_words<'a>(
     text: &'a [u8],
     number: u64,
@@ -127,7 +128,7 @@ fn fields_of(
     }
 }
 
-/// The fields that a text begins with, and the text after them.
+/// Reads the fields at the start of a text, and returns the text after them.
 fn take_fields(text: &[u8]) -> Result<(CoreFields, &[u8]), StateFault>
     ensures ok { IfOk result (λ found. fields_read text.now ≡ Some (found.0, found.1.now)) }
     ensures err { IfErr result (λ why. UnreadState (fields_read text.now) why) }
@@ -138,28 +139,29 @@ fn take_fields(text: &[u8]) -> Result<(CoreFields, &[u8]), StateFault>
     Ok((fields_of(times, places, wishes), rest))
 }
 
-/// The version has room for the entry's id.
+/// Returns whether the version allows the length of the entry's id.
 fn holds_id(version: Version, entry: &Entry) -> bool
     ensures { result ≡ holds_id version entry.now.id }
 {
     entry.id.as_bytes().len() <= version.id_limit()
 }
 
-/// It has room for the ids of all of these.
+/// Returns whether the version allows the lengths of all ids.
 fn holds_ids(version: Version, entries: &[Entry]) -> bool
     ensures { result ≡ list_all (λ (e : Entry). holds_id version e.id) entries.now }
 {
     entries.iter().all(|entry| holds_id(version, entry))
 }
 
-/// The version has room for these entries.
+/// Returns whether the version allows this number of entries and the lengths of their ids.
 fn holds_table(version: Version, entries: &[Entry]) -> bool
     ensures { result ≡ holds_table version entries.now }
 {
     entries.len() <= version.entry_limit() && holds_ids(version, entries)
 }
 
-/// The table of the next given number of lines of a text, as large as the version has them, and the text after it.
+/// Reads the table that consists of the given number of lines, if the version allows its size, and returns the text
+/// after it.
 fn table_in<A: Allocator + Copy>(
     alloc: A,
     version: Version,
@@ -179,8 +181,8 @@ fn table_in<A: Allocator + Copy>(
     }
 }
 
-/// How many of the next lines are those of a table, of a given number that are not: the first that isn't is found by
-/// halving.
+/// Returns how many of the first lines form a table, given that the first `count` lines do not. The first line that
+/// does not fit is found by bisection.
 fn table_lines<A: Allocator + Copy>(
     alloc: A,
     version: Version,
@@ -199,7 +201,7 @@ fn table_lines<A: Allocator + Copy>(
     Ok(known as u64)
 }
 
-/// The table that a text begins with, after the number of its entries, and the text after it.
+/// Reads the table at the start of a text, preceded by the number of its entries, and returns the text after it.
 fn take_table<A: Allocator + Copy>(
     alloc: A,
     version: Version,
@@ -219,22 +221,15 @@ fn take_table<A: Allocator + Copy>(
     }
 }
 
-fn keep<A: Allocator>(
-    records: &mut Vec<PlainRecord, A>,
-    slot: PlainRecord,
-) -> Result<(), AllocError>
+fn keep<A: Allocator>(records: &mut Vec<PlainSlot, A>, slot: PlainSlot) -> Result<(), AllocError>
     ensures { OnOk result (records.new.items ≡ records.old.items ++ slot ∷ []) }
 {
     records.push(slot)?;
     Ok(())
 }
 
-/// The record that a text begins with, on the line of this number, and the text after it.
-fn take_record(
-    version: Version,
-    text: &[u8],
-    number: u64,
-) -> Result<(PlainRecord, &[u8]), StateFault>
+/// Reads the record in the first line of a text, which has this number, and returns the text after it.
+fn take_record(version: Version, text: &[u8], number: u64) -> Result<(PlainSlot, &[u8]), StateFault>
     ensures ok { IfOk result (λ found.
         line_read (slot_line_read version) text.now ≡ Some (found.0, found.1.now)) }
     ensures err { IfErr result (λ why.
@@ -245,13 +240,13 @@ fn take_record(
     Ok((slot, rest))
 }
 
-/// The records whose lines make the text; the first line has this number.
+/// Reads records, one per line, up to the end of the text. The first line has the number `first`.
 fn take_records<A: Allocator>(
     alloc: A,
     version: Version,
     text: &[u8],
     first: u64,
-) -> Result<Vec<PlainRecord, A>, StateFault>
+) -> Result<Vec<PlainSlot, A>, StateFault>
     ensures ok { IfOk result (λ records. AreRecords version text.now records.items) }
     ensures err { IfErr result (λ why. OnLine (NoRecords version text.now) why) }
 {
@@ -266,7 +261,7 @@ fn take_records<A: Allocator>(
     Ok(records)
 }
 
-/// The version that the first line names, and the text after it.
+/// Returns the version named in the first line, and the text after it.
 fn take_version(text: &[u8]) -> Option<(Version, &[u8])>
     ensures { option_map (λ parts. (parts.0, parts.1.now)) result ≡ version_read text.now }
 {
@@ -274,7 +269,7 @@ fn take_version(text: &[u8]) -> Option<(Version, &[u8])>
     Some((read_version(line)?, rest))
 }
 
-/// What the lines before the last say.
+/// Reads the lines before the last one.
 fn read_body<A: Allocator + Copy>(alloc: A, text: &[u8]) -> Result<Parts<A>, StateFault>
     ensures ok { IfOk result (λ parts. IsBody text.now parts) }
     ensures version { version_read text.now ≡ None → result ≡ Err StateFault.Version }
@@ -292,7 +287,7 @@ fn read_body<A: Allocator + Copy>(alloc: A, text: &[u8]) -> Result<Parts<A>, Sta
     })
 }
 
-/// The last line says that the given number of lines stand before it.
+/// Returns whether the last line gives this number of lines before it.
 fn counts(last: &[u8], lines: u64) -> bool
     ensures right { result ≡ true → end_line_read last.now ≡ Some lines }
     ensures wrong { result ≡ false → end_line_read last.now ≢ Some lines }
@@ -303,9 +298,10 @@ fn counts(last: &[u8], lines: u64) -> bool
     }
 }
 
-/// Reads the text of the state of an init of this generation. What is refused is named by the first check that fails:
-/// that the text is whole (`Cut`), its first line (`Version`), the other lines (`Line`), the generation (`Generation`).
-/// Each version has a grammar of its own.
+/// Reads the text of a state of this generation.
+///
+/// The fault names the first check that fails: that the text is whole (`Cut`), its first line (`Version`), the other
+/// lines (`Line`), the generation (`Generation`). Each version has a grammar of its own.
 pub fn read_state<A: Allocator + Copy>(
     alloc: A,
     text: &[u8],
@@ -313,11 +309,11 @@ pub fn read_state<A: Allocator + Copy>(
 ) -> Result<Parts<A>, StateFault>
     ensures read { IfOk result (λ parts. IsTextOf text.now parts) }
     ensures generation { IfOk result (λ parts. parts.fields.generation ≡ generation) }
-    // No other state has the text, and one that has it is read.
+    // No other state has the text, and a text that is that of a state of this generation is read.
     ensures only { (state : SavedState) → IsTextOf text.now state
         → state.fields.generation ≡ generation
         → MatchResult result (λ parts. parts ≡ state) (λ why. why ≡ StateFault.Memory) }
-    // The first two checks want no memory.
+    // The first two checks do not allocate.
     ensures cut { IsCut text.now → result ≡ Err StateFault.Cut }
     ensures version { IsOtherVersion text.now → result ≡ Err StateFault.Version }
     ensures refused { IfErr result (λ why. Refused text.now generation why) }
@@ -342,8 +338,8 @@ fn second_line(text: &[u8]) -> Option<u64>
     read_generation_line(line)
 }
 
-/// The generation that the second line of a text names, where it is a line and names one. In the text of a state that
-/// is the state's.
+/// Returns the generation named in the second line of a text, if that line exists and names one. For the text of a
+/// state, it is that state's generation.
 pub fn generation_of(text: &[u8]) -> Option<u64>
     ensures value { result ≡ generation_of text.now }
     ensures said { (state : SavedState) → IsTextOf text.now state

@@ -1,31 +1,31 @@
-//! Why a state is not handed over or taken over.
+//! Why a state was not handed over or taken over.
 
 use init_words::Memory;
 use std::alloc::AllocError;
 use thiserror::Error;
 
-/// Why init's state is not handed over or not taken over.
+/// The reason why init's state was not handed over or taken over.
 #[derive(Clone, Copy, Debug, PartialEq, Eq, Error)]
 pub enum StateFault {
-    /// The text doesn't end with a newline, or its last line doesn't begin with `end `.
-    #[error("the text is cut")]
+    /// The text does not end with a newline, or its last line does not begin with `end `.
+    #[error("the text is truncated")]
     Cut,
-    /// The first line is that of no version that is known.
-    #[error("the text is of no known version")]
+    /// The first line is not that of a known version.
+    #[error("the text has an unknown version")]
     Version,
-    /// The line of this number, counted from 1, is not as it should be or stands in the wrong place.
+    /// The line of this number, counted from 1, is invalid or in the wrong place.
     #[error("line {0} is wrong, or in the wrong place")]
     Line(u64),
     /// The text is that of another generation.
-    #[error("the text is of another generation")]
+    #[error("the text has another generation")]
     Generation,
-    /// No init comes to such a state.
-    #[error("no init comes to such a state")]
+    /// No init can reach such a state.
+    #[error("no init can reach this state")]
     Unfit,
     /// There is no greater generation.
-    #[error("no generation is left")]
+    #[error("no generation number is left")]
     Worn,
-    /// Out of memory.
+    /// Memory allocation failed.
     #[error("out of memory")]
     Memory,
 }

@@ -1,4 +1,4 @@
-//! The versions of the state text, and what the first one can hold.
+//! The versions of the state text, and the limits of the first one.
 
 ghost use Rattle.std.specs.Prelude.{◌≡◌};
 ghost use Rattle.core_text.specs.Versions.{id_limit, entry_limit};
@@ -6,23 +6,23 @@ ghost use Rattle.core_text.specs.Versions.{id_limit, entry_limit};
 use init_words::ID_LIMIT;
 use inittab_text::ENTRY_LIMIT;
 
-/// How many bytes an id has at most in a text of the first version.
+/// The maximum length in bytes of an id in version 1.
 pub const OLD_ID_LIMIT: usize = 4;
 
-/// How many entries a table has at most in a text of the first version.
+/// The maximum number of entries of a table in version 1.
 pub const OLD_ENTRY_LIMIT: usize = 512;
 
-/// The versions of the text of a state.
+/// The versions of the state text.
 #[derive(Clone, Copy)]
 pub enum Version {
-    /// Ids are shorter and tables smaller, and how a child ended is not said.
+    /// Version 1: ids are shorter and tables smaller, and it does not record how a child ended.
     V1,
-    /// The version that is written.
+    /// Version 2, which is written.
     V2,
 }
 
 impl Version {
-    /// How many bytes an id has at most.
+    /// Returns the maximum length in bytes of an id.
     pub fn id_limit(self) -> usize
         ensures { result ≡ id_limit self }
     {
@@ -32,7 +32,7 @@ impl Version {
         }
     }
 
-    /// How many entries a table has at most.
+    /// Returns the maximum number of entries of a table.
     pub fn entry_limit(self) -> usize
         ensures { result ≡ entry_limit self }
     {

@@ -1,4 +1,4 @@
-//! The words of a state text's lines, read.
+//! Reads the words in the lines of a state text.
 
 ghost use Rattle.std.specs.Prelude.{◌≡◌, codes};
 ghost use Rattle.std.specs.Option.{option_map};
@@ -7,7 +7,7 @@ ghost use Rattle.core_text.specs.Reading.{dash_read, or_read, time_read, generat
 
 use crate::versions::Version;
 use arrayvec::ArrayVec;
-use core_records::Stop;
+use child_table::Stop;
 use init_words::{Act, ChildNumber, Id, OrderKind, Stage, Status};
 use respawn_limit::STARTS;
 use text_lines::{cut, read_number};
@@ -22,7 +22,7 @@ fn is_dash(word: &[u8]) -> bool
     is(word, b"-")
 }
 
-/// The version that the first line of a text names.
+/// Returns the version that the first line of a text names.
 pub(crate) fn read_version(line: &[u8]) -> Option<Version>
     ensures { result ≡ version_of_line line.now }
 {
@@ -35,7 +35,7 @@ pub(crate) fn read_version(line: &[u8]) -> Option<Version>
     None
 }
 
-/// An id, as long as the version has them.
+/// Reads an id, if its length is allowed by the version.
 pub(crate) fn read_id(version: Version, word: &[u8]) -> Option<Id>
     ensures { result ≡ id_in_read version word.now }
 {
@@ -47,7 +47,7 @@ pub(crate) fn read_id(version: Version, word: &[u8]) -> Option<Id>
     }
 }
 
-/// The stage, or the word for none.
+/// Reads a stage, or `none`.
 pub(crate) fn read_stage_or_none(word: &[u8]) -> Option<Option<Stage>>
     ensures { result ≡ or_read (codes "none") stage_of_word word.now }
 {
@@ -57,6 +57,7 @@ pub(crate) fn read_stage_or_none(word: &[u8]) -> Option<Option<Stage>>
     Some(Some(read_stage(word)?))
 }
 
+/// Reads a generation, which is at least 1.
 pub(crate) fn read_generation(word: &[u8]) -> Option<u64>
     ensures { result ≡ generation_read word.now }
 {
@@ -68,7 +69,7 @@ pub(crate) fn read_generation(word: &[u8]) -> Option<u64>
     }
 }
 
-/// A level and its seconds, with this byte between them.
+/// Reads a level and its seconds, separated by this byte.
 pub(crate) fn read_goal(mark: u8, words: &[u8]) -> Option<Goal>
     ensures { result ≡ goal_read mark words.now }
 {
@@ -79,6 +80,7 @@ pub(crate) fn read_goal(mark: u8, words: &[u8]) -> Option<Goal>
     })
 }
 
+/// Reads a level and its seconds, or a dash.
 pub(crate) fn read_goal_or_dash(word: &[u8]) -> Option<Option<Goal>>
     ensures { result ≡ dash_read (goal_read 58) word.now }
 {
@@ -107,6 +109,7 @@ fn read_one_bit(word: &[u8]) -> Option<bool>
     read_bit(*byte)
 }
 
+/// Reads two flags.
 pub(crate) fn read_two_bits(word: &[u8]) -> Option<(bool, bool)>
     ensures { result ≡ two_bits word.now }
 {
@@ -116,6 +119,7 @@ pub(crate) fn read_two_bits(word: &[u8]) -> Option<(bool, bool)>
     Some((read_bit(*byte)?, read_one_bit(rest)?))
 }
 
+/// Reads three flags.
 pub(crate) fn read_three_bits(word: &[u8]) -> Option<(bool, (bool, bool))>
     ensures { result ≡ three_bits word.now }
 {
@@ -125,6 +129,7 @@ pub(crate) fn read_three_bits(word: &[u8]) -> Option<(bool, (bool, bool))>
     Some((read_bit(*byte)?, read_two_bits(rest)?))
 }
 
+/// Reads four flags.
 pub(crate) fn read_four_bits(word: &[u8]) -> Option<(bool, (bool, (bool, bool)))>
     ensures { result ≡ four_bits word.now }
 {
@@ -134,6 +139,7 @@ pub(crate) fn read_four_bits(word: &[u8]) -> Option<(bool, (bool, (bool, bool)))
     Some((read_bit(*byte)?, read_three_bits(rest)?))
 }
 
+/// Reads the number of a child, or a dash.
 pub(crate) fn read_child_or_dash(word: &[u8]) -> Option<Option<ChildNumber>>
     ensures { result ≡ dash_read child_of_word word.now }
 {
@@ -143,6 +149,7 @@ pub(crate) fn read_child_or_dash(word: &[u8]) -> Option<Option<ChildNumber>>
     Some(Some(read_child(word)?))
 }
 
+/// Reads an action, or a dash.
 pub(crate) fn read_act_or_dash(word: &[u8]) -> Option<Option<Act>>
     ensures { result ≡ dash_read act_read word.now }
 {
@@ -152,6 +159,7 @@ pub(crate) fn read_act_or_dash(word: &[u8]) -> Option<Option<Act>>
     Some(Some(Act::read(word)?))
 }
 
+/// Reads an order, or a dash.
 pub(crate) fn read_order_or_dash(word: &[u8]) -> Option<Option<OrderKind>>
     ensures { result ≡ dash_read order_of_word word.now }
 {
@@ -183,6 +191,7 @@ fn read_stop(word: &[u8]) -> Option<Stop>
     read_signal(name, time)
 }
 
+/// Reads a stop state, or a dash.
 pub(crate) fn read_stop_or_dash(word: &[u8]) -> Option<Option<Stop>>
     ensures { result ≡ dash_read stop_read word.now }
 {
@@ -192,6 +201,7 @@ pub(crate) fn read_stop_or_dash(word: &[u8]) -> Option<Option<Stop>>
     Some(Some(read_stop(word)?))
 }
 
+/// Reads a time, or a dash.
 pub(crate) fn read_time_or_dash(word: &[u8]) -> Option<Option<u64>>
     ensures { result ≡ dash_read time_read word.now }
 {
@@ -201,7 +211,7 @@ pub(crate) fn read_time_or_dash(word: &[u8]) -> Option<Option<u64>>
     Some(Some(read_number(word)?))
 }
 
-/// How a child ended.
+/// Reads how a child ended.
 fn read_status(word: &[u8]) -> Option<Status>
     ensures { result ≡ status_read word.now }
 {
@@ -216,6 +226,7 @@ fn read_status(word: &[u8]) -> Option<Status>
     }
 }
 
+/// Reads how a child ended, or a dash.
 pub(crate) fn read_status_or_dash(word: &[u8]) -> Option<Option<Status>>
     ensures { result ≡ dash_read status_read word.now }
 {
@@ -225,7 +236,7 @@ pub(crate) fn read_status_or_dash(word: &[u8]) -> Option<Option<Status>>
     Some(Some(read_status(word)?))
 }
 
-/// The times of starts, with commas between them, or a dash.
+/// Reads the times of starts, separated by commas, or a dash.
 pub(crate) fn read_starts(word: &[u8]) -> Option<ArrayVec<u64, STARTS>>
     ensures { option_map (λ starts. starts.items) result ≡ starts_read word.now }
 {

@@ -1,4 +1,4 @@
-//! The text of a state, written.
+//! Writes the text of a state.
 
 ghost use Rattle.std.specs.Prelude.{◌≡◌, ◌++◌, ◌∷◌, [], map, length, decimal, IfOk, OnOk};
 ghost use Rattle.std.specs.List.{flat_map};
@@ -6,15 +6,15 @@ ghost use Rattle.core_text.specs.CommonWords.{word_of, text_of, level_word, orde
 ghost use Rattle.core_text.specs.declared.versions.Version.TheVariants.{V2};
 ghost use Rattle.core_text.specs.Lines.{bits, spaced, or_dash, goal_word, stop_word, stage_or_none, starts_word, status_word, stage_line, goal_line, flags_line, wish_line, head_lines, table_line, slot_line, slot_flags, power_bits, letter_bits, text_of_lines, state_text};
 
-use core_model::{CoreFields, PlainRecord};
-use core_records::{Record, Stop};
+use child_table::{Slot, Stop};
+use core_model::{CoreFields, PlainSlot};
 use init_words::{Act, ChildNumber, Memory, OrderKind, Stage, Status};
 use inittab_text::Table;
 use itoa::Buffer;
 use std::alloc::{AllocError, Allocator};
 use trace_events::{CallSet, Goal};
 
-// Each of these appends to the text. Where memory runs out, a part may be appended.
+// Each of these functions appends to the text. If memory allocation fails, a part may have been appended.
 
 fn put<A: Allocator>(text: &mut Vec<u8, A>, bytes: &[u8]) -> Result<(), AllocError>
     ensures { OnOk result (text.new.items ≡ text.old.items ++ bytes.now) }
@@ -30,7 +30,7 @@ fn put_number<A: Allocator>(text: &mut Vec<u8, A>, number: u64) -> Result<(), Al
     put(text, digits.format(number).as_bytes())
 }
 
-/// A byte and a number.
+/// Appends a byte and a number.
 fn put_marked<A: Allocator>(text: &mut Vec<u8, A>, mark: u8, number: u64) -> Result<(), AllocError>
     ensures { OnOk result (text.new.items ≡ text.old.items ++ mark ∷ decimal number) }
 {
@@ -38,7 +38,7 @@ fn put_marked<A: Allocator>(text: &mut Vec<u8, A>, mark: u8, number: u64) -> Res
     put_number(text, number)
 }
 
-/// A name, a blank and a number, as a line.
+/// Appends a line with a name, a blank and a number.
 fn put_number_line<A: Allocator>(
     text: &mut Vec<u8, A>,
     name: &[u8],
@@ -159,7 +159,7 @@ fn put_stop<A: Allocator>(text: &mut Vec<u8, A>, stop: Option<Stop>) -> Result<(
     }
 }
 
-/// Times, each after a comma.
+/// Appends times, each preceded by a comma.
 fn put_more<A: Allocator>(text: &mut Vec<u8, A>, times: &[u64]) -> Result<(), AllocError>
     ensures { OnOk result (text.new.items ≡ text.old.items
         ++ flat_map (λ time. 44 ∷ decimal time) times.now) }
@@ -263,7 +263,7 @@ fn put_table<A: Allocator + Copy, B: Allocator>(
     Ok(())
 }
 
-fn put_life<A: Allocator>(text: &mut Vec<u8, A>, slot: &PlainRecord) -> Result<(), AllocError>
+fn put_life<A: Allocator>(text: &mut Vec<u8, A>, slot: &PlainSlot) -> Result<(), AllocError>
     ensures { OnOk result (text.new.items ≡ text.old.items ++ 32 ∷ (or_dash decimal slot.now.child
         ++ 32 ∷ (or_dash word_of slot.now.act ++ 32 ∷ or_dash order_word slot.now.order))) }
 {
@@ -272,7 +272,7 @@ fn put_life<A: Allocator>(text: &mut Vec<u8, A>, slot: &PlainRecord) -> Result<(
     put_order(text, slot.order)
 }
 
-fn put_ends<A: Allocator>(text: &mut Vec<u8, A>, slot: &PlainRecord) -> Result<(), AllocError>
+fn put_ends<A: Allocator>(text: &mut Vec<u8, A>, slot: &PlainSlot) -> Result<(), AllocError>
     ensures { OnOk result (text.new.items ≡ text.old.items
         ++ 32 ∷ (starts_word slot.now.starts.items ++ 32 ∷ or_dash status_word slot.now.last)) }
 {
@@ -280,7 +280,7 @@ fn put_ends<A: Allocator>(text: &mut Vec<u8, A>, slot: &PlainRecord) -> Result<(
     put_last(text, slot.last)
 }
 
-fn put_limits<A: Allocator>(text: &mut Vec<u8, A>, slot: &PlainRecord) -> Result<(), AllocError>
+fn put_limits<A: Allocator>(text: &mut Vec<u8, A>, slot: &PlainSlot) -> Result<(), AllocError>
     ensures { OnOk result (text.new.items ≡ text.old.items ++ 32 ∷ (or_dash stop_word slot.now.stop
         ++ 32 ∷ (bits (slot_flags slot.now) ++ 32 ∷ (or_dash decimal slot.now.held_until
         ++ 32 ∷ (starts_word slot.now.starts.items
@@ -292,7 +292,7 @@ fn put_limits<A: Allocator>(text: &mut Vec<u8, A>, slot: &PlainRecord) -> Result
     put_ends(text, slot)
 }
 
-fn put_slot<A: Allocator>(text: &mut Vec<u8, A>, slot: &PlainRecord) -> Result<(), AllocError>
+fn put_slot<A: Allocator>(text: &mut Vec<u8, A>, slot: &PlainSlot) -> Result<(), AllocError>
     ensures { OnOk result (text.new.items ≡ text.old.items ++ (slot_line V2 slot.now ++ 10 ∷ [])) }
 {
     put(text, b"slot ")?;
@@ -303,22 +303,22 @@ fn put_slot<A: Allocator>(text: &mut Vec<u8, A>, slot: &PlainRecord) -> Result<(
     Ok(())
 }
 
-fn put_slots<A: Allocator>(text: &mut Vec<u8, A>, slots: &[Record]) -> Result<(), AllocError>
+fn put_slots<A: Allocator>(text: &mut Vec<u8, A>, slots: &[Slot]) -> Result<(), AllocError>
     ensures { OnOk result (text.new.items ≡ text.old.items
         ++ text_of_lines (map (slot_line V2) (map record_of slots.now))) }
 {
     for slot in slots {
-        put_slot(text, &PlainRecord::of(slot))?;
+        put_slot(text, &PlainSlot::of(slot))?;
     }
     Ok(())
 }
 
-/// The text of init's state: these fields, this table, and these records in record order.
+/// Returns the text of init's state: these fields, this table, and these records in record order.
 pub fn write_state<A: Allocator + Copy, B: Allocator>(
     alloc: A,
     fields: &CoreFields,
     table: &Table<B>,
-    slots: &[Record],
+    slots: &[Slot],
 ) -> Result<Vec<u8, A>, Memory>
     ensures { IfOk result (λ text. text.items ≡ state_text (record {
       fields = fields.now;

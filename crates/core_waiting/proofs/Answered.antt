@@ -1,12 +1,14 @@
--- A request for a level is answered: that level is settled.
+-- A request for a level is carried out: that level is settled.
 use Rattle.core_waiting.proofs.Words.{arith, ◌≡◌, ◌≤◌, ◌⊎◌, inl, inr, refl, sym, ◌∙◌, ap, ℕ, Bool, true, false, ◌&&◌}
 use Rattle.core_waiting.proofs.Words.{not, cond, List, [], ◌∷◌, ◌++◌, Option, Some, None, list_any, false≢true}
 use Rattle.core_waiting.proofs.Words.{not-true, none-some, same_Some, Level, S, Stage, Sysinit, Boot, Run, same_level}
 use Rattle.core_waiting.proofs.Words.{same_level-is, same_level-self, both_ways, Enter, Got, Step, Goal, Event}
-use Rattle.core_waiting.proofs.Words.{stage_of, is_idle, is_quiet, goal_of, heard_level, level_wish, other_than, in_run}
+use Rattle.core_waiting.proofs.Words.{stage_of, is_idle, is_quiet, goal_of, last_requested_level, level_wish}
+use Rattle.core_waiting.proofs.Words.{other_than, in_run}
 use Rattle.core_waiting.proofs.Words.{was_booted, powers, letters, is_due, same_step, due_first, enter_level, is_over}
 use Rattle.core_waiting.proofs.Words.{next_stage, power_steps, letter_steps, is_sound, each_append, each_steps_if}
-use Rattle.core_waiting.proofs.Words.{step_at, AreUnasked, undisturbed_among, destination, rounds_to_come, AtRest}
+use Rattle.core_waiting.proofs.Words.{step_at, AreRoundsWithoutRequests, undisturbed_among, destination, rounds_to_come}
+use Rattle.core_waiting.proofs.Words.{AtRest}
 use Rattle.core_waiting.proofs.Words.{after_rounds, is_level_announced, is_elsewhere, is_no_level_asked}
 use Rattle.core_waiting.proofs.Words.{is_stage_entered}
 use Rattle.std.proofs.lemmas.List.{append_assoc}
@@ -24,7 +26,8 @@ is_headed level (Some (Run now)) = same_level level now
 is_headed level _ = true
 
 heard_since : (between past : List Event) → is_no_level_asked between ≡ true
-    → (heard_level (between ++ past) ≡ None) ⊎ (heard_level (between ++ past) ≡ heard_level past)
+    → (last_requested_level (between ++ past) ≡ None)
+    ⊎ (last_requested_level (between ++ past) ≡ last_requested_level past)
 heard_since [] past unasked = grind arith
 heard_since (happening ∷ between) past unasked = grind (arith, heard_since between past)
 
@@ -78,12 +81,12 @@ module _ (goal : Goal) (between before : List Event) (level : Level) (grace : �
 
   wished : (w : Goal) → level_wish asked ≡ Some w → w.level ≡ level
   wished w is = elim (heard_since between (Got (got.Level level grace) ∷ before) unasked) [
-    | inl none ↦ absurd (none-some w (sym none ∙ other_some (stage_of asked) (heard_level asked) w is))
+    | inl none ↦ absurd (none-some w (sym none ∙ other_some (stage_of asked) (last_requested_level asked) w is))
     | inr same ↦ ap (λ (g : Goal). g.level) (sym (same_Some (record { level = level; grace = grace }) w
-        (sym same ∙ other_some (stage_of asked) (heard_level asked) w is)))
+        (sym same ∙ other_some (stage_of asked) (last_requested_level asked) w is)))
   ]
 
-  -- whatever stage is entered is on the way
+  -- whatever stage is entered is on the way to the level
   enters_headed : (s : Stage) (seconds : ℕ) → is_due goal (step.Enter s seconds) asked ≡ true
       → is_headed level (Some s) ≡ true
   enters_headed s seconds h = why_due goal asked it F
@@ -135,7 +138,7 @@ module _ (goal : Goal) (between before : List Event) (level : Level) (grace : �
             asked).level aimed (one_step s (Run (goal_of goal asked).level) seconds (goal_of goal asked).grace own))
         next (Some (Run now)) = tt
 
--- where init rests behind the request the stage is on the way
+-- when init is at rest after the request, the stage is on the way to the level
 module _ (goal : Goal) (between before : List Event) (level : Level) (grace : ℕ)
     (unasked : is_no_level_asked between ≡ true) where
   abbrev now_past : List Event
@@ -173,7 +176,7 @@ module _ (goal : Goal) (between before : List Event) (level : Level) (grace : �
 
   pub settles : (later : List Event) (rounds : List (List Event))
       → is_sound goal (later ++ after_rounds rounds now_past) ≡ true → is_elsewhere level (stage_of before) ≡ true
-      → AreUnasked goal rounds now_past → rounds_to_come goal now_past ≤ undisturbed_among rounds now_past
+      → AreRoundsWithoutRequests goal rounds now_past → rounds_to_come goal now_past ≤ undisturbed_among rounds now_past
       → (is_level_announced (after_rounds rounds now_past) ≡ true)
       × (stage_of (after_rounds rounds now_past) ≡ Some (Run level))
   settles later rounds sound other are few = (
@@ -184,7 +187,8 @@ module _ (goal : Goal) (between before : List Event) (level : Level) (grace : �
     announced : is_level_announced (after_rounds rounds now_past) ≡ true
     announced = arrives goal later rounds now_past sound are few
 
-    first_of : (earlier : List (List Event)) → is_sound goal (after_rounds earlier now_past) ≡ true → AreUnasked goal
+    first_of : (earlier : List (List Event)) → is_sound goal (after_rounds earlier now_past) ≡ true
+        → AreRoundsWithoutRequests goal
         earlier now_past → AtRest goal now_past × (is_idle now_past ≡ true) × (is_sound goal now_past ≡ true)
     first_of [] ok unasked = (unasked.0, unasked.1, ok)
     first_of (round ∷ earlier) ok undisturbed = first_of earlier (sound_rest goal round

@@ -1,11 +1,12 @@
--- Worked rounds: `refl` computes them. Undisturbed ones, with others between them at the default grace and pauses; and
--- rounds that lack one of the conditions, in which nothing comes nearer.
+-- Worked examples of rounds, checked by computation (`refl`): undisturbed rounds, with other rounds between them, at
+-- the default grace and pauses; and rounds that lack one of the conditions, after which no fewer rounds are to come.
 use Rattle.core_waiting.proofs.Words.{◌≡◌, refl, ℕ, Bool, true, false, not, List, [], ◌∷◌, ◌++◌, codes, filter}
 use Rattle.core_waiting.proofs.Words.{list_any, list_all, Entry, At, Start, Look, Term, Kill, Exit, NewTable, Enter}
 use Rattle.core_waiting.proofs.Words.{Asked, Birth, Death, Reaped, Still, Hit, Miss, Told, Clock, Nudge, NotRead, Got}
 use Rattle.core_waiting.proofs.Words.{Step, Event, is_idle, kept_children, is_missed, due, is_sound, is_level_announced}
-use Rattle.core_waiting.proofs.Words.{after_rounds, has_to_end, is_found_ended, is_nudge, is_unasked, moves_on}
-use Rattle.core_waiting.proofs.Words.{AreUnasked, undisturbed_among, waits_to_come, rounds_to_come}
+use Rattle.core_waiting.proofs.Words.{after_rounds, has_to_end, is_found_ended, is_nudge, has_no_request}
+use Rattle.core_waiting.proofs.Words.{makes_kills_due}
+use Rattle.core_waiting.proofs.Words.{AreRoundsWithoutRequests, undisturbed_among, waits_to_come, rounds_to_come}
 use Rattle.init_words.specs.declared.actions.Act.TheVariants as act
 use Rattle.init_words.specs.declared.levels.Level.TheVariants as level
 use Rattle.init_words.specs.declared.stages.Stage.TheVariants as stage
@@ -14,7 +15,7 @@ use Rattle.initctl_frame.specs.declared.requests.HeardRequest.TheVariants as got
 use Rattle.trace_events.specs.declared.happenings.Happening.TheVariants.{Power, Settle}
 use Rattle.core_waiting.proofs.Rows.{entry, opening, started, entered, goes_to, in_its_way}
 
--- an order, its act, and that it is told
+-- an order, its act, and its `told`
 abbrev sent : List ℕ → List Event
 sent id = Told id ∷ Hit id ∷ Asked id Term ∷ []
 
@@ -30,7 +31,7 @@ lives id = Told id ∷ Still id ∷ Asked id Look ∷ []
 abbrev ends : List ℕ → ℕ → List Event
 ends id n = Told id ∷ Reaped id n (Exit 0) ∷ Death n ∷ Asked id Look ∷ []
 
--- the whole way up: a sysinit, a bootwait and a wait entry, and a respawn entry; from the rest at which the first runs
+-- the whole way up with a sysinit, a bootwait, a wait and a respawn entry, from the rest at which the first one runs
 abbrev up_table : List Entry
 up_table = (entry (codes "s") [] act.Sysinit) ∷ (entry (codes "b") [] act.Bootwait)
     ∷ (entry (codes "w") (At level.L3 ∷ []) act.Wait) ∷ (entry (codes "r") (At level.L3 ∷ []) act.Respawn) ∷ []
@@ -44,7 +45,7 @@ up_first = started (codes "b") 8 ++ Enter stage.Boot 5 ∷ ends (codes "s") 7 ++
 abbrev up_second : List Event
 up_second = started (codes "w") 9 ++ Enter (stage.Run level.L3) 5 ∷ ends (codes "b") 8 ++ Nudge ∷ Clock 10 ∷ []
 
--- a wait entry that is alive at two looks, and is found ended by the third, in one round
+-- a wait entry that is alive at two looks and found ended by the third, all in one round
 abbrev up_third : List Event
 up_third = Settle level.L3 ∷ started (codes "r") 6 ++ ends (codes "w") 9 ++ Nudge ∷ lives (codes "w") ++ Nudge
     ∷ lives (codes "w") ++ Nudge ∷ Clock 15 ∷ []
@@ -52,7 +53,7 @@ up_third = Settle level.L3 ∷ started (codes "r") 6 ++ ends (codes "w") 9 ++ Nu
 up-is_sound : is_sound (opening level.L3) (after_rounds (up_third ∷ up_second ∷ up_first ∷ []) up) ≡ true
 up-is_sound = refl
 
-up-unasked : AreUnasked (opening level.L3) (up_third ∷ up_second ∷ up_first ∷ []) up
+up-unasked : AreRoundsWithoutRequests (opening level.L3) (up_third ∷ up_second ∷ up_first ∷ []) up
 up-unasked = ((((refl, refl), refl, refl, refl), refl, refl, refl), refl, refl, refl)
 
 up-undisturbed : undisturbed_among (up_third ∷ up_second ∷ up_first ∷ []) up ≡ 3
@@ -70,7 +71,8 @@ up_second-told = refl
 up_third-told : is_level_announced (after_rounds (up_third ∷ up_second ∷ up_first ∷ []) up) ≡ true
 up_third-told = refl
 
--- three rounds more than entries to come: a signal missed the child of the last level, and it ignores the first
+-- three more rounds than entries to come: a signal to the child of the last level failed, and the child ignores the
+-- first signal
 abbrev last_table : List Entry
 last_table = (entry (codes "r") (At level.L3 ∷ []) act.Respawn) ∷ []
 
@@ -91,7 +93,7 @@ last-is_sound : is_sound (opening level.L3) (after_rounds (last_third ∷ last_s
     ≡ true
 last-is_sound = refl
 
-last-unasked : AreUnasked (opening level.L3) (last_third ∷ last_second ∷ last_first ∷ []) last_level
+last-unasked : AreRoundsWithoutRequests (opening level.L3) (last_third ∷ last_second ∷ last_first ∷ []) last_level
 last-unasked = ((((refl, refl), refl, refl, refl), refl, refl, refl), refl, refl, refl)
 
 last-undisturbed : undisturbed_among (last_third ∷ last_second ∷ last_first ∷ []) last_level ≡ 3
@@ -109,14 +111,14 @@ last_second-told = refl
 last_third-told : is_level_announced (after_rounds (last_third ∷ last_second ∷ last_first ∷ []) last_level) ≡ true
 last_third-told = refl
 
--- the tests of which an undisturbed round is made: each can fail alone, and then nothing comes nearer
+-- the tests of which an undisturbed round consists: each can fail alone, and then no fewer rounds are to come
 abbrev tests : List Event → List Event → List Bool
 tests round past =
-    is_unasked round ∷ list_any is_nudge round ∷ moves_on round past
+    has_no_request round ∷ list_any is_nudge round ∷ makes_kills_due round past
     ∷ list_all (λ child. is_found_ended child.id round) (filter (has_to_end past) (kept_children past))
     ∷ list_all (λ child. not (is_missed child (round ++ past))) (kept_children (round ++ past)) ∷ []
 
--- rounds to come before and behind a round
+-- the number of rounds to come before and after a round
 abbrev nearer : List Event → List Event → List ℕ
 nearer round past = rounds_to_come (opening level.L3) past ∷ rounds_to_come (opening level.L3) (round ++ past) ∷ []
 
@@ -127,14 +129,14 @@ is_nil (step ∷ steps) = false
 abbrev is_none_due : List Event → Bool
 is_none_due past = is_nil (due (opening level.L3) past)
 
--- sound, at rest with no order open before and behind, and not announced behind it
+-- the trace is sound, at rest with no order open before and after the round, and not announced settled after it
 abbrev stands : List Event → List Event → List Bool
 stands round past =
     is_sound (opening level.L3) (round ++ past) ∷ is_none_due past ∷ is_idle past ∷ is_none_due (round ++ past)
     ∷ is_idle (round ++ past) ∷ not (is_level_announced (round ++ past)) ∷ []
 
--- as `initd run` makes them by default, with a grace of five seconds and pauses of a second: two waited entries, the
--- child of the first found alive once; the two rounds in which a child is found ended take no time
+-- as `initd run` does by default, with a grace of five seconds and pauses of one second: two waited entries, where the
+-- child of the first is found alive once; the two rounds in which a child is found ended take no time
 abbrev slow_first : List Event
 slow_first = started (codes "w") 7 ++ entered level.L3
     ((entry (codes "w") (At level.L3 ∷ []) act.Wait) ∷ (entry (codes "v") (At level.L3 ∷ []) act.Wait) ∷ [])
@@ -151,7 +153,7 @@ slow_third = Settle level.L3 ∷ ends (codes "v") 8 ++ Nudge ∷ Clock 1 ∷ []
 slow-is_sound : is_sound (opening level.L3) (after_rounds (slow_third ∷ next_starts ∷ alive_yet ∷ []) slow_first) ≡ true
 slow-is_sound = refl
 
-slow-unasked : AreUnasked (opening level.L3) (slow_third ∷ next_starts ∷ alive_yet ∷ []) slow_first
+slow-unasked : AreRoundsWithoutRequests (opening level.L3) (slow_third ∷ next_starts ∷ alive_yet ∷ []) slow_first
 slow-unasked = ((((refl, refl), refl, refl, refl), refl, refl, refl), refl, refl, refl)
 
 slow-rounds : rounds_to_come (opening level.L3) slow_first ≡ 2
@@ -163,9 +165,9 @@ slow-undisturbed = refl
 slow-told : is_level_announced (after_rounds (slow_third ∷ next_starts ∷ alive_yet ∷ []) slow_first) ≡ true
 slow-told = refl
 
--- and from the level that a child of the last one holds up: its TERM missed, misses once more, and hits; it lives on
--- for five turns, of which the law makes one round, is sent a KILL in the last, is found alive once, and then ended.
--- So three of the five rounds are undisturbed, in seven seconds
+-- From the level that a child of the previous level delays. A TERM to it failed, fails once more, and is then sent. The
+-- child lives on for five turns, of which the law makes one round, is sent a KILL in the last, is found alive once, and
+-- is then found ended. So three of the five rounds are undisturbed, in seven seconds.
 abbrev once_more : List Event
 once_more = lives (codes "r") ++ missed (codes "r") ++ Nudge ∷ Clock 1 ∷ []
 
@@ -188,7 +190,7 @@ held_up = dead_then ∷ not_dead_yet ∷ pays_no_heed ∷ hit_then ∷ once_more
 held_up-is_sound : is_sound (opening level.L3) (after_rounds held_up last_level) ≡ true
 held_up-is_sound = refl
 
-held_up-unasked : AreUnasked (opening level.L3) held_up last_level
+held_up-unasked : AreRoundsWithoutRequests (opening level.L3) held_up last_level
 held_up-unasked =
     ((((((refl, refl), refl, refl, refl), refl, refl, refl), refl, refl, refl), refl, refl, refl), refl, refl, refl)
 
@@ -198,7 +200,7 @@ held_up-undisturbed = refl
 held_up-told : is_level_announced (after_rounds held_up last_level) ≡ true
 held_up-told = refl
 
--- news of the power waits for the run level: the entry that it calls there is counted before
+-- a power event is kept until the run level: the entry that it calls there is counted before
 abbrev news_table : List Entry
 news_table = (entry (codes "s") [] act.Sysinit) ∷ (entry (codes "p") (At level.L3 ∷ []) act.Powerwait) ∷ []
 
@@ -218,7 +220,7 @@ news-tests = refl
 news-nearer : nearer news_called news_kept ≡ 2 ∷ 1 ∷ []
 news-nearer = refl
 
--- inittab is read again, and brings one entry more
+-- inittab is read again, and brings one more entry
 abbrev waiting : List Event
 waiting = started (codes "w") 7 ++ entered level.L3 ((entry (codes "w") (At level.L3 ∷ []) act.Wait) ∷ [])
 
@@ -235,7 +237,7 @@ asked-fails = refl
 asked-no_nearer : nearer read_again waiting ≡ 1 ∷ 1 ∷ []
 asked-no_nearer = refl
 
--- no round begins: the child's end is not seen
+-- no round begins: the end of the child is not seen
 abbrev no_round : List Event
 no_round = Death 7 ∷ Clock 5 ∷ []
 
@@ -248,7 +250,7 @@ no_round-fails = refl
 no_round-no_nearer : nearer no_round waiting ≡ 1 ∷ 1 ∷ []
 no_round-no_nearer = refl
 
--- the clock stands still: a child that ignores the first signal is not sent the second
+-- the clock does not advance: a child that ignores the first signal is not sent the second
 abbrev ignoring : List Event
 ignoring =
     sent (codes "r") ++ goes_to level.L2 ++ Settle level.L3 ∷ started (codes "r") 7 ++ entered level.L3 last_table
@@ -265,7 +267,7 @@ no_clock-fails = refl
 no_clock-no_nearer : nearer no_clock ignoring ≡ 2 ∷ 2 ∷ []
 no_clock-no_nearer = refl
 
--- it may stand still where that child is gone, and where none lacks just the second
+-- the clock need not advance if that child is gone, or if no child lacks only the second signal
 abbrev heeds : List Event
 heeds = Settle level.L2 ∷ ends (codes "r") 7 ++ Nudge ∷ []
 
@@ -290,7 +292,7 @@ hits_at_once-tests = refl
 hits_at_once-nearer : nearer hits_at_once last_level ≡ 3 ∷ 2 ∷ []
 hits_at_once-nearer = refl
 
--- but not where the clock is at its limit, whatever it reads: the grace is never over
+-- but at the limit of the clock, whatever it reads, the grace is never over
 abbrev late : List Event
 late = sent (codes "r") ++ goes_to level.L2 ++ Settle level.L3 ∷ Clock 1000000000000 ∷ started (codes "r") 7
     ++ entered level.L3 last_table
@@ -307,7 +309,7 @@ late-fails = refl
 late-no_nearer : nearer later_reading late ≡ 2 ∷ 2 ∷ []
 late-no_nearer = refl
 
--- a wait entry's child lives on; so does one in its entry's way, and one that was sent a KILL
+-- the child of a wait entry lives on; so does one whose entry is wanted again, and one that was sent a KILL
 abbrev lives_on : List Event
 lives_on = lives (codes "w") ++ Nudge ∷ Clock 5 ∷ []
 
@@ -347,7 +349,7 @@ killed-fails = refl
 killed-no_nearer : nearer killed_lives_on killed_in_vain ≡ 1 ∷ 1 ∷ []
 killed-no_nearer = refl
 
--- the signal misses again
+-- the signal fails again
 abbrev misses_again : List Event
 misses_again = lives (codes "r") ++ missed (codes "r") ++ Nudge ∷ Clock 5 ∷ []
 
@@ -360,7 +362,7 @@ misses-fails = refl
 misses-no_nearer : nearer misses_again last_level ≡ 3 ∷ 3 ∷ []
 misses-no_nearer = refl
 
--- an order is not answered: no round is to come, and the level is not announced
+-- an order is not answered: no rounds are to come, and the level is not announced settled
 abbrev one_behind : List Event
 one_behind = started (codes "w") 7 ++ entered level.L3
     ((entry (codes "w") (At level.L3 ∷ []) act.Wait) ∷ (entry (codes "v") (At level.L3 ∷ []) act.Wait) ∷ [])
@@ -377,8 +379,8 @@ unanswered-tests = refl
 unanswered-nearer : nearer unanswered one_behind ≡ 2 ∷ 0 ∷ []
 unanswered-nearer = refl
 
--- rounds to come never rise from a rest with no order open while nothing is asked; but they do where inittab is read
--- again,
+-- the number of rounds to come never rises from a rest with no order open while there are no requests; but it rises if
+-- inittab is read again,
 abbrev two_more : List Event
 two_more = NewTable ((entry (codes "w") (At level.L3 ∷ []) act.Wait) ∷ (entry (codes "v") (At level.L3 ∷ []) act.Wait)
     ∷ (entry (codes "u") (At level.L3 ∷ []) act.Wait) ∷ []) ∷ Got got.Reload ∷ []
@@ -389,7 +391,7 @@ two_more-is_sound = refl
 two_more-farther : nearer two_more waiting ≡ 1 ∷ 3 ∷ []
 two_more-farther = refl
 
--- behind a moment that is no rest, since another level was asked for,
+-- after a moment that is not a rest, because another level was requested,
 abbrev wished : List Event
 wished = NotRead ∷ Got (got.Level level.L2 5) ∷ Settle level.L3 ∷ started (codes "r") 7 ++ entered level.L3 last_table
 
@@ -405,7 +407,7 @@ wished-is_sound = refl
 wished-farther : nearer (Enter (stage.Run level.L2) 5 ∷ []) wished ≡ 0 ∷ 3 ∷ []
 wished-farther = refl
 
--- and behind one at which a start is under way
+-- and after one at which a start is under way
 abbrev born_then : List Event
 born_then = Told (codes "v") ∷ Birth (codes "v") 8 ∷ []
 

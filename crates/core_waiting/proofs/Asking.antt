@@ -1,9 +1,10 @@
--- No request for a level is lost: a stage is entered for it, that level or Boot on the way to it.
+-- No request for a level is lost: a stage is entered for it, which is that level, or Boot on the way to it.
 use Rattle.core_waiting.proofs.Words.{arith, ◌≡◌, ◌⊎◌, inl, inr, refl, sym, ◌∙◌, ap, subst, ℕ, Bool, true, false, ◌&&◌}
 use Rattle.core_waiting.proofs.Words.{◌||◌, ◌==◌, not, cond, List, [], ◌∷◌, ◌++◌, Some, list_any, false≢true, and_parts}
 use Rattle.core_waiting.proofs.Words.{eqb-true, true_from_ne_false, Level, S, Stage, Boot, Run, same_level, both_ways}
 use Rattle.core_waiting.proofs.Words.{or_false, Enter, Got, Step, Goal, Event, stage_of, is_idle, is_quiet, goal_of}
-use Rattle.core_waiting.proofs.Words.{heard_level, level_wish, in_run, was_booted, powers, letters, is_due, same_step}
+use Rattle.core_waiting.proofs.Words.{last_requested_level, level_wish, in_run, was_booted, powers, letters, is_due}
+use Rattle.core_waiting.proofs.Words.{same_step}
 use Rattle.core_waiting.proofs.Words.{due_first, enter_level, is_over, next_stage, power_steps, letter_steps, is_sound}
 use Rattle.core_waiting.proofs.Words.{each_append, each_steps_if, step_at, AtRest, is_no_level_asked, is_stage_entered}
 use Rattle.std.specs.Option.{is_some}
@@ -15,7 +16,7 @@ use Rattle.core_waiting.proofs.Climbing.{Unless, whole, powers_each, calls_each,
 use Rattle.core_waiting.proofs.Arriving.{unwished}
 
 heard_still : (between past : List Event) → is_no_level_asked between ≡ true → is_stage_entered between ≡ false
-    → heard_level (between ++ past) ≡ heard_level past
+    → last_requested_level (between ++ past) ≡ last_requested_level past
 heard_still [] past unasked none = refl
 heard_still (Got (got.Level level grace) ∷ between) past unasked none = absurd (false≢true unasked)
 heard_still (Enter now grace ∷ between) past unasked none = absurd (false≢true (sym none))
@@ -38,7 +39,7 @@ same_seconds : (s x : Stage) (seconds grace : ℕ) → (same_stage s x && second
 same_seconds s x seconds grace h = eqb-true seconds grace
     (and_parts (same_stage s x) (seconds == grace) (sym (or_false (same_stage s x && seconds == grace)) ∙ h)).1
 
--- behind a request for a level that isn't in force
+-- after a request for a level that is not in force
 module _ (goal : Goal) (between before : List Event) (level now : Level) (grace : ℕ) (stage : stage_of before
     ≡ Some (Run now)) (other : same_level level now ≡ false) (unasked : is_no_level_asked between ≡ true) where
   abbrev pub moment : List Event
@@ -57,7 +58,7 @@ module _ (goal : Goal) (between before : List Event) (level now : Level) (grace 
   pub aimed : goal_of goal moment ≡ wish
   aimed = goal_still goal between (Got (got.Level level grace) ∷ before) unasked
 
-  -- the step that enters a stage there is that of the wish
+  -- the step that enters a stage then is that of the request
   by_wish : (s : Stage) (seconds : ℕ) → is_stage_entered between ≡ false → is_due goal (step.Enter s seconds) moment
       ≡ true → list_any (same_step (step.Enter s seconds)) (enter_level (level_wish moment) moment) ≡ true
   by_wish s seconds none h = why_due goal moment it F

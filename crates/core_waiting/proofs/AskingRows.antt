@@ -1,4 +1,4 @@
--- A request for another level, worked: `refl` computes it.
+-- A worked example of a request for another level, checked by computation (`refl`).
 use Rattle.core_waiting.proofs.Words.{◌≡◌, refl, true, List, [], ◌∷◌, ◌++◌, codes, At, Term, NotRead, Enter, Asked, Hit}
 use Rattle.core_waiting.proofs.Words.{Told, Got, Event, is_idle, due, is_sound, is_no_level_asked, is_stage_entered}
 use Rattle.init_words.specs.declared.actions.Act.TheVariants as act
@@ -34,6 +34,6 @@ idle = refl
 pub leaves : is_stage_entered between ≡ true
 leaves = refl
 
--- before that a step is due, that one
+-- before that a step is due, and it is that one
 pub due_before : due (opening level.L3) (NotRead ∷ asked) ≡ step.Enter (stage.Run level.L1) 2 ∷ []
 due_before = refl

@@ -1,11 +1,11 @@
--- Whose end a core awaits is whose end is awaited in each trace that it fits.
+-- The children that a core waits for are the ones that init waits for in each trace that the core fits.
 use Rattle.core_waiting.proofs.Words.{◌≡◌, ◌≤◌, refl, sym, ◌∙◌, ap, subst, ℕ, Bool, true, false, not, ◌&&◌, cond, List}
 use Rattle.core_waiting.proofs.Words.{[], ◌∷◌, ◌++◌, map, filter, filter_map, find, length, Option, Some, None}
 use Rattle.core_waiting.proofs.Words.{option_and_then, arith, list_any, cons_option, option_map, option_map_or}
 use Rattle.core_waiting.proofs.Words.{and_parts, and_from, Entry, Stage, same_id, wanted_by, same_id-is, same_id-self}
 use Rattle.core_waiting.proofs.Words.{same_tests, any_less, any_filtered, filter_both, passing, entry_of, Goal, Event}
-use Rattle.core_waiting.proofs.Words.{Child, is_of, has_child, is_quiet, table_of, stage_of, kept_children}
-use Rattle.core_waiting.proofs.Words.{known_children, starts_in, nothing_runs, is_asked, is_called, is_wanted}
+use Rattle.core_waiting.proofs.Words.{Child, is_child_of, has_child, is_quiet, table_of, stage_of, kept_children}
+use Rattle.core_waiting.proofs.Words.{known_children, starts_in, has_no_running_child, is_asked, is_called, is_wanted}
 use Rattle.core_waiting.proofs.Words.{is_excluded, spell_hits, record_ids, is_sound, quiet_known, quiet_start}
 use Rattle.core_waiting.proofs.Words.{has_known, known_single, child_in_records, at_moment, CoreState, is_wanted_record}
 use Rattle.core_waiting.proofs.Words.{LastStatuses, Fits, child_known, living, stop_after, stop_of, stop_known}
@@ -15,13 +15,12 @@ use Rattle.core_waiting.proofs.Words.{awaited_known, is_wanted_in, why_by_entry,
 use Rattle.core_waiting.proofs.Words.{awaited_by, found_own}
 use Rattle.std.proofs.Common.{is_some}
 use Rattle.std.proofs.lemmas.List.Elements.{filter_agree}
-use Rattle.core_records.specs.declared.children.KnownChild.{KnownChild}
-use Rattle.core_records.specs.declared.children.Stop.{Stop}
+use Rattle.child_table.specs.declared.children.KnownChild.{KnownChild}
+use Rattle.child_table.specs.declared.children.Stop.{Stop}
 use Rattle.core_model.proofs.Ranks.{wanted_same}
 use Rattle.core_waiting.specs.declared.rests.Awaited.{Awaited}
 use Rattle.core_waiting.proofs.Settled.{found_id}
 
--- lists
 same_filter_map : {X Y : Type 0} (f g : X → Option Y) → ((x : X) → f x ≡ g x) → (xs : List X)
     → filter_map f xs ≡ filter_map g xs
 same_filter_map f g same xs = grind arith
@@ -40,13 +39,14 @@ no_more : {X : Type 0} (p : X → Bool) (xs : List X) → length (filter p xs) �
 no_more p [] = grind arith
 no_more p (x ∷ xs) = grind (arith, no_more p xs)
 
--- the first of the awaited that has the id is the first with the id that is awaited
+-- finding by id and filtering can be exchanged
 module _ {X : Type 0} (p q : X → Bool) where
   found_filter : (xs : List X) → find p (filter q xs) ≡ find q (filter p xs)
   found_filter [] = grind arith
   found_filter (x ∷ xs) = grind (arith, found_filter xs)
 
--- of at most one with the id: what is said of it, where nothing is said of those that are not awaited
+-- among at most one child with the id, the result is that of this child, if children that init does not wait for give
+-- no result
 abbrev head_of : {X : Type 0} → List X → Option X
 head_of [] = None
 head_of (x ∷ xs) = Some x
@@ -66,20 +66,20 @@ turned true false = refl
 turned false true = refl
 turned false false = refl
 
--- nothing is said of a child that is not awaited
+-- a child that init does not wait for gives no result
 unsaid : (past : List Event) (child : Child) → is_awaited past child ≡ false → with_why past child ≡ None
 unsaid past child h = grind arith
 
 module _ (goal : Goal) (past : List Event) (sound : is_sound goal past ≡ true) where
-  known_found : (id : List ℕ) → option_and_then (with_why past) (find (is_of id) (awaited_known past))
+  known_found : (id : List ℕ) → option_and_then (with_why past) (find (is_child_of id) (awaited_known past))
       ≡ option_and_then (with_why past) (child_known id past)
   known_found id = grind (arith, found_filter, one_found, unsaid, known_single, found_head)
 
   quiet_found : is_quiet past ≡ true → (id : List ℕ)
-      → find (is_of id) (awaited_children past) ≡ find (is_of id) (awaited_known past)
+      → find (is_child_of id) (awaited_children past) ≡ find (is_child_of id) (awaited_known past)
   quiet_found quiet id = grind (arith, found_filter, quiet_known)
 
-  -- an entry of the table in force is wanted where its record says so
+  -- an entry of the table in force is wanted if its record says so
   wanted_in : (lasts : LastStatuses) (id : List ℕ) (e : Entry) → entry_of id (table_of past) ≡ Some e
       → is_wanted_in (stage_of past) e (record_of lasts past id) ≡ is_wanted e past
   wanted_in lasts id e found = at (stage_of past) refl where
@@ -88,7 +88,7 @@ module _ (goal : Goal) (past : List Event) (sound : is_sound goal past ≡ true)
 
     at : (o : Option Stage) → stage_of past ≡ o → is_wanted_in o e (record_of lasts past id) ≡ is_wanted e past
     at None is = sym (ap (λ o. starts_in e o
-        && wanted_by e.act (nothing_runs e.id past) (not (is_asked e.id past)) (is_called e past)) is)
+        && wanted_by e.act (has_no_running_child e.id past) (not (is_asked e.id past)) (is_called e past)) is)
     at (Some now) is = ap (λ i. is_wanted_record now e (record_of lasts past i)) same
         ∙ sym (wanted_same lasts goal past sound now is e (ap (λ i. entry_of i (table_of past)) (sym same) ∙ found))
 
@@ -96,7 +96,7 @@ module _ (goal : Goal) (past : List Event) (sound : is_sound goal past ≡ true)
       → why_by_entry (stage_of past) o (record_of lasts past id) ≡ why_of_entry o past
   by_entry lasts id o is = grind (arith, wanted_in)
 
-  -- so why the end of its child is awaited
+  -- so the reasons for waiting for its child are the same
   whys_same : (lasts : LastStatuses) (id : List ℕ) (child : Child) → child_known id past ≡ Some child
       → why_of_record (stage_of past) (table_of past) (record_of lasts past id) ≡ why_awaited past child
   whys_same lasts id child there = λ i. cond (stopped i) (Some Excluded) (entry i) where
@@ -130,60 +130,68 @@ module _ (goal : Goal) (past : List Event) (sound : is_sound goal past ≡ true)
       (fit_table core goal past fits i)) (fit_records core goal past fits i))
       ∙ filter_map_map (awaited_of_record (stage_of past) (table_of past)) (record_of fits.lasts past) (record_ids past)
       ∙ same_filter_map (λ id. awaited_of_record (stage_of past) (table_of past) (record_of fits.lasts past id))
-      (λ id. option_and_then (with_why past) (find (is_of id) (awaited_known past)))
+      (λ id. option_and_then (with_why past) (find (is_child_of id) (awaited_known past)))
       (λ id. one_same fits.lasts id ∙ sym (known_found id)) (record_ids past)
 
   -- at a quiet point the kept children are known
   pub quiet_same : is_quiet past ≡ true
       → in_record_order (awaited_children past) past ≡ in_record_order (awaited_known past) past
-  quiet_same quiet = same_filter_map (λ id. option_and_then (with_why past) (find (is_of id) (awaited_children past)))
-      (λ id. option_and_then (with_why past) (find (is_of id) (awaited_known past)))
+  quiet_same quiet =
+      same_filter_map (λ id. option_and_then (with_why past) (find (is_child_of id) (awaited_children past)))
+      (λ id. option_and_then (with_why past) (find (is_child_of id) (awaited_known past)))
       (λ id. ap (option_and_then (with_why past)) (quiet_found quiet id)) (record_ids past)
 
-  -- and none is left out
+  -- and none is omitted
   module _ (quiet : is_quiet past ≡ true) (test : Awaited → Bool) where
     abbrev says : Child → Bool
     says child = option_map_or test (with_why past child) false
 
     abbrev at_id : List ℕ → Bool
-    at_id id = option_map_or test (option_and_then (with_why past) (find (is_of id) (awaited_children past))) false
+    at_id id =
+        option_map_or test (option_and_then (with_why past) (find (is_child_of id) (awaited_children past))) false
 
     then_or : (o : Option Child)
         → option_map_or test (option_and_then (with_why past) o) false ≡ option_map_or says o false
     then_or o = grind arith
 
-    few : (id : List ℕ) → length (filter (is_of id) (awaited_children past)) ≤ 1
+    few : (id : List ℕ) → length (filter (is_child_of id) (awaited_children past)) ≤ 1
     few id =
-        let kept : length (filter (is_of id) (kept_children past)) ≤ 1 =
+        let kept : length (filter (is_child_of id) (kept_children past)) ≤ 1 =
         subst (λ xs. length xs ≤ 1) (sym (quiet_known goal past sound quiet id)) (known_single goal past sound id) in
-        let fewer : length (filter (is_awaited past) (filter (is_of id) (kept_children past))) ≤ length
-        (filter (is_of id) (kept_children past)) = no_more (is_awaited past) (filter (is_of id) (kept_children past)) in
+        let fewer : length (filter (is_awaited past) (filter (is_child_of id) (kept_children past))) ≤ length
+        (filter (is_child_of id) (kept_children past)) =
+        no_more (is_awaited past) (filter (is_child_of id) (kept_children past)) in
         rw (swapped id) (omega arith)
       where
-        swapped : (id : List ℕ) → filter (is_of id) (awaited_children past)
-            ≡ filter (is_awaited past) (filter (is_of id) (kept_children past))
-        swapped id = filter_both (is_of id) (is_awaited past) (kept_children past) ∙ filter_agree (λ x. is_awaited past
-            x && is_of id x) (λ x. is_of id x && is_awaited past x) (λ x. turned (is_awaited past x) (is_of id x))
-            (kept_children past) ∙ sym (filter_both (is_awaited past) (is_of id) (kept_children past))
+        swapped : (id : List ℕ) → filter (is_child_of id) (awaited_children past)
+            ≡ filter (is_awaited past) (filter (is_child_of id) (kept_children past))
+        swapped id =
+            filter_both (is_child_of id) (is_awaited past) (kept_children past) ∙ filter_agree (λ x. is_awaited past
+            x && is_child_of id x) (λ x. is_child_of id x && is_awaited past x)
+            (λ x. turned (is_awaited past x) (is_child_of id x))
+            (kept_children past) ∙ sym (filter_both (is_awaited past) (is_child_of id) (kept_children past))
 
-    at_known : (id : List ℕ) → at_id id ≡ list_any (λ x. is_of id x && says x) (awaited_children past)
-    at_known id = then_or (find (is_of id) (awaited_children past))
-        ∙ sym (any_found (is_of id) says (awaited_children past) (few id))
+    at_known : (id : List ℕ) → at_id id ≡ list_any (λ x. is_child_of id x && says x) (awaited_children past)
+    at_known id = then_or (find (is_child_of id) (awaited_children past))
+        ∙ sym (any_found (is_child_of id) says (awaited_children past) (few id))
 
     there : list_any at_id (record_ids past) ≡ true → list_any says (awaited_children past) ≡ true
     there h =
         let found = passing at_id (record_ids past) h in
-        any_less (λ x. is_of found.item x && says x) says (λ x both. (and_parts (is_of found.item x) (says x) both).1)
+        any_less (λ x. is_child_of found.item x && says x) says
+        (λ x both. (and_parts (is_child_of found.item x) (says x) both).1)
         (awaited_children past) (sym (at_known found.item) ∙ found.passes)
 
     back : list_any says (awaited_children past) ≡ true → list_any at_id (record_ids past) ≡ true
     back h =
         let found = passing says (awaited_children past) h in
         let id : List ℕ = found.item.id in
-        let own : list_any (λ x. is_of id x && says x) (awaited_children past) ≡ true = found.within
-        (λ x. is_of id x && says x) (and_from (is_of id found.item) (says found.item) (same_id-self id) found.passes) in
+        let own : list_any (λ x. is_child_of id x && says x) (awaited_children past) ≡ true = found.within
+        (λ x. is_child_of id x && says x)
+        (and_from (is_child_of id found.item) (says found.item) (same_id-self id) found.passes) in
         let kept : has_child id (kept_children past) ≡ true =
-        any_filtered (is_of id) (is_awaited past) (kept_children past) (found.within (is_of id) (same_id-self id)) in
+        any_filtered (is_child_of id) (is_awaited past) (kept_children past)
+        (found.within (is_child_of id) (same_id-self id)) in
         let listed = passing (same_id id) (record_ids past)
         (child_in_records goal past sound id (sym (has_known goal past sound id (quiet_start id past quiet)) ∙ kept)) in
         listed.within at_id (ap at_id (sym (same_id-is id listed.item listed.passes)) ∙ at_known id ∙ own)

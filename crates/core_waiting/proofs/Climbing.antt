@@ -1,4 +1,4 @@
--- Where nothing is asked of init, a stretch is calm, or init enters the next stage on its way up.
+-- Without requests, a stretch is calm, or init enters the next stage on its way up.
 use Rattle.core_waiting.proofs.Words.{◌≡◌, ◌≤◌, ◌<◌, ◌+◌, refl, sym, ◌∙◌, ap, subst, ◌⊎◌, inl, inr, ℕ, ◌==◌, Bool, true}
 use Rattle.core_waiting.proofs.Words.{false, not, ◌&&◌, ◌||◌, cond, List, [], ◌∷◌, ◌++◌, filter, length, Option, Some}
 use Rattle.core_waiting.proofs.Words.{None, is_none, arith, list_any, list_all, option_map_or, false≢true}
@@ -7,11 +7,13 @@ use Rattle.core_waiting.proofs.Words.{not-true, Entry, Act, Level, S, Letter, St
 use Rattle.core_waiting.proofs.Words.{waited_by, wanted_by, is_limited, starts_of, waited_of, same_id, same_level}
 use Rattle.core_waiting.proofs.Words.{same_level-is, same_id-self, both_ways, falsely, or_either, or_false, and_false}
 use Rattle.core_waiting.proofs.Words.{not_from, any_less, filter_none, Passing, passing, entry_of, NewTable, Enter}
-use Rattle.core_waiting.proofs.Words.{Asked, Got, Step, Goal, Event, Child, is_of, has_child, open_of, table_of}
+use Rattle.core_waiting.proofs.Words.{Asked, Got, Step, Goal, Event, Child, is_child_of, has_child, open_of, table_of}
 use Rattle.core_waiting.proofs.Words.{stage_of, is_quiet, is_idle, kept_children, known_children, is_wanted, is_owed}
 use Rattle.core_waiting.proofs.Words.{may_live, is_excluded, stop_due, is_held, is_full, in_run, goal_of, wants_reexec}
-use Rattle.core_waiting.proofs.Words.{wants_reread, level_wish, other_than, keeps_power, keeps_letter, powers, letters}
-use Rattle.core_waiting.proofs.Words.{keeps_news, wish_stands, step_if, steps_if, none_excluded, due_first, due_reexec}
+use Rattle.core_waiting.proofs.Words.{wants_reread, level_wish, other_than, is_power_pending, is_letter_pending, powers}
+use Rattle.core_waiting.proofs.Words.{letters}
+use Rattle.core_waiting.proofs.Words.{are_calls_pending, is_request_pending, step_if, steps_if, none_excluded}
+use Rattle.core_waiting.proofs.Words.{due_first, due_reexec}
 use Rattle.core_waiting.proofs.Words.{due_reread, enter_level, due_level, power_steps, letter_steps, due_news}
 use Rattle.core_waiting.proofs.Words.{record_ids, stop_step, stops_of, stops_among, due_stops, can_start, start_steps}
 use Rattle.core_waiting.proofs.Words.{starts_among, due_starts, is_over, next_stage, due_stage, is_announced}
@@ -19,7 +21,8 @@ use Rattle.core_waiting.proofs.Words.{settle_step, due_settle, is_settled, can_l
 use Rattle.core_waiting.proofs.Words.{same_step, is_due, is_sound, each_append, each_step_if, each_steps_if, due_facts}
 use Rattle.core_waiting.proofs.Words.{sound_step, quiet_start, Excluded, AtRest, why_of_entry, is_awaited}
 use Rattle.core_waiting.proofs.Words.{awaited_children, is_level_announced, is_calm, is_start_of, is_waited_start}
-use Rattle.core_waiting.proofs.Words.{is_gone, to_come, is_unasked, stages_ahead, destination, is_ahead, waits_ahead}
+use Rattle.core_waiting.proofs.Words.{is_gone, count_wanted_waits, has_no_request, stages_ahead, destination, is_ahead}
+use Rattle.core_waiting.proofs.Words.{waits_ahead}
 use Rattle.std.proofs.Common.{is_some}
 use Rattle.init_words.specs.declared.stages.Stage.TheVariants as stage
 use Rattle.init_words.specs.Orders.{same_stage}
@@ -32,7 +35,7 @@ use Rattle.core_waiting.proofs.Settled.{all_found, found_id}
 use Rattle.core_waiting.proofs.Progress.{same_stage as stage_stays, excluded_still, kept_back, quit_at, progress}
 use Rattle.core_waiting.proofs.Rounds.{fewer, fewer_to_come}
 
--- what a step that is due and that is this one says
+-- what follows if a due step is the given one
 abbrev pub Unless : Step → Type 0 → Step → Type 0
 Unless it F x = same_step it x ≡ true → F
 
@@ -40,7 +43,7 @@ unless : (it : Step) (F : Type 0) (xs : List Step) → Each (Unless it F) xs →
 unless it F [] each h = absurd (false≢true h)
 unless it F (x ∷ xs) each h = or_either (same_step it x) (list_any (same_step it) xs) h each.0 (unless it F xs each.1)
 
--- a step that is no order, no hold, no announcement, and no wish to read inittab or to be re-executed
+-- a step other than an order, a hold, an announcement, reading inittab or a re-execution
 pub record Moves (it : Step) : Type 0 where
   pub orders : (id : List ℕ) (ask : OrderKind) → same_step it (step.Order id ask) ≡ false
   pub holds : (id : List ℕ) → same_step it (step.Hold id) ≡ false
@@ -64,8 +67,9 @@ stops_each it F moves (id ∷ ids) past = each_append (Unless it F) (steps_if (i
       of_id : (children : List Child) → Each (Unless it F) (stops_of id children past)
       of_id [] = tt
       of_id (child ∷ children) =
-          each_append (Unless it F) (steps_if (is_of id child) (stop_step id (stop_due child past)))
-          (stops_of id children past) (each_steps_if (Unless it F) (is_of id child) (stop_step id (stop_due child past))
+          each_append (Unless it F) (steps_if (is_child_of id child) (stop_step id (stop_due child past)))
+          (stops_of id children past)
+          (each_steps_if (Unless it F) (is_child_of id child) (stop_step id (stop_due child past))
           (λ _. one (stop_due child past))) (of_id children)
 
 starts_each : (it : Step) (F : Type 0) → Moves it → (es : List Entry) (past : List Event)
@@ -105,23 +109,28 @@ settles_each it F moves (Some (stage.Run level)) past = each_step_if (Unless it 
     past) past) (step.Settle level) (λ _. never (same_step it (step.Settle level)) (moves.settles level))
 
 pub powers_each : (it : Step) (F : Type 0) (kinds : List PowerKind) (past : List Event)
-    → (list_any (λ k. keeps_power k past) kinds ≡ true → (kind : PowerKind) → same_step it (step.Power kind) ≡ true → F)
-    → Each (Unless it F) (power_steps kinds past)
+    → (list_any (λ k. is_power_pending k past) kinds ≡ true → (kind : PowerKind) → same_step it (step.Power kind) ≡ true
+    → F) → Each (Unless it F) (power_steps kinds past)
 powers_each it F [] past say = tt
-powers_each it F (kind ∷ kinds) past say = each_append (Unless it F) (step_if (keeps_power kind past) (step.Power kind))
-    (power_steps kinds past) (each_step_if (Unless it F) (keeps_power kind past) (step.Power kind)
-    (λ own. say (or_left (keeps_power kind past) (list_any (λ k. keeps_power k past) kinds) own) kind)) (powers_each it
-    F kinds past (λ more. say (or_right (keeps_power kind past) (list_any (λ k. keeps_power k past) kinds) more)))
+powers_each it F (kind ∷ kinds) past say =
+    each_append (Unless it F) (step_if (is_power_pending kind past) (step.Power kind))
+    (power_steps kinds past) (each_step_if (Unless it F) (is_power_pending kind past) (step.Power kind)
+    (λ own. say (or_left (is_power_pending kind past) (list_any (λ k. is_power_pending k past) kinds) own) kind))
+    (powers_each it
+    F kinds past
+    (λ more. say (or_right (is_power_pending kind past) (list_any (λ k. is_power_pending k past) kinds) more)))
 
 pub calls_each : (it : Step) (F : Type 0) (called : List Letter) (past : List Event)
-    → (list_any (λ l. keeps_letter l past) called ≡ true → (letter : Letter) → same_step it (step.Call letter) ≡ true
-    → F) → Each (Unless it F) (letter_steps called past)
+    → (list_any (λ l. is_letter_pending l past) called ≡ true → (letter : Letter)
+    → same_step it (step.Call letter) ≡ true → F) → Each (Unless it F) (letter_steps called past)
 calls_each it F [] past say = tt
 calls_each it F (letter ∷ called) past say =
-    each_append (Unless it F) (step_if (keeps_letter letter past) (step.Call letter)) (letter_steps called past)
-    (each_step_if (Unless it F) (keeps_letter letter past) (step.Call letter) (λ own. say
-    (or_left (keeps_letter letter past) (list_any (λ l. keeps_letter l past) called) own) letter)) (calls_each it F
-    called past (λ more. say (or_right (keeps_letter letter past) (list_any (λ l. keeps_letter l past) called) more)))
+    each_append (Unless it F) (step_if (is_letter_pending letter past) (step.Call letter)) (letter_steps called past)
+    (each_step_if (Unless it F) (is_letter_pending letter past) (step.Call letter) (λ own. say
+    (or_left (is_letter_pending letter past) (list_any (λ l. is_letter_pending l past) called) own) letter))
+    (calls_each it F
+    called past
+    (λ more. say (or_right (is_letter_pending letter past) (list_any (λ l. is_letter_pending l past) called) more)))
 
 pub whole : (it : Step) (F : Type 0) (xs : List Step) → (list_any (same_step it) xs ≡ true → F) → Each (Unless it F) xs
 whole it F [] within = tt
@@ -159,15 +168,16 @@ why_due goal past it F moves first level news over h = unless it F (due goal pas
       (λ _. never (same_step it step.Reread) moves.rereads)
 
   f6 : Each (Unless it F) (due_stops past)
-  f6 = each_steps_if (Unless it F) (not (wish_stands past)) (stops_among (record_ids past) past)
+  f6 = each_steps_if (Unless it F) (not (is_request_pending past)) (stops_among (record_ids past) past)
       (λ _. stops_each it F moves (record_ids past) past)
 
   f7 : Each (Unless it F) (due_starts past)
-  f7 = each_steps_if (Unless it F) (not (wish_stands past) && none_excluded past) (starts_among (table_of past) past)
+  f7 = each_steps_if (Unless it F) (not (is_request_pending past) && none_excluded past)
+      (starts_among (table_of past) past)
       (λ _. starts_each it F moves (table_of past) past)
 
   f9 : Each (Unless it F) (due_settle past)
-  f9 = each_steps_if (Unless it F) (not (wish_stands past) && is_idle past && not (is_announced past))
+  f9 = each_steps_if (Unless it F) (not (is_request_pending past) && is_idle past && not (is_announced past))
       (settle_step (stage_of past) past) (λ _. settles_each it F moves (stage_of past) past)
 
   f10 : Each (Unless it F) (due_looks past)
@@ -187,7 +197,7 @@ why_due goal past it F moves first level news over h = unless it F (due goal pas
       past) (due_level past) (join (due_first goal (stage_of past) past ++ due_reexec past) (due_reread past)
       (join (due_first goal (stage_of past) past) (due_reexec past) first f2) f3) level) news) f6) f7) over) f9) f10
 
--- a stage is entered first of all, by a wish for a level, or where the stage before is over
+-- a stage is entered because it is the first one, by a request for a level, or because the stage before is over
 abbrev EnterBy : Goal → List Event → Stage → ℕ → Type 0
 EnterBy goal past s grace = ((stage_of past ≡ None) ⊎ (is_some (level_wish past) ≡ true)) ⊎ ((is_over past ≡ true)
     × (list_any (same_step (step.Enter s grace)) (next_stage (goal_of goal past) (stage_of past)) ≡ true))
@@ -217,13 +227,13 @@ enter_by goal past s grace h = why_due goal past it (EnterBy goal past s grace)
       wished None is = tt
       wished (Some wish) is = ((λ own. inl (inr (ap is_some is))), tt)
 
--- entries are called in a run level where news is kept
+-- entries are called in a run level when a power event or letter is pending
 abbrev News : List Event → Type 0
-News past = (in_run (stage_of past) ≡ true) × (keeps_news past ≡ true)
+News past = (in_run (stage_of past) ≡ true) × (are_calls_pending past ≡ true)
 
-news_of : (goal : Goal) (past : List Event) (it : Step) → Moves it
+pending_calls : (goal : Goal) (past : List Event) (it : Step) → Moves it
     → ((s : Stage) (grace : ℕ) → same_step it (step.Enter s grace) ≡ false) → is_due goal it past ≡ true → News past
-news_of goal past it moves other h = why_due goal past it (News past) moves (first (stage_of past)) (each_steps_if
+pending_calls goal past it moves other h = why_due goal past it (News past) moves (first (stage_of past)) (each_steps_if
     (Unless it (News past)) (is_quiet past) (enter_level (level_wish past) past) (λ _. wished (level_wish past)))
     (each_steps_if (Unless it (News past)) (is_quiet past && in_run (stage_of past)) (power_steps powers past
     ++ letter_steps letters past) (λ both. news (and_parts (is_quiet past) (in_run (stage_of past)) both).1))
@@ -237,10 +247,12 @@ news_of goal past it moves other h = why_due goal past it (News past) moves (fir
       news running = each_append (Unless it (News past)) (power_steps powers past) (letter_steps letters past)
           (powers_each it (News past) powers past (λ some kind own. (
             running,
-            or_left (list_any (λ k. keeps_power k past) powers) (list_any (λ l. keeps_letter l past) letters) some,
+            or_left (list_any (λ k. is_power_pending k past) powers)
+                (list_any (λ l. is_letter_pending l past) letters) some,
           ))) (calls_each it (News past) letters past (λ some letter own. (
             running,
-            or_right (list_any (λ k. keeps_power k past) powers) (list_any (λ l. keeps_letter l past) letters) some,
+            or_right (list_any (λ k. is_power_pending k past) powers)
+                (list_any (λ l. is_letter_pending l past) letters) some,
           )))
 
       first : (o : Option Stage) → Each (Unless it (News past)) (due_first goal o past)
@@ -257,89 +269,94 @@ news_of goal past it moves other h = why_due goal past it (News past) moves (fir
       climbs (Some stage.Boot) = (never (same_step it _) (other _ _), tt)
       climbs (Some (stage.Run level)) = tt
 
--- nothing is started where a wish stands
+-- nothing is started while a request is pending
 unwished_each : (it : Step) (b : Bool) (xs : List Step) → b ≡ false → Each (Unless it (b ≡ false)) xs
 unwished_each it b [] is = tt
 unwished_each it b (x ∷ xs) is = ((λ own. is), unwished_each it b xs is)
 
 start_unwished : (goal : Goal) (past : List Event) (i : List ℕ) → is_due goal (step.Order i Start) past ≡ true
-    → wish_stands past ≡ false
-start_unwished goal past i h = unless it (wish_stands past ≡ false) (due goal past) all h where
+    → is_request_pending past ≡ false
+start_unwished goal past i h = unless it (is_request_pending past ≡ false) (due goal past) all h where
   it : Step
   it = step.Order i Start
 
-  join : (xs ys : List Step) → Each (Unless (step.Order i Start) (wish_stands past ≡ false)) xs
-      → Each (Unless (step.Order i Start) (wish_stands past ≡ false)) ys
-      → Each (Unless (step.Order i Start) (wish_stands past ≡ false)) (xs ++ ys)
-  join xs ys f g = each_append (Unless (step.Order i Start) (wish_stands past ≡ false)) xs ys f g
+  join : (xs ys : List Step) → Each (Unless (step.Order i Start) (is_request_pending past ≡ false)) xs
+      → Each (Unless (step.Order i Start) (is_request_pending past ≡ false)) ys
+      → Each (Unless (step.Order i Start) (is_request_pending past ≡ false)) (xs ++ ys)
+  join xs ys f g = each_append (Unless (step.Order i Start) (is_request_pending past ≡ false)) xs ys f g
 
-  f1 : (o : Option Stage) → Each (Unless (step.Order i Start) (wish_stands past ≡ false)) (due_first goal o past)
+  f1 : (o : Option Stage) → Each (Unless (step.Order i Start) (is_request_pending past ≡ false)) (due_first goal o past)
   f1 None = ((λ own. absurd (false≢true own)), tt)
   f1 (Some now) = tt
 
-  f2 : Each (Unless (step.Order i Start) (wish_stands past ≡ false)) (due_reexec past)
-  f2 = each_step_if (Unless (step.Order i Start) (wish_stands past ≡ false))
+  f2 : Each (Unless (step.Order i Start) (is_request_pending past ≡ false)) (due_reexec past)
+  f2 = each_step_if (Unless (step.Order i Start) (is_request_pending past ≡ false))
       (is_quiet past && wants_reexec past) step.Reexec (λ _ own. absurd (false≢true own))
 
-  f3 : Each (Unless (step.Order i Start) (wish_stands past ≡ false)) (due_reread past)
-  f3 = each_step_if (Unless (step.Order i Start) (wish_stands past ≡ false))
+  f3 : Each (Unless (step.Order i Start) (is_request_pending past ≡ false)) (due_reread past)
+  f3 = each_step_if (Unless (step.Order i Start) (is_request_pending past ≡ false))
       (is_quiet past && wants_reread past) step.Reread (λ _ own. absurd (false≢true own))
 
-  level : (o : Option Goal) → Each (Unless (step.Order i Start) (wish_stands past ≡ false)) (enter_level o past)
+  level : (o : Option Goal) → Each (Unless (step.Order i Start) (is_request_pending past ≡ false)) (enter_level o past)
   level None = tt
   level (Some wish) = ((λ own. absurd (false≢true own)), tt)
 
-  f4 : Each (Unless (step.Order i Start) (wish_stands past ≡ false)) (due_level past)
-  f4 = each_steps_if (Unless (step.Order i Start) (wish_stands past ≡ false)) (is_quiet past)
+  f4 : Each (Unless (step.Order i Start) (is_request_pending past ≡ false)) (due_level past)
+  f4 = each_steps_if (Unless (step.Order i Start) (is_request_pending past ≡ false)) (is_quiet past)
       (enter_level (level_wish past) past) (λ _. level (level_wish past))
 
-  f5 : Each (Unless (step.Order i Start) (wish_stands past ≡ false)) (due_news past)
-  f5 = each_steps_if (Unless (step.Order i Start) (wish_stands past ≡ false)) (is_quiet past && in_run (stage_of past))
+  f5 : Each (Unless (step.Order i Start) (is_request_pending past ≡ false)) (due_news past)
+  f5 = each_steps_if (Unless (step.Order i Start) (is_request_pending past ≡ false))
+      (is_quiet past && in_run (stage_of past))
       (power_steps powers past ++ letter_steps letters past)
       (λ _. join (power_steps powers past) (letter_steps letters past) (powers_each (step.Order i Start)
-      (wish_stands past ≡ false) powers past (λ some kind own. absurd (false≢true own))) (calls_each
-      (step.Order i Start) (wish_stands past ≡ false) letters past (λ some letter own. absurd (false≢true own))))
+      (is_request_pending past ≡ false) powers past (λ some kind own. absurd (false≢true own))) (calls_each
+      (step.Order i Start) (is_request_pending past ≡ false) letters past (λ some letter own. absurd (false≢true own))))
 
-  f6 : Each (Unless (step.Order i Start) (wish_stands past ≡ false)) (due_stops past)
-  f6 = each_steps_if (Unless (step.Order i Start) (wish_stands past ≡ false)) (not (wish_stands past))
-      (stops_among (record_ids past) past) (λ free. unwished_each (step.Order i Start) (wish_stands past)
-      (stops_among (record_ids past) past) (not-true (wish_stands past) free))
+  f6 : Each (Unless (step.Order i Start) (is_request_pending past ≡ false)) (due_stops past)
+  f6 = each_steps_if (Unless (step.Order i Start) (is_request_pending past ≡ false)) (not (is_request_pending past))
+      (stops_among (record_ids past) past) (λ free. unwished_each (step.Order i Start) (is_request_pending past)
+      (stops_among (record_ids past) past) (not-true (is_request_pending past) free))
 
-  f7 : Each (Unless (step.Order i Start) (wish_stands past ≡ false)) (due_starts past)
-  f7 = each_steps_if (Unless (step.Order i Start) (wish_stands past ≡ false))
-      (not (wish_stands past) && none_excluded past) (starts_among (table_of past) past)
-      (λ both. unwished_each (step.Order i Start) (wish_stands past) (starts_among (table_of past) past)
-      (not-true (wish_stands past) (and_parts (not (wish_stands past)) (none_excluded past) both).0))
+  f7 : Each (Unless (step.Order i Start) (is_request_pending past ≡ false)) (due_starts past)
+  f7 = each_steps_if (Unless (step.Order i Start) (is_request_pending past ≡ false))
+      (not (is_request_pending past) && none_excluded past) (starts_among (table_of past) past)
+      (λ both. unwished_each (step.Order i Start) (is_request_pending past) (starts_among (table_of past) past)
+      (not-true (is_request_pending past) (and_parts (not (is_request_pending past)) (none_excluded past) both).0))
 
   climbs : (o : Option Stage)
-      → Each (Unless (step.Order i Start) (wish_stands past ≡ false)) (next_stage (goal_of goal past) o)
+      → Each (Unless (step.Order i Start) (is_request_pending past ≡ false)) (next_stage (goal_of goal past) o)
   climbs None = tt
   climbs (Some stage.Sysinit) = ((λ own. absurd (false≢true own)), tt)
   climbs (Some stage.Boot) = ((λ own. absurd (false≢true own)), tt)
   climbs (Some (stage.Run l)) = tt
 
-  f8 : Each (Unless (step.Order i Start) (wish_stands past ≡ false)) (due_stage goal past)
-  f8 = each_steps_if (Unless (step.Order i Start) (wish_stands past ≡ false)) (is_over past)
+  f8 : Each (Unless (step.Order i Start) (is_request_pending past ≡ false)) (due_stage goal past)
+  f8 = each_steps_if (Unless (step.Order i Start) (is_request_pending past ≡ false)) (is_over past)
       (next_stage (goal_of goal past) (stage_of past)) (λ _. climbs (stage_of past))
 
-  settles : (o : Option Stage) → Each (Unless (step.Order i Start) (wish_stands past ≡ false)) (settle_step o past)
+  settles : (o : Option Stage)
+      → Each (Unless (step.Order i Start) (is_request_pending past ≡ false)) (settle_step o past)
   settles None = tt
   settles (Some stage.Sysinit) = tt
   settles (Some stage.Boot) = tt
-  settles (Some (stage.Run l)) = each_step_if (Unless (step.Order i Start) (wish_stands past ≡ false))
+  settles (Some (stage.Run l)) = each_step_if (Unless (step.Order i Start) (is_request_pending past ≡ false))
       (is_settled l (known_children past) past) (step.Settle l) (λ _ own. absurd (false≢true own))
 
-  f9 : Each (Unless (step.Order i Start) (wish_stands past ≡ false)) (due_settle past)
-  f9 = each_steps_if (Unless (step.Order i Start) (wish_stands past ≡ false)) (not (wish_stands past) && is_idle past
+  f9 : Each (Unless (step.Order i Start) (is_request_pending past ≡ false)) (due_settle past)
+  f9 = each_steps_if (Unless (step.Order i Start) (is_request_pending past ≡ false))
+      (not (is_request_pending past) && is_idle past
       && not (is_announced past)) (settle_step (stage_of past) past) (λ _. settles (stage_of past))
 
-  looks : (ids : List (List ℕ)) → Each (Unless (step.Order i Start) (wish_stands past ≡ false)) (looks_among ids past)
+  looks : (ids : List (List ℕ))
+      → Each (Unless (step.Order i Start) (is_request_pending past ≡ false)) (looks_among ids past)
   looks [] = tt
   looks (id ∷ ids) = join (step_if (can_look id past) (step.Order id Look)) (looks_among ids past)
-      (each_step_if (Unless (step.Order i Start) (wish_stands past ≡ false)) (can_look id past) (step.Order id Look)
+      (each_step_if (Unless (step.Order i Start) (is_request_pending past ≡ false)) (can_look id past)
+      (step.Order id Look)
       (λ _ own. absurd (false≢true (sym (and_false (same_id i id)) ∙ own)))) (looks ids)
 
-  all : Each (Unless (step.Order i Start) (wish_stands past ≡ false)) (due goal past)
+  all : Each (Unless (step.Order i Start) (is_request_pending past ≡ false)) (due goal past)
   all = join (due_first goal (stage_of past) past ++ due_reexec past ++ due_reread past ++ due_level past
       ++ due_news past ++ due_stops past ++ due_starts past ++ due_stage goal past ++ due_settle past) (due_looks past)
       (join (due_first goal (stage_of past) past ++ due_reexec past ++ due_reread past ++ due_level past ++ due_news
@@ -406,7 +423,7 @@ climb aim (Some stage.Boot) s grace h =
     }
 climb aim (Some (stage.Run level)) s grace h = absurd (false≢true h)
 
--- a child that is not awaited in the stage, whatever is called there: it lives on, and its entry is not waited for
+-- init does not wait for the child in the stage, whatever is called there: it may live, and its entry is not waited for
 -- and does not start
 abbrev pub stands_by : List Entry → Stage → Child → Bool
 stands_by table s child = option_map_or (λ (e : Entry). may_live (Some e) child.act (Some s)
@@ -417,7 +434,7 @@ abbrev pub is_any_start : Event → Bool
 is_any_start (Asked i Start) = true
 is_any_start _ = false
 
--- so far nothing was asked: the stretch is calm, or the last stage was entered in it on the way up, or entries were
+-- without requests so far: the stretch is calm, or the last stage was entered in it on the way up, or entries were
 -- called in that stage before any was started
 pub record Entered (goal : Goal) (past now : List Event) : Type 0 where
   pub after : List Event
@@ -430,12 +447,13 @@ pub record Entered (goal : Goal) (past now : List Event) : Type 0 where
   pub here : stage_of now ≡ Some entered
   pub table : table_of start ≡ table_of past
   pub bystanders : list_any (λ child. not (stands_by (table_of past) entered child)) (kept_children start) ≡ false
-  pub few : to_come start ≤ length (filter (is_ahead (keeps_news past) entered) (table_of past))
-  pub unstarted : in_run (Some entered) ≡ true → keeps_news now ≡ true → list_any is_any_start after ≡ false
+  pub few : count_wanted_waits start ≤ length (filter (is_ahead (are_calls_pending past) entered) (table_of past))
+  pub unstarted : in_run (Some entered) ≡ true → are_calls_pending now ≡ true → list_any is_any_start after ≡ false
   pub early : in_run (stage_of past) ≡ false
-  pub ahead : length (filter (is_ahead (keeps_news past) entered) (table_of past)) + waits_ahead (keeps_news past)
+  pub ahead : length (filter (is_ahead (are_calls_pending past) entered) (table_of past)) + waits_ahead
+      (are_calls_pending past)
       (table_of past) (stages_ahead (goal_of goal past).level (Some entered))
-      ≤ waits_ahead (keeps_news past) (table_of past) (stages_ahead (goal_of goal past).level (stage_of past))
+      ≤ waits_ahead (are_calls_pending past) (table_of past) (stages_ahead (goal_of goal past).level (stage_of past))
 
 abbrev Path : Goal → List Event → List Event → Type 0
 Path goal between past = ((is_calm between ≡ true) × (stage_of (between ++ past) ≡ stage_of past))
@@ -444,14 +462,14 @@ Path goal between past = ((is_calm between ≡ true) × (stage_of (between ++ pa
 pub record Course (goal : Goal) (between past : List Event) : Type 0 where
   pub staged : is_some (stage_of (between ++ past)) ≡ true
   pub unwished : is_some (level_wish (between ++ past)) ≡ false
-  pub news : keeps_news (between ++ past) ≡ true → keeps_news past ≡ true
+  pub news : are_calls_pending (between ++ past) ≡ true → are_calls_pending past ≡ true
   pub table : table_of (between ++ past) ≡ table_of past
   pub aim : goal_of goal (between ++ past) ≡ goal_of goal past
   pub bound_for : destination (goal_of goal past).level (stage_of (between ++ past))
       ≡ destination (goal_of goal past).level (stage_of past)
-  pub ahead : waits_ahead (keeps_news past) (table_of past)
+  pub ahead : waits_ahead (are_calls_pending past) (table_of past)
       (stages_ahead (goal_of goal past).level (stage_of (between ++ past)))
-      ≤ waits_ahead (keeps_news past) (table_of past) (stages_ahead (goal_of goal past).level (stage_of past))
+      ≤ waits_ahead (are_calls_pending past) (table_of past) (stages_ahead (goal_of goal past).level (stage_of past))
   pub path : ((is_calm between ≡ true) × (stage_of (between ++ past) ≡ stage_of past))
       ⊎ Entered goal past (between ++ past)
 
@@ -459,8 +477,10 @@ pub record Course (goal : Goal) (between past : List Event) : Type 0 where
 longer : (goal : Goal) (happening : Event) (between past : List Event)
     → (is_calm between ≡ true → is_calm (happening ∷ between) ≡ true) → ((after : List Event) → is_calm after ≡ true
     → is_calm (happening ∷ after) ≡ true) → stage_of (happening ∷ (between ++ past)) ≡ stage_of (between ++ past)
-    → ((s : Stage) (after : List Event) → stage_of (between ++ past) ≡ Some s → in_run (Some s) ≡ true → keeps_news
-    (happening ∷ (between ++ past)) ≡ true → (keeps_news (between ++ past) ≡ true → list_any is_any_start after ≡ false)
+    → ((s : Stage) (after : List Event) → stage_of (between ++ past) ≡ Some s → in_run (Some s) ≡ true
+    → are_calls_pending
+    (happening ∷ (between ++ past)) ≡ true
+    → (are_calls_pending (between ++ past) ≡ true → list_any is_any_start after ≡ false)
     → list_any is_any_start (happening ∷ after) ≡ false) → Path goal between past → Path goal (happening ∷ between) past
 longer goal happening between past calm others stays starts (inl h) = inl (calm h.0, stays ∙ h.1)
 longer goal happening between past calm others stays starts (inr it) = inr (record {
@@ -492,14 +512,14 @@ pub bystanders_at : (moment : List Event) (s : Stage) → is_over moment ≡ tru
 bystanders_at moment s over climbs =
     false_from_ne_true (list_any (λ child. not (stands_by (table_of moment) s child)) (kept_children moment))
     (λ some. wrong (passing (λ child. not (stands_by (table_of moment) s child)) (kept_children moment) some)) where
-      two : ((not (wish_stands moment) && is_quiet moment && none_excluded moment) ≡ true)
+      two : ((not (is_request_pending moment) && is_quiet moment && none_excluded moment) ≡ true)
           × (list_all (is_done moment) (table_of moment) ≡ true)
-      two = and_parts (not (wish_stands moment) && is_quiet moment && none_excluded moment)
+      two = and_parts (not (is_request_pending moment) && is_quiet moment && none_excluded moment)
           (list_all (is_done moment) (table_of moment)) over
 
       spared : list_any (is_excluded moment) (kept_children moment) ≡ false
       spared = not-true (list_any (is_excluded moment) (kept_children moment))
-          (and_parts (not (wish_stands moment) && is_quiet moment) (none_excluded moment) two.0).1
+          (and_parts (not (is_request_pending moment) && is_quiet moment) (none_excluded moment) two.0).1
 
       wrong : Passing (λ child. not (stands_by (table_of moment) s child)) (kept_children moment) → ⊥
       wrong there = by (entry_of child.id (table_of moment)) refl where
@@ -521,8 +541,9 @@ bystanders_at moment s over climbs =
             (not (waited_of e)) (not (starts_of e s)) (not_from (waited_of e) other) (not_from (starts_of e s) stay.1)))
             (not-true (stands_by (table_of moment) s child) there.passes) where
               own : has_child e.id (kept_children moment) ≡ true
-              own = there.within (is_of e.id)
-                  (ap (λ i. is_of i child) (sym (found_id child.id (table_of moment) e is)) ∙ same_id-self child.id)
+              own = there.within (is_child_of e.id)
+                  (ap (λ i. is_child_of i child) (sym (found_id child.id (table_of moment) e is))
+                  ∙ same_id-self child.id)
 
               other : waited_of e ≡ false
               other =
@@ -537,7 +558,7 @@ bystanders_at moment s over climbs =
               stay = stays_on e child.act (stage_of moment) s climbs
                   (ap (λ x. may_live x child.act (stage_of moment)) (sym is) ∙ lives) other
 
--- while none is started they are all that is kept
+-- while none is started, they are the only kept children
 bystanders_on : (goal : Goal) (table : List Entry) (s : Stage) (after start : List Event)
     → is_sound goal (after ++ start) ≡ true → is_calm after ≡ true → is_quiet start ≡ true → list_any is_any_start after
     ≡ false → list_any (λ child. not (stands_by table s child)) (kept_children start) ≡ false
@@ -553,21 +574,23 @@ bystanders_on goal table s after start sound calm quiet unstarted none = false_f
 
       wrong : Passing fails (kept_children (after ++ start)) → ⊥
       wrong there =
-          both_ways (list_any fails (kept_children start)) (any_less (λ x. is_of there.item.id x && fails x) fails
-          (λ x both. (and_parts (is_of there.item.id x) (fails x) both).1) (kept_children start)
+          both_ways (list_any fails (kept_children start)) (any_less (λ x. is_child_of there.item.id x && fails x) fails
+          (λ x both. (and_parts (is_child_of there.item.id x) (fails x) both).1) (kept_children start)
           (kept_back goal there.item.id fails after start sound calm (quiet_start there.item.id start quiet) (falsely
           (list_any (is_start_of there.item.id) after) (list_any is_any_start after)
           (any_less (is_start_of there.item.id)
-          is_any_start (any_start there.item.id) after) unstarted) (there.within (λ x. is_of there.item.id x && fails x)
-          (and_from (is_of there.item.id there.item) (fails there.item) (same_id-self there.item.id) there.passes))))
+          is_any_start (any_start there.item.id) after) unstarted)
+          (there.within (λ x. is_child_of there.item.id x && fails x)
+          (and_from (is_child_of there.item.id there.item) (fails there.item)
+          (same_id-self there.item.id) there.passes))))
           none
 
--- and none of them is awaited
+-- and init waits for none of them
 not_awaited : (start : List Event) (s : Stage) → stage_of start ≡ Some s → (child : Child)
     → stands_by (table_of start) s child ≡ true → is_awaited start child ≡ false
 not_awaited start s here child h = grind arith
 
--- what is to come where a stage is entered, and where entries were called in it
+-- the entries to come when a stage is entered, and when entries were called in it
 fresh_wanted : (a : Act) (idle news : Bool) → waited_by a ≡ true → wanted_by a idle true false ≡ true
     → wanted_by a true true news ≡ true
 fresh_wanted a idle news waited h = grind arith
@@ -577,14 +600,14 @@ called_wanted : (a : Act) (idle fresh called : Bool) → waited_by a ≡ true �
 called_wanted a idle fresh called waited h = grind arith
 
 first_to_come : (news : Bool) (moment : List Event) (s : Stage) (grace : ℕ)
-    → to_come (Enter s grace ∷ moment) ≤ length (filter (is_ahead news s) (table_of moment))
+    → count_wanted_waits (Enter s grace ∷ moment) ≤ length (filter (is_ahead news s) (table_of moment))
 first_to_come news moment s grace = grind (arith, fewer, fresh_wanted)
 
 called_to_come : (start : List Event) (s : Stage) → stage_of start ≡ Some s
-    → to_come start ≤ length (filter (is_ahead true s) (table_of start))
+    → count_wanted_waits start ≤ length (filter (is_ahead true s) (table_of start))
 called_to_come start s here = grind (arith, fewer, called_wanted)
 
--- a stage is entered
+-- the course of a stretch that continues with entering a stage
 entering : (goal : Goal) (s : Stage) (grace : ℕ) (between past : List Event) → is_due goal (step.Enter s grace)
     (between ++ past) ≡ true → Course goal between past → Course goal (Enter s grace ∷ between) past
 entering goal s grace between past may it = by (enter_by goal (between ++ past) s grace may) where
@@ -608,32 +631,40 @@ entering goal s grace between past may it = by (enter_by goal (between ++ past) 
     table = it.table;
     aim = it.aim;
     bound_for = c.bound_for ∙ it.bound_for;
-    ahead = more (length (filter (is_ahead (keeps_news past) s) (table_of past)))
-        (waits_ahead (keeps_news past) (table_of past) (stages_ahead level (Some s))) (waits_ahead (keeps_news past)
-        (table_of past) (stages_ahead level (stage_of now))) (waits_ahead (keeps_news past) (table_of past)
-        (stages_ahead level (stage_of past))) (ap (waits_ahead (keeps_news past) (table_of past)) c.comes) it.ahead;
+    ahead = more (length (filter (is_ahead (are_calls_pending past) s) (table_of past)))
+        (waits_ahead (are_calls_pending past) (table_of past) (stages_ahead level (Some s)))
+        (waits_ahead (are_calls_pending past)
+        (table_of past) (stages_ahead level (stage_of now))) (waits_ahead (are_calls_pending past) (table_of past)
+        (stages_ahead level (stage_of past)))
+        (ap (waits_ahead (are_calls_pending past) (table_of past)) c.comes) it.ahead;
     path = inr (record {
       after = [];
       start = Enter s grace ∷ now;
       entered = s;
       is = refl;
       calm = refl;
-      quiet = (and_parts (not (wish_stands now)) (is_quiet now)
-          (and_parts (not (wish_stands now) && is_quiet now) (none_excluded now) (and_parts (not (wish_stands now)
+      quiet = (and_parts (not (is_request_pending now)) (is_quiet now)
+          (and_parts (not (is_request_pending now) && is_quiet now) (none_excluded now)
+          (and_parts (not (is_request_pending now)
           && is_quiet now && none_excluded now) (list_all (is_done now) (table_of now)) over).0).0).1;
       stage = refl;
       here = refl;
       table = it.table;
       bystanders = subst (λ es. list_any (λ child. not (stands_by es s child)) (kept_children now) ≡ false) it.table
           (bystanders_at now s over c.climbs);
-      few = subst (λ es. to_come (Enter s grace ∷ now) ≤ length (filter (is_ahead (keeps_news past) s) es)) it.table
-          (first_to_come (keeps_news past) now s grace);
+      few =
+          subst
+          (λ es. count_wanted_waits (Enter s grace ∷ now) ≤ length (filter (is_ahead (are_calls_pending past) s) es))
+          it.table
+          (first_to_come (are_calls_pending past) now s grace);
       unstarted = λ running news. refl;
       early = early c.early it.path;
-      ahead = whole_way (length (filter (is_ahead (keeps_news past) s) (table_of past)))
-          (waits_ahead (keeps_news past) (table_of past) (stages_ahead level (Some s))) (waits_ahead (keeps_news past)
-          (table_of past) (stages_ahead level (stage_of now))) (waits_ahead (keeps_news past) (table_of past)
-          (stages_ahead level (stage_of past))) (ap (waits_ahead (keeps_news past) (table_of past)) c.comes) it.ahead;
+      ahead = whole_way (length (filter (is_ahead (are_calls_pending past) s) (table_of past)))
+          (waits_ahead (are_calls_pending past) (table_of past) (stages_ahead level (Some s)))
+          (waits_ahead (are_calls_pending past)
+          (table_of past) (stages_ahead level (stage_of now))) (waits_ahead (are_calls_pending past) (table_of past)
+          (stages_ahead level (stage_of past)))
+          (ap (waits_ahead (are_calls_pending past) (table_of past)) c.comes) it.ahead;
     });
   } where
     more : (w a b t : ℕ) → b ≡ w + a → b ≤ t → a ≤ t
@@ -654,9 +685,9 @@ entering goal s grace between past may it = by (enter_by goal (between ++ past) 
   by (inr h) = climbed h.0
       (subst (λ aim. Climb aim.level (stage_of now) s) it.aim (climb (goal_of goal now) (stage_of now) s grace h.1))
 
--- entries are called
+-- the course of a stretch that continues with a call of entries
 calling : (goal : Goal) (happening : Event) (between past : List Event) → is_sound goal (between ++ past) ≡ true
-    → (in_run (stage_of past) ≡ true → keeps_news past ≡ false) → News (between ++ past)
+    → (in_run (stage_of past) ≡ true → are_calls_pending past ≡ false) → News (between ++ past)
     → is_quiet (between ++ past) ≡ true → is_quiet (happening ∷ (between ++ past)) ≡ is_quiet (between ++ past)
     → stage_of (happening ∷ (between ++ past)) ≡ stage_of (between ++ past) → table_of (happening ∷ (between ++ past))
     ≡ table_of (between ++ past) → kept_children (happening ∷ (between ++ past)) ≡ kept_children (between ++ past)
@@ -665,12 +696,12 @@ calling goal happening between past sound heard news quiet quiets stays tables k
   now : List Event
   now = between ++ past
 
-  kept_news : keeps_news past ≡ true
+  kept_news : are_calls_pending past ≡ true
   kept_news = it.news news.1
 
   by : ((is_calm between ≡ true) × (stage_of (between ++ past) ≡ stage_of past)) ⊎ Entered goal past (between ++ past)
       → Entered goal past (happening ∷ (between ++ past))
-  by (inl path) = both_ways (keeps_news past) kept_news (heard (ap in_run (sym path.1) ∙ news.0))
+  by (inl path) = both_ways (are_calls_pending past) kept_news (heard (ap in_run (sym path.1) ∙ news.0))
   by (inr e) = record {
     after = [];
     start = happening ∷ now;
@@ -685,8 +716,9 @@ calling goal happening between past sound heard news quiet quiets stays tables k
         ∙ ap (λ x. list_any (λ child. not (stands_by (table_of past) e.entered child)) (kept_children x)) e.is
         ∙ bystanders_on goal (table_of past) e.entered e.after e.start (subst (λ x. is_sound goal x ≡ true) e.is sound)
         e.calm e.quiet (e.unstarted (ap in_run (sym e.here) ∙ news.0) news.1) e.bystanders;
-    few = subst (λ b. to_come (happening ∷ now) ≤ length (filter (is_ahead b e.entered) (table_of past)))
-        (sym kept_news) (subst (λ es. to_come (happening ∷ now) ≤ length (filter (is_ahead true e.entered) es))
+    few = subst (λ b. count_wanted_waits (happening ∷ now) ≤ length (filter (is_ahead b e.entered) (table_of past)))
+        (sym kept_news)
+        (subst (λ es. count_wanted_waits (happening ∷ now) ≤ length (filter (is_ahead true e.entered) es))
         (tables ∙ it.table) (called_to_come (happening ∷ now) e.entered (stays ∙ e.here)));
     unstarted = λ running still. refl;
     early = e.early;
@@ -694,8 +726,8 @@ calling goal happening between past sound heard news quiet quiets stays tables k
   }
 
 pub course : (goal : Goal) (between past : List Event) → is_sound goal (between ++ past) ≡ true
-    → is_unasked between ≡ true → is_some (stage_of past) ≡ true → is_some (level_wish past) ≡ false
-    → (in_run (stage_of past) ≡ true → keeps_news past ≡ false) → Course goal between past
+    → has_no_request between ≡ true → is_some (stage_of past) ≡ true → is_some (level_wish past) ≡ false
+    → (in_run (stage_of past) ≡ true → are_calls_pending past ≡ false) → Course goal between past
 course goal [] past sound unasked staged unwished heard = record {
   staged = staged;
   unwished = unwished;
@@ -719,7 +751,7 @@ course goal (Enter s grace ∷ between) past sound unasked staged unwished heard
 course goal (Power kind ∷ between) past sound unasked staged unwished heard =
     let two = sound_step goal (Power kind) (between ++ past) refl sound in
     let it = course goal between past two.1 unasked staged unwished heard in
-    let news = news_of goal (between ++ past) (step.Power kind)
+    let news = pending_calls goal (between ++ past) (step.Power kind)
     (record { orders = λ id ask. refl; holds = λ id. refl; settles = λ level. refl; reexecs = refl; rereads = refl })
     (λ s grace. refl) two.0 in
     record {
@@ -736,7 +768,7 @@ course goal (Power kind ∷ between) past sound unasked staged unwished heard =
 course goal (Call letter ∷ between) past sound unasked staged unwished heard =
     let two = sound_step goal (Call letter) (between ++ past) refl sound in
     let it = course goal between past two.1 unasked staged unwished heard in
-    let news = news_of goal (between ++ past) (step.Call letter)
+    let news = pending_calls goal (between ++ past) (step.Call letter)
     (record { orders = λ id ask. refl; holds = λ id. refl; settles = λ level. refl; reexecs = refl; rereads = refl })
     (λ s grace. refl) two.0 in
     record {
@@ -762,11 +794,11 @@ course goal (Asked i Start ∷ between) past sound unasked staged unwished heard
       bound_for = it.bound_for;
       ahead = it.ahead;
       path = longer goal (Asked i Start) between past (λ calm. calm) (λ after calm. calm) refl (λ s after here running
-          news before. both_ways (wish_stands (between ++ past)) (or_right (wants_reexec (between ++ past)
+          news before. both_ways (is_request_pending (between ++ past)) (or_right (wants_reexec (between ++ past)
           || wants_reread (between ++ past)
           || is_some (level_wish (between ++ past))) (in_run (stage_of (between ++ past))
-          && keeps_news (between ++ past))
-          (and_from (in_run (stage_of (between ++ past))) (keeps_news (between ++ past))
+          && are_calls_pending (between ++ past))
+          (and_from (in_run (stage_of (between ++ past))) (are_calls_pending (between ++ past))
           (ap in_run here ∙ running) news)) (start_unwished goal (between ++ past) i two.0)) it.path;
     }
 course goal (happening ∷ between) past sound unasked staged unwished heard =
@@ -784,7 +816,7 @@ course goal (happening ∷ between) past sound unasked staged unwished heard =
           (λ s after here running news before. before news) it.path;
     }
 
--- where it was entered, no child is awaited
+-- init waits for no child when the stage was entered
 pub none_awaited : (goal : Goal) (past now : List Event) (it : Entered goal past now)
     → list_any (is_awaited it.start) (kept_children it.start) ≡ false
 none_awaited goal past now it = falsely (list_any (is_awaited it.start) (kept_children it.start))
@@ -794,10 +826,10 @@ none_awaited goal past now it = falsely (list_any (is_awaited it.start) (kept_ch
     (λ by. both_ways (is_awaited it.start child) own (not_awaited it.start it.entered it.stage child
     (ap (λ es. stands_by es it.entered child) it.table ∙ by))))) (kept_children it.start)) it.bystanders
 
--- so behind it a waited entry was started, or the level is announced
+-- so after it a waited entry was started, or the level is announced settled
 abbrev pub Lower : Goal → List Event → List Event → Type 0
-Lower goal past now = (waits_ahead (keeps_news past) (table_of past) (stages_ahead (goal_of goal past).level
-    (stage_of now)) + to_come now < waits_ahead (keeps_news past) (table_of past)
+Lower goal past now = (waits_ahead (are_calls_pending past) (table_of past) (stages_ahead (goal_of goal past).level
+    (stage_of now)) + count_wanted_waits now < waits_ahead (are_calls_pending past) (table_of past)
     (stages_ahead (goal_of goal past).level (stage_of past))) × (list_any (is_excluded now) (kept_children now) ≡ false)
 
 pub climbed_lower : (goal : Goal) (past now : List Event) → Entered goal past now → is_sound goal now ≡ true
@@ -820,29 +852,33 @@ climbed_lower goal past now it sound rest idle untold = subst (λ x. Lower goal 
       lower : is_sound goal (it.after ++ start) ≡ true → AtRest goal (it.after ++ start) → is_idle (it.after ++ start)
           ≡ true → is_level_announced (it.after ++ start) ≡ false → Lower goal past (it.after ++ start)
       lower sound rest idle untold = (
-        add (waits_ahead (keeps_news past) (table_of past) (stages_ahead level (stage_of (it.after ++ start))))
-            (waits_ahead (keeps_news past) (table_of past) (stages_ahead level (Some it.entered)))
-            (length (filter (is_ahead (keeps_news past) it.entered) (table_of past))) (waits_ahead (keeps_news past)
-            (table_of past) (stages_ahead level (stage_of past))) (to_come (it.after ++ start)) (to_come start)
-            (ap (λ o. waits_ahead (keeps_news past) (table_of past) (stages_ahead level o))
+        add (waits_ahead (are_calls_pending past) (table_of past) (stages_ahead level (stage_of (it.after ++ start))))
+            (waits_ahead (are_calls_pending past) (table_of past) (stages_ahead level (Some it.entered)))
+            (length (filter (is_ahead (are_calls_pending past) it.entered) (table_of past)))
+            (waits_ahead (are_calls_pending past)
+            (table_of past) (stages_ahead level (stage_of past))) (count_wanted_waits (it.after ++ start))
+            (count_wanted_waits start)
+            (ap (λ o. waits_ahead (are_calls_pending past) (table_of past) (stages_ahead level o))
             (stage_stays it.after start it.calm ∙ it.stage)) it.ahead fewer_now it.few,
         spared,
       ) where
         begun : list_any (is_waited_start start) it.after ≡ true
         begun = progress goal it.after start sound it.calm it.quiet rest idle gone untold
 
-        fewer_now : to_come (it.after ++ start) < to_come start
+        fewer_now : count_wanted_waits (it.after ++ start) < count_wanted_waits start
         fewer_now = fewer_to_come goal it.after start sound it.calm begun
 
         spared : list_any (is_excluded (it.after ++ start)) (kept_children (it.after ++ start)) ≡ false
         spared = false_from_ne_true (list_any (is_excluded (it.after ++ start)) (kept_children (it.after ++ start)))
             (λ some. wrong (passing (is_excluded (it.after ++ start)) (kept_children (it.after ++ start)) some)) where
               back : (id : List ℕ)
-                  → list_any (λ x. is_of id x && is_excluded (it.after ++ start) x) (kept_children start) ≡ true → ⊥
+                  → list_any (λ x. is_child_of id x && is_excluded (it.after ++ start) x) (kept_children start) ≡ true
+                  → ⊥
               back id there = both_ways (list_any (is_awaited start) (kept_children start))
-                  (any_less (λ x. is_of id x && is_excluded (it.after ++ start) x) (is_awaited start)
+                  (any_less (λ x. is_child_of id x && is_excluded (it.after ++ start) x) (is_awaited start)
                   (λ x h. awaits x (sym (excluded_still it.after start it.calm x)
-                  ∙ (and_parts (is_of id x) (is_excluded (it.after ++ start) x) h).1)) (kept_children start) there) none
+                  ∙ (and_parts (is_child_of id x) (is_excluded (it.after ++ start) x) h).1))
+                  (kept_children start) there) none
                 where
                   awaits : (x : Child) → is_excluded start x ≡ true → is_awaited start x ≡ true
                   awaits x own =
@@ -859,8 +895,8 @@ climbed_lower goal past now it sound rest idle untold = subst (λ x. Lower goal 
                 at false unstarted =
                     back there.item.id (kept_back goal there.item.id (is_excluded (it.after ++ start)) it.after
                     start sound it.calm (quiet_start there.item.id start it.quiet) unstarted (there.within
-                    (λ x. is_of there.item.id x && is_excluded (it.after ++ start) x)
-                    (and_from (is_of there.item.id there.item)
+                    (λ x. is_child_of there.item.id x && is_excluded (it.after ++ start) x)
+                    (and_from (is_child_of there.item.id there.item)
                     (is_excluded (it.after ++ start) there.item) (same_id-self there.item.id) there.passes)))
 
         add : (a b w p t u : ℕ) → a ≡ b → w + b ≤ p → t < u → u ≤ w → a + t < p

@@ -1,30 +1,31 @@
--- Init's own steps end, and where they end it rests.
+-- Init's own steps end, and it is at rest afterwards.
 use Rattle.core_waiting.proofs.Words.{◌≡◌, ◌≤◌, ◌<◌, refl, sym, ◌∙◌, ap, subst, ℕ, Bool, zero, suc, true, false, ◌||◌}
 use Rattle.core_waiting.proofs.Words.{cond, List, [], ◌∷◌, ◌++◌, map, filter, None, is_none, arith, list_any, list_all}
 use Rattle.core_waiting.proofs.Words.{option_map, false≢true, and_from, or_parts, false_from_ne_true, Entry, same_id}
 use Rattle.core_waiting.proofs.Words.{same_id-self, find_none, any_filtered, ids_of, has_id, act_of, Goal, Step, Event}
 use Rattle.core_waiting.proofs.Words.{table_of, has_child, known_children, wants_reexec, wants_reread, due, first}
-use Rattle.core_waiting.proofs.Words.{left_ids, is_rest, is_sound, left_apart, CoreState, decide, LastStatuses, Fits}
-use Rattle.core_waiting.proofs.Words.{StillFits, record_of, records_of, with_step, fit_records, fit_table, still, IsOwn}
+use Rattle.core_waiting.proofs.Words.{removed_ids, is_rest, is_sound, left_apart, CoreState, decide, LastStatuses, Fits}
+use Rattle.core_waiting.proofs.Words.{FitsExtendedTrace, record_of, records_of, with_step, fit_records, fit_table}
+use Rattle.core_waiting.proofs.Words.{still, IsOwn}
 use Rattle.core_waiting.proofs.Words.{table_own, decide_due, AtRest}
 use Rattle.trace_laws.proofs.Runs.{first_due}
-use Rattle.core_records.specs.State.{RecordState}
-use Rattle.core_records.specs.Order.{IsInOrder}
+use Rattle.child_table.specs.State.{SlotState}
+use Rattle.child_table.specs.Order.{IsInOrder}
 use Rattle.core_model.specs.Steps.{after_step}
 use Rattle.core_model.specs.Work.{work_left}
 use Rattle.core_model.proofs.Reading.{Each}
 use Rattle.core_model.proofs.Stepping.{fits_step}
 use Rattle.core_model.proofs.Working.{decide_falls}
-use Rattle.core_waiting.specs.Coming.{with_own_steps, after_own_steps}
+use Rattle.core_waiting.specs.Coming.{with_own_steps, after_init_steps}
 use Rattle.core_waiting.proofs.Idle.{rest_unwished}
 
--- under a fit the records stand in the order of the table
+-- if the core fits, its records are in table order
 unlisted : (lasts : LastStatuses) (past : List Event) (ids : List (List ℕ))
     → ((id : List ℕ) → list_any (same_id id) ids ≡ true → act_of id (table_of past) ≡ None)
-    → list_all (λ (slot : RecordState). is_none slot.table_act) (map (record_of lasts past) ids) ≡ true
+    → list_all (λ (slot : SlotState). is_none slot.table_act) (map (record_of lasts past) ids) ≡ true
 unlisted lasts past [] none = refl
 unlisted lasts past (id ∷ ids) none = and_from (is_none (act_of id (table_of past)))
-    (list_all (λ (slot : RecordState). is_none slot.table_act) (map (record_of lasts past) ids))
+    (list_all (λ (slot : SlotState). is_none slot.table_act) (map (record_of lasts past) ids))
     (ap is_none (none id (ap (λ b. b || list_any (same_id id) ids) (same_id-self id))))
     (unlisted lasts past ids (λ x there. none x (later (same_id x id) (list_any (same_id x) ids) there))) where
       later : (a b : Bool) → b ≡ true → (a || b) ≡ true
@@ -32,7 +33,7 @@ unlisted lasts past (id ∷ ids) none = and_from (is_none (act_of id (table_of p
       later false b h = h
 
 in_order_along : (lasts : LastStatuses) (past : List Event) (es : List Entry) (rest : List (List ℕ))
-    → Each (IsOwn (table_of past)) es → list_all (λ (slot : RecordState). is_none slot.table_act)
+    → Each (IsOwn (table_of past)) es → list_all (λ (slot : SlotState). is_none slot.table_act)
     (map (record_of lasts past) rest) ≡ true → IsInOrder es (map (record_of lasts past) (ids_of es ++ rest))
 in_order_along lasts past [] rest own none = none
 in_order_along lasts past (e ∷ es) rest own none =
@@ -40,13 +41,13 @@ in_order_along lasts past (e ∷ es) rest own none =
 
 records_in_order : (lasts : LastStatuses) (goal : Goal) (past : List Event) → is_sound goal past ≡ true
     → IsInOrder (table_of past) (records_of lasts past)
-records_in_order lasts goal past sound = in_order_along lasts past (table_of past) (filter kept (left_ids past))
-    (table_own lasts goal past sound) (unlisted lasts past (filter kept (left_ids past))
-    (λ id there. none id (any_filtered (same_id id) kept (left_ids past) there))) where
+records_in_order lasts goal past sound = in_order_along lasts past (table_of past) (filter kept (removed_ids past))
+    (table_own lasts goal past sound) (unlisted lasts past (filter kept (removed_ids past))
+    (λ id there. none id (any_filtered (same_id id) kept (removed_ids past) there))) where
       kept : List ℕ → Bool
       kept id = has_child id (known_children past)
 
-      none : (id : List ℕ) → list_any (same_id id) (left_ids past) ≡ true → act_of id (table_of past) ≡ None
+      none : (id : List ℕ) → list_any (same_id id) (removed_ids past) ≡ true → act_of id (table_of past) ≡ None
       none id there = ap (option_map (λ (x : Entry). x.act))
           (find_none (has_id id) (table_of past) (false_from_ne_true (list_any (has_id id) (table_of past))
           (λ listed. false≢true (sym (left_apart goal past sound id listed) ∙ there))))
@@ -60,19 +61,19 @@ module _ (goal : Goal) (past : List Event) (c : CoreState) (sound : is_sound goa
     in_order = subst (IsInOrder c.table) (sym (fit_records c goal past fits)) (subst (λ table. IsInOrder table
         (records_of fits.lasts past)) (sym (fit_table c goal past fits)) (records_in_order fits.lasts goal past sound))
 
-    -- a step of its own that is due leaves less to do, and the trace with it is sound and fits
+    -- a due step of init leaves less work, and the trace with it is sound and fits
     falls : is_rest (first (due goal past)) ≡ false → work_left (after_step (decide c) c) < work_left c
     falls busy = decide_falls c in_order (ap is_rest due_now ∙ busy)
 
-    fits_next : StillFits c (after_step (decide c) c) goal past (with_step (first (due goal past)) past)
-    fits_next = subst (λ s. StillFits c (after_step (decide c) c) goal past (with_step s past)) due_now
+    fits_next : FitsExtendedTrace c (after_step (decide c) c) goal past (with_step (first (due goal past)) past)
+    fits_next = subst (λ s. FitsExtendedTrace c (after_step (decide c) c) goal past (with_step s past)) due_now
         (fits_step goal past c sound fits)
 
 sound_next : (goal : Goal) (past : List Event) (made : Step) → first (due goal past) ≡ made → is_sound goal past ≡ true
     → is_sound goal (with_step made past) ≡ true
 sound_next goal past made is sound = grind (arith, first_due)
 
--- so it comes to a rest
+-- so init comes to a rest
 comes_in : (n : ℕ) (goal : Goal) (past : List Event) (c : CoreState) → is_sound goal past ≡ true → Fits c goal past
     → work_left c ≤ n → is_rest (first (due goal (with_own_steps goal n past))) ≡ true
 comes_in zero goal past c sound fits enough = at (is_rest (first (due goal past))) refl where
@@ -95,10 +96,10 @@ pub comes : (core : CoreState) (goal : Goal) (past : List Event) → is_sound go
     → is_rest (first (due goal (with_own_steps goal (work_left core) past))) ≡ true
 comes core goal past sound fits = comes_in (work_left core) goal past core sound fits (omega arith)
 
--- and what it keeps fits the trace with those steps, which is sound
+-- the state of init fits the trace with those steps, which is sound
 pub steps_fit : (n : ℕ) (core : CoreState) (goal : Goal) (past : List Event) → is_sound goal past ≡ true
     → Fits core goal past → (is_sound goal (with_own_steps goal n past) ≡ true)
-    × StillFits core (after_own_steps n core) goal past (with_own_steps goal n past)
+    × FitsExtendedTrace core (after_init_steps n core) goal past (with_own_steps goal n past)
 steps_fit zero core goal past sound fits = (sound, still core goal past fits)
 steps_fit (suc n) core goal past sound fits =
     let next = fits_next goal past core sound fits in
@@ -110,15 +111,16 @@ steps_fit (suc n) core goal past sound fits =
       mid = with_step (first (due goal past)) past
 
       at : (b d : Bool) → d ≡ b → (is_sound goal (with_own_steps goal n mid) ≡ true)
-          × StillFits core (after_own_steps n (after_step (decide core) core)) goal past (with_own_steps goal n mid)
-          → (is_sound goal (cond b past (with_own_steps goal n mid)) ≡ true) × StillFits core (cond d core
-          (after_own_steps n (after_step (decide core) core))) goal past (cond b past (with_own_steps goal n mid))
+          × FitsExtendedTrace core (after_init_steps n (after_step (decide core) core)) goal past
+          (with_own_steps goal n mid)
+          → (is_sound goal (cond b past (with_own_steps goal n mid)) ≡ true) × FitsExtendedTrace core (cond d core
+          (after_init_steps n (after_step (decide core) core))) goal past (cond b past (with_own_steps goal n mid))
       at true true same later = (sound, still core goal past fits)
       at false false same later = later
       at true false same later = absurd (false≢true same)
       at false true same later = absurd (false≢true (sym same))
 
--- init's own steps leave the two wishes as they are
+-- init's own steps do not change the two pending requests
 reexec_next : (made : Step) (past : List Event) → wants_reexec (with_step made past) ≡ wants_reexec past
 reexec_next made past = grind arith
 

@@ -1,4 +1,4 @@
--- Over an undisturbed round a child that had to end, and lacks no signal, is gone.
+-- Over an undisturbed round, a child that had to end and lacks no signal is gone.
 use Rattle.core_waiting.proofs.Words.{◌≡◌, ◌≤◌, ◌-◌, refl, sym, ◌∙◌, ap, subst, ℕ, ◌==◌, Bool, true, false, not, ◌&&◌}
 use Rattle.core_waiting.proofs.Words.{◌||◌, cond, nat_le, List, [], ◌∷◌, ◌++◌, filter, length, Option, Some, None}
 use Rattle.core_waiting.proofs.Words.{length-append, arith, list_any, list_all, false≢true, false_from_ne_true}
@@ -6,7 +6,7 @@ use Rattle.core_waiting.proofs.Words.{and_parts, and_from, or_left, or_right, or
 use Rattle.core_waiting.proofs.Words.{same_Some, OrderKind, Start, Look, Term, Kill, same_id, same_ask, same_id-is}
 use Rattle.core_waiting.proofs.Words.{both_ways, falsely, not_from, or_either, any_less, any_filtered, Passing, passing}
 use Rattle.core_waiting.proofs.Words.{NewTable, Enter, Asked, Birth, NoBirth, Reaped, Still, NoLook, Hit, Miss, Told}
-use Rattle.core_waiting.proofs.Words.{Nudge, Goal, Event, Child, is_of, is_child, has_child, open_of, undone_of}
+use Rattle.core_waiting.proofs.Words.{Nudge, Goal, Event, Child, is_child_of, is_child, has_child, open_of, undone_of}
 use Rattle.core_waiting.proofs.Words.{is_untold, is_idle, unreaped_children, kept_children, known_children, grace_of}
 use Rattle.core_waiting.proofs.Words.{time_of, is_order, is_excluded, Signal, stop_by, is_missed, spell_hits}
 use Rattle.core_waiting.proofs.Words.{wants_look, may_come, is_sound, is_order-is, idle_none, undone_is_open, told_same}
@@ -23,7 +23,7 @@ use Rattle.core_waiting.proofs.Stops.{looks_at}
 use Rattle.core_waiting.proofs.Progress.{Next, next_of, excluded_still, no_start, kept_back}
 use Rattle.core_waiting.proofs.Reached.{Round, none_open, Grown, grown, unborn, lacks, lacks_of, passes_among}
 
--- where no kept child lacks a signal, none is due in the stretch
+-- if no kept child lacks a signal, none is due in the stretch
 due_hits : (b c : Bool) (grace now : ℕ) (hits : List Signal) (ask : OrderKind)
     → cond (b && not c) (stop_by grace now hits) None ≡ Some ask → (b && nat_le (length hits) 1) ≡ true
 due_hits false c grace now hits ask h = absurd (none-some ask h)
@@ -35,10 +35,12 @@ due_hits true false grace now (signal ∷ first ∷ hits) ask h = absurd (none-s
 unsigned : (goal : Goal) (id : List ℕ) (between past : List Event) → is_sound goal (between ++ past) ≡ true → is_calm
     between ≡ true → is_idle past ≡ true → list_all (lacks 0 past) (kept_children past) ≡ true → list_any (is_start_of
     id) between ≡ false → (i : List ℕ) (ask : OrderKind) → same_id id i ≡ true → MayStop i ask (between ++ past) → ⊥
-unsigned goal id between past sound calm idle all none i ask same may = wrong (passing (λ x. is_of id x && stopped x)
+unsigned goal id between past sound calm idle all none i ask same may =
+    wrong (passing (λ x. is_child_of id x && stopped x)
     (kept_children past) (kept_back goal id stopped between past sound calm (none_open id past idle) none (known_kept
-    (λ x. is_of id x && stopped x) now (may.within (λ x. is_of id x && stopped x) (and_from (is_of id may.child)
-    (stopped may.child) (ap (λ x. is_of x may.child) (same_id-is id i same) ∙ may.own) (due_hits (is_excluded now
+    (λ x. is_child_of id x && stopped x) now
+    (may.within (λ x. is_child_of id x && stopped x) (and_from (is_child_of id may.child)
+    (stopped may.child) (ap (λ x. is_child_of x may.child) (same_id-is id i same) ∙ may.own) (due_hits (is_excluded now
     may.child) (is_missed may.child now) (grace_of now) (time_of now) (spell_hits may.child now) ask may.due)))))) where
       now : List Event
       now = between ++ past
@@ -46,15 +48,15 @@ unsigned goal id between past sound calm idle all none i ask same may = wrong (p
       stopped : Child → Bool
       stopped child = is_excluded now child && nat_le (length (spell_hits child now)) 1
 
-      wrong : Passing (λ x. is_of id x && stopped x) (kept_children past) → ⊥
+      wrong : Passing (λ x. is_child_of id x && stopped x) (kept_children past) → ⊥
       wrong there = few (spell_hits child past) more.new more.is (leb-true (length (spell_hits child now)) 1 two.1)
           (lacks_of 0 past child own
-          (passes_among (lacks 0 past) (λ x. is_of id x && stopped x) (kept_children past) all there)) where
+          (passes_among (lacks 0 past) (λ x. is_child_of id x && stopped x) (kept_children past) all there)) where
             child : Child
             child = there.item
 
-            parts : (is_of id child ≡ true) × (stopped child ≡ true)
-            parts = and_parts (is_of id child) (stopped child) there.passes
+            parts : (is_child_of id child ≡ true) × (stopped child ≡ true)
+            parts = and_parts (is_child_of id child) (stopped child) there.passes
 
             two : (is_excluded now child ≡ true) × (nat_le (length (spell_hits child now)) 1 ≡ true)
             two = and_parts (is_excluded now child) (nat_le (length (spell_hits child now)) 1) parts.1
@@ -70,8 +72,8 @@ unsigned goal id between past sound calm idle all none i ask same may = wrong (p
                 → 2 - length hits ≤ 0 → ⊥
             few hits new is less full = let n = length-append new hits in let m = ap length is in omega (arith, n, m)
 
--- what came so far of the known child of an id: it is to be looked at once a round began and no look was in vain, a
--- Look of it is open, it was found alive or could not be looked at, it was found ended, or it is gone
+-- what has happened so far to the known child of an id: a look at it is due once a round has begun and no look was in
+-- vain; or a Look is open; or it was found alive or could not be looked at; or it was found ended; or it is gone
 data Fate (id : List ℕ) (nudged seen vain : Bool) (past : List Event) : Type 0 where
   waits : open_of id past ≡ None → has_child id (known_children past) ≡ true → seen ≡ false
       → (nudged ≡ true → vain ≡ false → wants_look id past ≡ true) → Fate id nudged seen vain past
@@ -82,7 +84,7 @@ data Fate (id : List ℕ) (nudged seen vain : Bool) (past : List Event) : Type 0
       → Fate id nudged seen vain past
   gone : has_child id (kept_children past) ≡ false → Fate id nudged seen vain past
 
--- a happening that is not about the id leaves it
+-- a happening for another id does not change this
 record Carries (id : List ℕ) (happening : Event) (past : List Event) : Type 0 where
   opens : open_of id (happening ∷ past) ≡ open_of id past
   undone : undone_of id (happening ∷ past) ≡ undone_of id past
@@ -125,7 +127,7 @@ told_apart id i past differ = record {
       (told_other id i (unreaped_children past) (known_children past) differ);
   reaped = refl;
   kept = λ none. falsely (has_child id (kept_children (Told i ∷ past))) (has_child id (kept_children past))
-      (kept_before_told (is_of id) i past) none;
+      (kept_before_told (is_child_of id) i past) none;
   looks = refl;
 }
 
@@ -151,7 +153,7 @@ reaped_apart id i n status past differ = record {
   looks = refl;
 }
 
--- the acts that are about the id
+-- the acts for the id
 pub at_most : (p r : Child → Bool) → ((x : Child) → r x ≡ true → p x ≡ true) → (xs : List Child)
     → length (filter p xs) ≤ 1 → list_any r xs ≡ true → list_any p (filter (λ x. not (r x)) xs) ≡ false
 at_most p r less [] one some = absurd (false≢true some)
@@ -200,13 +202,13 @@ reaping goal id i n status nudged seen vain sees misses past sound may same fate
   at : Fate id nudged seen vain past → Fate id nudged sees misses (Reaped i n status ∷ past)
   at (waits free known unseen looks) = absurd (none-some Look (sym free ∙ undone_is_open id Look past undone))
   at (looked was unseen) = ended (undone_is_open id Look past undone) (ap (λ b. cond b None (undone_of id past)) same)
-      (at_most (is_of id) (is_child i n) (λ x own. ap (λ y. is_of y x) (same_id-is id i same) ∙ (and_parts
+      (at_most (is_child_of id) (is_child i n) (λ x own. ap (λ y. is_child_of y x) (same_id-is id i same) ∙ (and_parts
       (same_id i x.id) (n == x.number) own).0) (unreaped_children past) (one_child goal past sound id) two.1)
   at (alive open_look done there unseen bad) = absurd (none-some Look (sym done ∙ undone))
   at (ended open_look done none) = absurd (none-some Look (sym done ∙ undone))
   at (gone none) = gone none
 
--- a look at it in vain changes nothing but that the order is done
+-- a look in vain changes nothing, except that the order is carried out
 in_vain : (goal : Goal) (id i : List ℕ) (nudged seen vain sees misses : Bool) (happening : Event) (past : List Event)
     → is_sound goal past ≡ true → is_order Look (undone_of i past) ≡ true → same_id id i ≡ true → sees ≡ seen → misses
     ≡ true → open_of id (happening ∷ past) ≡ open_of id past → undone_of id (happening ∷ past) ≡ cond (same_id id i)
@@ -248,7 +250,7 @@ telling goal id i nudged seen vain past sound may same fate = at fate where
   at (ended open_look done none) = gone (same_has id (kept_children (Told i ∷ past)) (unreaped_children past)
       (told_same id i (unreaped_children past) (kept_children past) same) ∙ none)
   at (gone none) = gone (falsely (has_child id (kept_children (Told i ∷ past))) (has_child id (kept_children past))
-      (kept_before_told (is_of id) i past) none)
+      (kept_before_told (is_child_of id) i past) none)
 
 looking : (goal : Goal) (id i : List ℕ) (nudged seen vain : Bool) (past : List Event) → may_come goal (Asked i Look)
     past ≡ true → same_id id i ≡ true → Fate id nudged seen vain past → Fate id nudged seen vain (Asked i Look ∷ past)
@@ -261,10 +263,10 @@ looking goal id i nudged seen vain past may same fate = at fate where
   at (looked undone unseen) = absurd (none-some Look (sym free ∙ undone_is_open id Look past undone))
   at (alive open_look done there unseen bad) = absurd (none-some Look (sym free ∙ open_look))
   at (ended open_look done none) = absurd (none-some Look (sym free ∙ open_look))
-  at (gone none) = both_ways (has_child id (kept_children past)) (known_kept (is_of id) past (ap (λ x. has_child x
+  at (gone none) = both_ways (has_child id (kept_children past)) (known_kept (is_child_of id) past (ap (λ x. has_child x
       (known_children past)) (same_id-is id i same) ∙ (due_facts goal past (step.Order i Look) may).there)) none
 
--- a start that failed is not of an id that is not started
+-- a start that failed was not for an id that is not started
 unstarted : (goal : Goal) (id i : List ℕ) (between past : List Event) → is_order Start (open_of id past) ≡ false
     → list_any (is_start_of id) between ≡ false → is_order Start (undone_of i (between ++ past)) ≡ true
     → same_id id i ≡ false
@@ -430,22 +432,23 @@ fate goal id (happening ∷ between) past sound calm idle all known none =
     passed id happening between past refl refl refl (plain id happening (between ++ past) refl refl refl refl refl refl)
     (fate goal id between past next.sound next.calm idle all known none)
 
--- at its end, a rest, it is gone
+-- at the end of the stretch, which is a rest, the child is gone
 fate_gone : (goal : Goal) (id : List ℕ) (seen vain : Bool) (past : List Event) → is_sound goal past ≡ true
     → AtRest goal past → is_idle past ≡ true → (seen || not vain) ≡ true → Fate id true seen vain past
     → has_child id (kept_children past) ≡ false
 fate_gone goal id seen vain past sound rest idle found (waits free known unseen looks) =
-    absurd (wrong (passing (is_of id) (known_children past) known)) where
+    absurd (wrong (passing (is_child_of id) (known_children past) known)) where
       good : (a b : Bool) → a ≡ false → (a || not b) ≡ true → b ≡ false
       good true b unseen h = absurd (false≢true (sym unseen))
       good false true unseen h = absurd (false≢true h)
       good false false unseen h = refl
 
-      wrong : Passing (is_of id) (known_children past) → ⊥
+      wrong : Passing (is_child_of id) (known_children past) → ⊥
       wrong there = by (open_of there.item.id past) (wants_look there.item.id past) (idle_none there.item.id past idle)
           (ap (λ x. wants_look x past) (sym (same_id-is id there.item.id there.passes))
           ∙ looks refl (good seen vain unseen found))
-          (passes_among (is_looked_at past) (is_of id) (known_children past) (looks_at goal past sound rest) there)
+          (passes_among (is_looked_at past) (is_child_of id) (known_children past)
+          (looks_at goal past sound rest) there)
         where
           by : (o : Option OrderKind) (b : Bool) → o ≡ None → b ≡ true → (is_some o || not b) ≡ true → ⊥
           by None true free wants h = false≢true h

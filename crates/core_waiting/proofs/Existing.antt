@@ -1,5 +1,5 @@
--- Each rest at which no news waits has an undisturbed round behind it: every child that is known ends, every signal
--- hits.
+-- Each rest without a pending power event or letter can be followed by an undisturbed round, in which every known child
+-- ends and every signal is sent.
 use Rattle.core_waiting.proofs.Words.{◌≡◌, ◌≤◌, ◌<◌, ◌+◌, refl, sym, ◌∙◌, ap, subst, ◌⊎◌, inl, inr, ℕ, zero, suc, ◌==◌}
 use Rattle.core_waiting.proofs.Words.{Bool, true, false, not, ◌&&◌, ◌||◌, cond, nat_le, nat_lt, List, [], ◌∷◌, ◌++◌}
 use Rattle.core_waiting.proofs.Words.{filter, length, Option, Some, None, is_none, arith, list_any, list_all}
@@ -10,13 +10,15 @@ use Rattle.core_waiting.proofs.Words.{same_level, starts_of, waited_of, is_limit
 use Rattle.core_waiting.proofs.Words.{same_id-sym, same_id-flip, same_id-from, same_level-self, same_stage-self}
 use Rattle.core_waiting.proofs.Words.{both_ways, and_false, falsely, or_either, not_from, any_less, filter_none}
 use Rattle.core_waiting.proofs.Words.{Passing, passing, entry_of, NewTable, Enter, Asked, Birth, Death, Reaped, Still}
-use Rattle.core_waiting.proofs.Words.{NoLook, Miss, Told, Nudge, Got, Step, Goal, Event, Child, Open, is_of, is_child}
+use Rattle.core_waiting.proofs.Words.{NoLook, Miss, Told, Nudge, Got, Step, Goal, Event, Child, Open, is_child_of}
+use Rattle.core_waiting.proofs.Words.{is_child}
 use Rattle.core_waiting.proofs.Words.{has_child, has_number, open_of, undone_of, is_untold, open_orders, is_quiet}
 use Rattle.core_waiting.proofs.Words.{is_idle, is_dead, is_living, unreaped_children, kept_children, known_children}
 use Rattle.core_waiting.proofs.Words.{table_of, stage_of, grace_of, time_of, may_live, is_order, is_wanted, is_owed}
 use Rattle.core_waiting.proofs.Words.{is_excluded, stop_by, stop_due, spell_hits, has_untold_miss, in_spell, tells_miss}
 use Rattle.core_waiting.proofs.Words.{is_missed, is_held, hold_times, is_full, in_run, goal_of, wants_reexec}
-use Rattle.core_waiting.proofs.Words.{wants_reread, level_wish, other_than, powers, letters, keeps_news, wish_stands}
+use Rattle.core_waiting.proofs.Words.{wants_reread, level_wish, other_than, powers, letters, are_calls_pending}
+use Rattle.core_waiting.proofs.Words.{is_request_pending}
 use Rattle.core_waiting.proofs.Words.{steps_if, none_excluded, enter_level, power_steps, letter_steps, stop_step}
 use Rattle.core_waiting.proofs.Words.{stops_of, stops_among, can_start, start_steps, starts_among, is_over, next_stage}
 use Rattle.core_waiting.proofs.Words.{is_settled, settle_step, record_ids, due_first, due_reexec, due_reread, due_level}
@@ -26,7 +28,9 @@ use Rattle.core_waiting.proofs.Words.{idle_none, told_same, told_other, told_any
 use Rattle.core_waiting.proofs.Words.{same_has, sound_holds, free_told, each_append, each_steps_if, MayStart, MayHold}
 use Rattle.core_waiting.proofs.Words.{due_facts, one_child, same_any, quiet_known, child_in_records, AtRest}
 use Rattle.core_waiting.proofs.Words.{after_rounds, has_to_end, is_end_seen, is_vain_look, is_found_ended, is_nudge}
-use Rattle.core_waiting.proofs.Words.{is_unasked, is_undisturbed, AreUnasked, undisturbed_among, moves_on, is_gone}
+use Rattle.core_waiting.proofs.Words.{has_no_request, is_undisturbed, AreRoundsWithoutRequests, undisturbed_among}
+use Rattle.core_waiting.proofs.Words.{makes_kills_due}
+use Rattle.core_waiting.proofs.Words.{is_gone}
 use Rattle.core_waiting.proofs.Words.{is_start_of, has_kill_to_come, has_known, quiet_start, greatest}
 use Rattle.std.proofs.Common.{is_some}
 use Rattle.std.proofs.lemmas.List.Folds.{list_any-append}
@@ -45,7 +49,7 @@ use Rattle.core_waiting.proofs.Ended.{at_most}
 use Rattle.core_waiting.proofs.Climbing.{is_climb, stands_by, bystanders_at}
 use Rattle.core_waiting.proofs.Arriving.{staged as at_stage}
 
--- what happens in the round: no request, no table, no look in vain, no miss and no call
+-- what happens in the round: no request, no table, no look in vain, no failed signal and no call
 abbrev pub is_kind : Event → Bool
 is_kind (NewTable table) = false
 is_kind (Call letter) = false
@@ -56,17 +60,17 @@ is_kind (NoLook id) = false
 is_kind (Miss id) = false
 is_kind _ = true
 
--- so far in the round
+-- the state so far in the round
 record Kind (goal : Goal) (round past : List Event) : Type 0 where
   sound : is_sound goal (round ++ past) ≡ true
   idle : is_idle (round ++ past) ≡ true
   kind : list_all is_kind round ≡ true
   nudged : list_any is_nudge round ≡ true
   staged : is_some (stage_of (round ++ past)) ≡ true
-  news : keeps_news (round ++ past) ≡ false
-  unwished : wish_stands (round ++ past) ≡ false
+  news : are_calls_pending (round ++ past) ≡ false
+  unwished : is_request_pending (round ++ past) ≡ false
 
--- an order is answered and told: none is open again
+-- an order is answered and told, so none is open afterwards
 none_open : (past : List Event) → is_idle past ≡ true → open_orders past ≡ []
 none_open past idle = at (open_orders past) (not-true (list_any (λ (order : Open). true) (open_orders past)) idle) where
   at : (xs : List Open) → list_any (λ (order : Open). true) xs ≡ false → xs ≡ []
@@ -83,7 +87,7 @@ cleared_again id ask past idle = ap (λ orders. not (list_any (λ (order : Open)
 undone_again : (id : List ℕ) (ask : OrderKind) (past : List Event) → undone_of id (Asked id ask ∷ past) ≡ Some ask
 undone_again id ask past = ap (λ b. cond b (Some ask) (undone_of id past)) (same_id-self id)
 
--- in which rank a step stands
+-- the rank of a step
 behind : (p : Step → Bool) (xs ys : List Step) → list_any p ys ≡ true → list_any p (xs ++ ys) ≡ true
 behind p xs ys h = list_any-append p xs ys ∙ or_right (list_any p xs) (list_any p ys) h
 
@@ -128,7 +132,7 @@ look_due goal id past there can = in_looks goal (step.Order id Look) past (liste
       (can_look i past) (ap (λ x. can_look x past) (sym (same_id-is id i same)) ∙ can) same)) (λ more. behind (same_step
       (step.Order id Look)) (step_if (can_look i past) (step.Order i Look)) (looks_among ids past) (listed ids more))
 
--- a child that is looked at, dead by then
+-- a child that is looked at and is dead by then
 record Looked (goal : Goal) (id : List ℕ) (n : ℕ) (pre now : List Event) : Type 0 where
   sound : is_sound goal pre ≡ true
   undone : undone_of id pre ≡ Some Look
@@ -136,9 +140,9 @@ record Looked (goal : Goal) (id : List ℕ) (n : ℕ) (pre now : List Event) : T
   orders : open_orders pre ≡ open_orders (Asked id Look ∷ now)
   unreaped : unreaped_children pre ≡ unreaped_children now
   known : known_children pre ≡ known_children now
-  wishes : wish_stands pre ≡ wish_stands now
+  wishes : is_request_pending pre ≡ is_request_pending now
   stages : stage_of pre ≡ stage_of now
-  kept : keeps_news pre ≡ keeps_news now
+  kept : are_calls_pending pre ≡ are_calls_pending now
   looks : (i : List ℕ) → wants_look i pre ≡ (not (same_id i id) && wants_look i now)
 
 few_left : (p : Child → Bool) (xs : List Child) → length (filter p xs) ≤ length xs
@@ -196,13 +200,14 @@ reap goal round past it child others is wants = by (is_dead id n now) refl where
       (eq-eqb child.number child.number refl)
 
   unreaped : list_any (is_child child.id child.number) (unreaped_children now) ≡ true
-  unreaped = any_less (λ x. is_of child.id x && is_child child.id child.number x) (is_child child.id child.number)
-      (λ x both. (and_parts (is_of child.id x) (is_child child.id child.number x) both).1) (unreaped_children now)
+  unreaped = any_less (λ x. is_child_of child.id x && is_child child.id child.number x) (is_child child.id child.number)
+      (λ x both. (and_parts (is_child_of child.id x) (is_child child.id child.number x) both).1) (unreaped_children now)
       (sym (same_of child.id (is_child child.id child.number) (known_children now) (unreaped_children now)
-      (told_known child.id now untold)) ∙ ap (list_any (λ x. is_of child.id x && is_child child.id child.number x)) is
-      ∙ or_left (is_of child.id child && is_child child.id child.number child)
-      (list_any (λ x. is_of child.id x && is_child child.id child.number x) others)
-      (and_from (is_of child.id child) (is_child child.id child.number child) (same_id-self child.id) own))
+      (told_known child.id now untold))
+      ∙ ap (list_any (λ x. is_child_of child.id x && is_child child.id child.number x)) is
+      ∙ or_left (is_child_of child.id child && is_child child.id child.number child)
+      (list_any (λ x. is_child_of child.id x && is_child child.id child.number x) others)
+      (and_from (is_child_of child.id child) (is_child child.id child.number child) (same_id-self child.id) own))
 
   finish : (pre : List Event) → Looked goal child.id child.number (pre ++ past) now → list_all is_kind pre ≡ true
       → list_any is_nudge pre ≡ true → Reaped_one goal others past
@@ -228,26 +233,28 @@ reap goal round past it child others is wants = by (is_dead id n now) refl where
       unwished = at.wishes ∙ it.unwished;
     };
     wants = ap (list_all (λ (x : Child). wants_look x.id (Told child.id ∷ Reaped child.id child.number (Exit 0)
-        ∷ (pre ++ past)))) left ∙ all_kept (λ (x : Child). wants_look x.id now) (λ x. not (is_of child.id x))
+        ∷ (pre ++ past)))) left ∙ all_kept (λ (x : Child). wants_look x.id now) (λ x. not (is_child_of child.id x))
         (λ (x : Child). wants_look x.id (pre ++ past)) (λ x other want. at.looks x.id ∙ and_from
         (not (same_id x.id child.id)) (wants_look x.id now) (ap not (same_id-sym x.id child.id) ∙ other) want) others
         (and_parts (wants_look child.id now) (list_all (λ (x : Child). wants_look x.id now) others)
         (sym (ap (list_all (λ (x : Child). wants_look x.id now)) is) ∙ wants)).1;
-    fewer = subst (λ xs. length xs ≤ length others) (sym left) (few_left (λ x. not (is_of child.id x)) others);
+    fewer = subst (λ xs. length xs ≤ length others) (sym left) (few_left (λ x. not (is_child_of child.id x)) others);
   } where
-    none : filter (is_of child.id)
+    none : filter (is_child_of child.id)
         (filter (λ x. not (is_child child.id child.number x)) (unreaped_children (pre ++ past))) ≡ []
-    none = filter_none (is_of child.id)
+    none = filter_none (is_child_of child.id)
         (filter (λ x. not (is_child child.id child.number x)) (unreaped_children (pre ++ past)))
-        (ap (λ xs. list_any (is_of child.id) (filter (λ x. not (is_child child.id child.number x)) xs)) at.unreaped
-        ∙ at_most (is_of child.id) (is_child child.id child.number) (λ x both. (and_parts (same_id child.id x.id)
+        (ap
+        (λ xs. list_any (is_child_of child.id) (filter (λ x. not (is_child child.id child.number x)) xs)) at.unreaped
+        ∙ at_most (is_child_of child.id) (is_child child.id child.number) (λ x both. (and_parts (same_id child.id x.id)
         (child.number == x.number) both).0) (unreaped_children now) (one_child goal now it.sound child.id) unreaped)
 
     left : known_children (Told child.id ∷ Reaped child.id child.number (Exit 0) ∷ (pre ++ past))
-        ≡ filter (λ x. not (is_of child.id x)) others
-    left = ap (λ xs. xs ++ filter (λ x. not (is_of child.id x)) (known_children (pre ++ past))) none
-        ∙ ap (filter (λ x. not (is_of child.id x))) (at.known ∙ is) ∙ ap (λ b. cond (not b) (child ∷ filter
-        (λ x. not (is_of child.id x)) others) (filter (λ x. not (is_of child.id x)) others)) (same_id-self child.id)
+        ≡ filter (λ x. not (is_child_of child.id x)) others
+    left = ap (λ xs. xs ++ filter (λ x. not (is_child_of child.id x)) (known_children (pre ++ past))) none
+        ∙ ap (filter (λ x. not (is_child_of child.id x))) (at.known ∙ is) ∙ ap (λ b. cond (not b) (child ∷ filter
+        (λ x. not (is_child_of child.id x)) others) (filter (λ x. not (is_child_of child.id x)) others))
+        (same_id-self child.id)
 
   asked : is_sound goal (Asked child.id Look ∷ now) ≡ true
   asked = and_from (is_due goal (step.Order child.id Look) now) (is_sound goal now) asks it.sound
@@ -314,8 +321,8 @@ reap_all goal past (suc k) round it wants few = at (λ (one : List Event)
               less a b c h is i = omega arith
 
 -- the round begins
-begun : (goal : Goal) (past : List Event) → is_sound goal past ≡ true → is_idle past ≡ true → wish_stands past ≡ false
-    → is_some (stage_of past) ≡ true → keeps_news past ≡ false
+begun : (goal : Goal) (past : List Event) → is_sound goal past ≡ true → is_idle past ≡ true
+    → is_request_pending past ≡ false → is_some (stage_of past) ≡ true → are_calls_pending past ≡ false
     → Kind goal (Nudge ∷ []) past × (all_want (Nudge ∷ past) ≡ true)
 begun goal past sound idle unwished staged news = (
   record {
@@ -333,7 +340,7 @@ begun goal past sound idle unwished staged news = (
       (passing (λ (child : Child). not (has_child child.id (known_children past))) (known_children past) some))),
 ) where
   wrong : Passing (λ (child : Child). not (has_child child.id (known_children past))) (known_children past) → ⊥
-  wrong there = both_ways (has_child there.item.id (known_children past)) (there.within (is_of there.item.id)
+  wrong there = both_ways (has_child there.item.id (known_children past)) (there.within (is_child_of there.item.id)
       (same_id-self there.item.id)) (not-true (has_child there.item.id (known_children past)) there.passes)
 
 -- then what can start is started, and its child is born
@@ -379,7 +386,7 @@ record Further (goal : Goal) (past : List Event) (n : ℕ) (o : Option Stage) : 
   lower : left (round ++ past) < n
   stays : stage_of (round ++ past) ≡ o
 
--- the stages above
+-- the number of stages above
 abbrev above : Option Stage → ℕ
 above None = 3
 above (Some stage.Sysinit) = 2
@@ -448,24 +455,24 @@ starting goal round past it i asks = record {
   born =
       and_from (may_come goal (Birth i n) (Asked i Start ∷ now)) (is_sound goal (Asked i Start ∷ now)) may_birth asked
 
-  wanting : (list_any (λ child. is_of i child && wants_look child.id (Told i ∷ Birth i n ∷ Asked i Start ∷ now))
-      (unreaped_children (Birth i n ∷ Asked i Start ∷ now)) ≡ true) ⊎ (list_any (λ child. not (is_of i child)
+  wanting : (list_any (λ child. is_child_of i child && wants_look child.id (Told i ∷ Birth i n ∷ Asked i Start ∷ now))
+      (unreaped_children (Birth i n ∷ Asked i Start ∷ now)) ≡ true) ⊎ (list_any (λ child. not (is_child_of i child)
       && wants_look child.id (Told i ∷ Birth i n ∷ Asked i Start ∷ now)) (known_children now) ≡ true) → ⊥
-  wanting (inl h) = wrong (passing (λ child. is_of i child && wants_look child.id
+  wanting (inl h) = wrong (passing (λ child. is_child_of i child && wants_look child.id
       (Told i ∷ Birth i n ∷ Asked i Start ∷ now)) (unreaped_children (Birth i n ∷ Asked i Start ∷ now)) h) where
-        wrong : Passing (λ child. is_of i child && wants_look child.id (Told i ∷ Birth i n ∷ Asked i Start ∷ now))
+        wrong : Passing (λ child. is_child_of i child && wants_look child.id (Told i ∷ Birth i n ∷ Asked i Start ∷ now))
             (unreaped_children (Birth i n ∷ Asked i Start ∷ now)) → ⊥
         wrong there =
             let parts =
-            and_parts (is_of i there.item)
+            and_parts (is_child_of i there.item)
             (not (same_id there.item.id i) && wants_look there.item.id now) there.passes in
             both_ways (same_id there.item.id i) (same_id-flip i there.item.id parts.0)
             (not-true (same_id there.item.id i)
             (and_parts (not (same_id there.item.id i)) (wants_look there.item.id now) parts.1).0)
   wanting (inr h) = both_ways (list_any (λ (child : Child). wants_look child.id now) (known_children now))
-      (any_less (λ child. not (is_of i child) && wants_look child.id (Told i ∷ Birth i n ∷ Asked i Start ∷ now))
+      (any_less (λ child. not (is_child_of i child) && wants_look child.id (Told i ∷ Birth i n ∷ Asked i Start ∷ now))
       (λ child. wants_look child.id now) (λ child both. (and_parts (not (same_id child.id i)) (wants_look child.id now)
-      (and_parts (not (is_of i child)) (not (same_id child.id i) && wants_look child.id now) both).1).1)
+      (and_parts (not (is_child_of i child)) (not (same_id child.id i) && wants_look child.id now) both).1).1)
       (known_children now) h) it.bare
 
   -- its child is kept
@@ -541,7 +548,6 @@ starting goal round past it i asks = record {
   add : (a b c : ℕ) → a < b → a + c < b + c
   add a b c h = omega arith
 
--- an entry is held
 holding : (goal : Goal) (round past : List Event) → Free goal round past → (i : List ℕ) → is_due goal (step.Hold i)
     (round ++ past) ≡ true → Further goal past (left (round ++ past)) (stage_of (round ++ past))
 holding goal round past it i asks = record {
@@ -620,7 +626,6 @@ holding goal round past it i asks = record {
   add : (a b c : ℕ) → a < b → a + c < b + c
   add a b c h = omega arith
 
--- the level is announced
 settling : (goal : Goal) (round past : List Event) → Free goal round past → (level : Level)
     → is_due goal (step.Settle level) (round ++ past) ≡ true → is_announced (round ++ past) ≡ false
     → Further goal past (left (round ++ past)) (stage_of (round ++ past))
@@ -648,7 +653,7 @@ settling goal round past it level asks untold = record {
   add : (a b : ℕ) → b ≡ 1 → a + 0 < a + b
   add a b h = omega arith
 
--- where nothing of these is due, nothing is
+-- if none of these is due, nothing is due
 abbrev is_start_step : Step → Bool
 is_start_step (step.Order id Start) = true
 is_start_step (step.Hold id) = true
@@ -693,8 +698,8 @@ no_stops (id ∷ ids) past none =
       of_id [] h = refl
       of_id (x ∷ xs) h =
           let parts = or_parts (is_excluded past x) (list_any (is_excluded past) xs) h in
-          nil_join (steps_if (is_of id x) (stop_step id (stop_due x past))) (stops_of id xs past)
-          (one (is_of id x) (is_excluded past x) parts.0) (of_id xs parts.1) where
+          nil_join (steps_if (is_child_of id x) (stop_step id (stop_due x past))) (stops_of id xs past)
+          (one (is_child_of id x) (is_excluded past x) parts.0) (of_id xs parts.1) where
             one : (b c : Bool) → c ≡ false → steps_if b (stop_step id
                 (cond (c && not (is_missed x past)) (stop_by (grace_of past) (time_of past) (spell_hits x past)) None))
                 ≡ []
@@ -712,7 +717,7 @@ no_looks (id ∷ ids) past none = nil_join (step_if (can_look id past) (step.Ord
           let outer =
           and_parts (has_child id (known_children past) && is_none (open_of id past)) (wants_look id past) can in
           both_ways (list_any (λ (child : Child). wants_look child.id past) (known_children past))
-          (any_less (is_of id) (λ (child : Child). wants_look child.id past)
+          (any_less (is_child_of id) (λ (child : Child). wants_look child.id past)
           (λ child own. ap (λ i. wants_look i past) (sym (same_id-is id child.id own)) ∙ outer.1) (known_children past)
           (and_parts (has_child id (known_children past)) (is_none (open_of id past)) outer.0).0) none
 
@@ -720,17 +725,17 @@ steps_none : (b : Bool) (xs : List Step) → xs ≡ [] → steps_if b xs ≡ []
 steps_none true xs h = h
 steps_none false xs h = refl
 
--- of the wishes
+-- no request is pending
 record Wishless (past : List Event) : Type 0 where
   reexec : wants_reexec past ≡ false
   reread : wants_reread past ≡ false
   level : is_some (level_wish past) ≡ false
-  news : (in_run (stage_of past) && keeps_news past) ≡ false
+  news : (in_run (stage_of past) && are_calls_pending past) ≡ false
 
-wishless : (past : List Event) → wish_stands past ≡ false → Wishless past
+wishless : (past : List Event) → is_request_pending past ≡ false → Wishless past
 wishless past h =
     let p2 = or_parts (wants_reexec past || wants_reread past || is_some (level_wish past))
-    (in_run (stage_of past) && keeps_news past) h in
+    (in_run (stage_of past) && are_calls_pending past) h in
     let p1 = or_parts (wants_reexec past || wants_reread past) (is_some (level_wish past)) p2.0 in
     let p0 = or_parts (wants_reexec past) (wants_reread past) p1.0 in
     record { reexec = p0.0; reread = p0.1; level = p1.1; news = p2.1 }
@@ -738,13 +743,13 @@ wishless past h =
 no_level : (past : List Event) (o : Option Goal) → is_some o ≡ false → enter_level o past ≡ []
 no_level past o h = grind arith
 
-no_news : (past : List Event) (running : Bool) → (running && keeps_news past) ≡ false
+no_news : (past : List Event) (running : Bool) → (running && are_calls_pending past) ≡ false
     → steps_if (is_quiet past && running) (power_steps powers past ++ letter_steps letters past) ≡ []
 no_news past false h =
     ap (λ b. steps_if b (power_steps powers past ++ letter_steps letters past)) (and_false (is_quiet past))
 no_news past true h = grind arith
 
-all_rest : (goal : Goal) (past : List Event) → is_some (stage_of past) ≡ true → wish_stands past ≡ false
+all_rest : (goal : Goal) (past : List Event) → is_some (stage_of past) ≡ true → is_request_pending past ≡ false
     → list_any (is_excluded past) (known_children past) ≡ false
     → list_any (λ (child : Child). wants_look child.id past) (known_children past) ≡ false → due_starts past ≡ []
     → due_stage goal past ≡ [] → due_settle past ≡ [] → AtRest goal past
@@ -770,9 +775,9 @@ climbing goal round past it s n over next climbs lower = record {
       kind = it.kind.kind;
       nudged = it.kind.nudged;
       unwished = or_from (wants_reexec now || wants_reread now || is_some (other_than (Some s) None)) (in_run (Some s)
-          && keeps_news now) (or_from (wants_reexec now || wants_reread now) (is_some (other_than (Some s) None))
+          && are_calls_pending now) (or_from (wants_reexec now || wants_reread now) (is_some (other_than (Some s) None))
           (or_from (wants_reexec now) (wants_reread now) w.reexec w.reread) (no_other s))
-          (and_right (in_run (Some s)) (keeps_news now) it.kind.news);
+          (and_right (in_run (Some s)) (are_calls_pending now) it.kind.news);
       staged = refl;
       news = it.kind.news;
     };
@@ -815,7 +820,7 @@ climbing goal round past it s n over next climbs lower = record {
       may_live (Some x) child.act (Some s) && (not (waited_of x) && not (starts_of x s))) o false) (sym is) ∙ by)).0
       (not-true (may_live (Some e) child.act (Some s)) (ap (λ o. not (may_live o child.act (Some s))) (sym is) ∙ own))
 
--- one more of them, or a rest
+-- one more of these steps, or a rest
 abbrev Goes : Goal → List Event → List Event → Type 0
 Goes goal round past = (Further goal past (left (round ++ past)) (stage_of (round ++ past))
     ⊎ Higher goal past (above (stage_of (round ++ past)))) ⊎ AtRest goal (round ++ past)
@@ -852,11 +857,13 @@ go_on goal round past it = starts (starts_among (table_of now) now) refl (starts
               it.kind.idle ∙ ap (λ b. steps_if (not b) (settle_step (stage_of now) now)) untold
               ∙ ap (λ o. settle_step o now) is ∙ ap (λ b. step_if b (step.Settle level)) settled
     settles false false untold unsettled = rests none over
-        (steps_none (not (wish_stands now) && is_idle now && not (is_announced now)) (settle_step (stage_of now) now)
+        (steps_none (not (is_request_pending now) && is_idle now && not (is_announced now))
+        (settle_step (stage_of now) now)
         (ap (λ o. settle_step o now) is ∙ ap (λ b. step_if b (step.Settle level)) unsettled))
     settles true c told settled = rests none over
-        (ap (λ b. steps_if (not (wish_stands now) && is_idle now && not b) (settle_step (stage_of now) now)) told
-        ∙ ap (λ b. steps_if b (settle_step (stage_of now) now)) (and_false (not (wish_stands now) && is_idle now)))
+        (ap (λ b. steps_if (not (is_request_pending now) && is_idle now && not b) (settle_step (stage_of now) now)) told
+        ∙ ap (λ b. steps_if b (settle_step (stage_of now) now))
+        (and_false (not (is_request_pending now) && is_idle now)))
 
   -- in Sysinit and Boot, by the stage that comes next
   early : (o : Option Stage) (s : Stage) → stage_of now ≡ o → next_stage (goal_of goal now) o
@@ -866,7 +873,7 @@ go_on goal round past it = starts (starts_among (table_of now) now) refl (starts
       inl (inr (subst (λ x. Higher goal past (above x)) (sym is) (climbing goal round past it s (above o) over
       (ap (next_stage (goal_of goal now)) is ∙ next) (ap (λ x. is_climb x s) is ∙ climbs) lower)))
   early o s is next climbs lower quiet none false over = rests none (ap (λ b. steps_if b
-      (next_stage (goal_of goal now) (stage_of now))) over) (steps_none (not (wish_stands now) && is_idle now
+      (next_stage (goal_of goal now) (stage_of now))) over) (steps_none (not (is_request_pending now) && is_idle now
       && not (is_announced now)) (settle_step (stage_of now) now) (ap (λ x. settle_step x now) is ∙ quiet))
 
   sysinit : (b : Bool) → same_level (goal_of goal now).level S ≡ b → stage_of now ≡ Some stage.Sysinit
@@ -947,8 +954,8 @@ to_rest goal past (suc j) round it low = along goal past (suc j) (λ one state h
       down : (a : ℕ) → suc a ≤ suc j → a ≤ j
       down a h = omega arith
 
--- what came of it is an undisturbed round
-asks_nothing : (round : List Event) → list_all is_kind round ≡ true → is_unasked round ≡ true
+-- the result is an undisturbed round
+asks_nothing : (round : List Event) → list_all is_kind round ≡ true → has_no_request round ≡ true
 asks_nothing [] h = refl
 asks_nothing (NewTable table ∷ round) h = absurd (false≢true h)
 asks_nothing (Got request ∷ round) h = absurd (false≢true h)
@@ -1005,9 +1012,12 @@ all_pass p each (x ∷ xs) = and_from (p x) (list_all p xs) (each x) (all_pass p
 
 undisturbed : (goal : Goal) (round past : List Event) → is_sound goal past ≡ true → is_idle past ≡ true
     → Free goal round past → is_undisturbed round past ≡ true
-undisturbed goal round past sound idle it = and_from (is_unasked round && list_any is_nudge round && moves_on round past
-    && ends) hits (and_from (is_unasked round && list_any is_nudge round && moves_on round past) ends (and_from
-    (is_unasked round && list_any is_nudge round) (moves_on round past) (and_from (is_unasked round) (list_any is_nudge
+undisturbed goal round past sound idle it =
+    and_from (has_no_request round && list_any is_nudge round && makes_kills_due round past
+    && ends) hits
+    (and_from (has_no_request round && list_any is_nudge round && makes_kills_due round past) ends (and_from
+    (has_no_request round && list_any is_nudge round) (makes_kills_due round past)
+    (and_from (has_no_request round) (list_any is_nudge
     round) (asks_nothing round it.kind.kind) it.kind.nudged) (or_right (nat_le (time_of past + grace_of past) (time_of
     (round ++ past))) (list_all (is_gone round past) (filter (has_kill_to_come past) (kept_children past))) (all_pass
     (is_gone round past) (λ child. left child.id (has_child child.id (kept_children (round ++ past))) refl) (filter
@@ -1028,7 +1038,7 @@ undisturbed goal round past sound idle it = and_from (is_unasked round && list_a
       left id true there = it.gone id there
       left id false none = refl
 
--- at its beginning no child is left that was known
+-- at the beginning no known child is left
 first_free : (goal : Goal) (past : List Event) (bare : Bare goal past) → Free goal bare.round past
 first_free goal past it = record {
   kind = it.state;
@@ -1047,11 +1057,11 @@ record Behind (goal : Goal) (past : List Event) : Type 0 where
   quiet : is_undisturbed round past ≡ true
   rest : AtRest goal (round ++ past)
   idle : is_idle (round ++ past) ≡ true
-  news : keeps_news (round ++ past) ≡ false
-  unasked : is_unasked round ≡ true
+  news : are_calls_pending (round ++ past) ≡ false
+  unasked : has_no_request round ≡ true
 
 one_behind : (goal : Goal) (past : List Event) → is_sound goal past ≡ true → AtRest goal past → is_idle past ≡ true
-    → keeps_news past ≡ false → Behind goal past
+    → are_calls_pending past ≡ false → Behind goal past
 one_behind goal past sound rest idle news = record {
   round = it.round;
   sound = it.state.kind.sound;
@@ -1072,19 +1082,19 @@ one_behind goal past sound rest idle news = record {
   it = to_rest goal past (above (stage_of (bare.round ++ past))) bare.round (first_free goal past bare)
       (same_most (above (stage_of (bare.round ++ past))))
 
--- so many of them
+-- this many rounds
 record Chain (goal : Goal) (k : ℕ) (past : List Event) : Type 0 where
   rounds : List (List Event)
   many : length rounds ≡ k
   sound : is_sound goal (after_rounds rounds past) ≡ true
-  quiet : AreUnasked goal rounds past
+  quiet : AreRoundsWithoutRequests goal rounds past
   all : undisturbed_among rounds past ≡ k
   rest : AtRest goal (after_rounds rounds past)
   idle : is_idle (after_rounds rounds past) ≡ true
-  news : keeps_news (after_rounds rounds past) ≡ false
+  news : are_calls_pending (after_rounds rounds past) ≡ false
 
 chain : (goal : Goal) (past : List Event) → is_sound goal past ≡ true → AtRest goal past → is_idle past ≡ true
-    → keeps_news past ≡ false → (k : ℕ) → Chain goal k past
+    → are_calls_pending past ≡ false → (k : ℕ) → Chain goal k past
 chain goal past sound rest idle news zero = record {
   rounds = [];
   many = refl;
@@ -1115,11 +1125,12 @@ chain goal past sound rest idle news (suc k) = longer_by (chain goal past sound 
       one_more false n own is = absurd (false≢true own)
 
 pub rounds_exist : (goal : Goal) (later past : List Event) (k : ℕ) → is_sound goal (later ++ past) ≡ true
-    → AtRest goal past → is_idle past ≡ true → keeps_news past ≡ false
+    → AtRest goal past → is_idle past ≡ true → are_calls_pending past ≡ false
     → (rounds : List (List Event)) × (length rounds ≡ k) × (is_sound goal (after_rounds rounds past) ≡ true)
-    × AreUnasked goal rounds past × (undisturbed_among rounds past ≡ k)
+    × AreRoundsWithoutRequests goal rounds past × (undisturbed_among rounds past ≡ k)
 rounds_exist goal later past k sound rest idle news =
     read (chain goal past (sound_rest goal later past sound rest) rest idle news k) where
       read : Chain goal k past → (rounds : List (List Event)) × (length rounds ≡ k) × (is_sound goal
-          (after_rounds rounds past) ≡ true) × AreUnasked goal rounds past × (undisturbed_among rounds past ≡ k)
+          (after_rounds rounds past) ≡ true) × AreRoundsWithoutRequests goal rounds past
+          × (undisturbed_among rounds past ≡ k)
       read it = (it.rounds, it.many, it.sound, it.quiet, it.all)

@@ -1,16 +1,17 @@
--- Over a calm stretch a waited entry starts once.
+-- Over a calm stretch a waited entry starts only once.
 use Rattle.core_waiting.proofs.Words.{◌≡◌, refl, sym, ◌∙◌, ap, subst, ℕ, Bool, true, false, not, ◌&&◌, ◌||◌, List, []}
 use Rattle.core_waiting.proofs.Words.{◌∷◌, ◌++◌, Some, option_map_or, false≢true, false_from_ne_true, and_parts}
 use Rattle.core_waiting.proofs.Words.{and_from, Entry, Act, Start, same_id, wanted_by, is_limited, stays_called}
 use Rattle.core_waiting.proofs.Words.{waited_of, same_id-self, entry_of, NewTable, Enter, Asked, Goal, Event, table_of}
-use Rattle.core_waiting.proofs.Words.{starts_now, nothing_runs, is_asked, is_called, is_wanted, is_sound, MayRun}
+use Rattle.core_waiting.proofs.Words.{starts_now, has_no_running_child, is_asked, is_called, is_wanted, is_sound}
+use Rattle.core_waiting.proofs.Words.{MayRun}
 use Rattle.core_waiting.proofs.Words.{due_facts, sound_holds, step_at, is_calm, is_waited_id}
 use Rattle.init_words.specs.declared.actions.Act.TheVariants as act
 use Rattle.trace_events.specs.declared.happenings.Happening.TheVariants.{Call, Power}
 use Rattle.trace_events.specs.declared.steps.Step.TheVariants as step
 use Rattle.core_waiting.proofs.Rest.{waited_free}
 
--- what an action that is not kept up asks for is less where less is fresh and called, whatever runs
+-- an action without a respawn limit wants no more if fewer things are fresh and called, whatever runs
 less_wanted : (a : Act) (idle other fresh was_fresh called was_called : Bool) → is_limited a ≡ false
     → (fresh ≡ true → was_fresh ≡ true) → (called ≡ true → was_called ≡ true) → wanted_by a idle fresh called ≡ true
     → wanted_by a other was_fresh was_called ≡ true
@@ -36,9 +37,10 @@ wanted_then : (e : Entry) (later past : List Event) → is_limited e.act ≡ fal
     → (is_called e later ≡ true → is_called e past ≡ true) → is_wanted e later ≡ true → is_wanted e past ≡ true
 wanted_then e later past free same f g h =
     let parts = and_parts (starts_now e later)
-    (wanted_by e.act (nothing_runs e.id later) (not (is_asked e.id later)) (is_called e later)) h in
-    and_from (starts_now e past) (wanted_by e.act (nothing_runs e.id past) (not (is_asked e.id past))
-    (is_called e past)) (sym same ∙ parts.0) (less_wanted e.act (nothing_runs e.id later) (nothing_runs e.id past)
+    (wanted_by e.act (has_no_running_child e.id later) (not (is_asked e.id later)) (is_called e later)) h in
+    and_from (starts_now e past) (wanted_by e.act (has_no_running_child e.id past) (not (is_asked e.id past))
+    (is_called e past)) (sym same ∙ parts.0)
+    (less_wanted e.act (has_no_running_child e.id later) (has_no_running_child e.id past)
     (not (is_asked e.id later)) (not (is_asked e.id past)) (is_called e later) (is_called e past) free f g parts.1)
 
 pub calm_before : (e : Entry) (happening : Event) (past : List Event) → is_limited e.act ≡ false
@@ -76,7 +78,7 @@ same_table (Power kind ∷ between) past calm = absurd (false≢true calm)
 same_table (Call letter ∷ between) past calm = absurd (false≢true calm)
 same_table (happening ∷ between) past calm = same_table between past calm
 
--- once it was asked it is not wanted
+-- once it was asked, it is not wanted
 asked_done : (a : Act) (starts idle called : Bool) → is_limited a ≡ false
     → (starts && wanted_by a idle false ((stays_called a || false) && called)) ≡ false
 asked_done a false idle called free = refl
@@ -87,10 +89,11 @@ asked_done _ true idle called free = refl
 pub not_again : (e : Entry) (past : List Event) → is_limited e.act ≡ false
     → is_wanted e (Asked e.id Start ∷ past) ≡ false
 not_again e past free = at (same_id e.id e.id) (same_id-self e.id) where
-  at : (b : Bool) → b ≡ true → (starts_now e past && wanted_by e.act (nothing_runs e.id (Asked e.id Start ∷ past))
+  at : (b : Bool) → b ≡ true
+      → (starts_now e past && wanted_by e.act (has_no_running_child e.id (Asked e.id Start ∷ past))
       (not (b || is_asked e.id past)) ((stays_called e.act || not b) && is_called e past)) ≡ false
   at true own =
-      asked_done e.act (starts_now e past) (nothing_runs e.id (Asked e.id Start ∷ past)) (is_called e past) free
+      asked_done e.act (starts_now e past) (has_no_running_child e.id (Asked e.id Start ∷ past)) (is_called e past) free
   at false own = absurd (false≢true own)
 
 pub starts_once : (goal : Goal) (later between past : List Event) (id : List ℕ) → is_sound goal (later ++ Asked id Start

@@ -1,5 +1,5 @@
--- Between two rests, where what was awaited at the first is gone at the second, a waited entry was started, or the
--- level is announced.
+-- If the children that init waited for at one rest are gone at the next, a waited entry was started in between, or the
+-- level is announced settled.
 use Rattle.core_waiting.proofs.Words.{arith, ◌≡◌, refl, sym, ◌∙◌, ap, ℕ, Bool, true, false, not, ◌&&◌, ◌||◌, cond, List}
 use Rattle.core_waiting.proofs.Words.{[], ◌∷◌, ◌++◌, filter, ◌⊎◌, inl, inr, Option, Some, None, list_any, list_all}
 use Rattle.core_waiting.proofs.Words.{option_map_or, false≢true, false_from_ne_true, true_from_ne_false, and_parts}
@@ -7,8 +7,9 @@ use Rattle.core_waiting.proofs.Words.{and_from, or_left, or_right, or_parts, or_
 use Rattle.core_waiting.proofs.Words.{Look, Term, Kill, same_id, wanted_by, is_limited, waited_of, same_id-is}
 use Rattle.core_waiting.proofs.Words.{same_id-self, both_ways, falsely, or_either, not_from, any_less, Passing, passing}
 use Rattle.core_waiting.proofs.Words.{entry_of, NewTable, Enter, Asked, Birth, Told, Goal, Event, table_of, stage_of}
-use Rattle.core_waiting.proofs.Words.{Child, is_of, has_child, open_of, is_quiet, is_idle, newborn, kept_children}
-use Rattle.core_waiting.proofs.Words.{starts_now, is_order, nothing_runs, is_asked, is_called, is_wanted, may_live}
+use Rattle.core_waiting.proofs.Words.{Child, is_child_of, has_child, open_of, is_quiet, is_idle, newborn, kept_children}
+use Rattle.core_waiting.proofs.Words.{starts_now, is_order, has_no_running_child, is_asked, is_called, is_wanted}
+use Rattle.core_waiting.proofs.Words.{may_live}
 use Rattle.core_waiting.proofs.Words.{is_excluded, may_come, is_sound, kept_before_told, undone_is_open, is_order-is}
 use Rattle.core_waiting.proofs.Words.{due_facts, sound_holds, start_undone, born_ready, placed_spared, quiet_start}
 use Rattle.core_waiting.proofs.Words.{is_table, at_moment, sound_step, Excluded, WaitedFor, InTheWay, AtRest}
@@ -21,7 +22,7 @@ use Rattle.core_waiting.proofs.Rest.{announced_or_awaited, entry_awaited, idle_q
 use Rattle.core_waiting.proofs.Settled.{found_id}
 use Rattle.core_waiting.proofs.Once.{calm_before, calm_parts, wanted_before, same_table, not_again}
 
--- a calm stretch of a sound trace, happening by happening
+-- a calm stretch of a sound trace, one happening at a time
 no_table : (happening : Event) → is_calm (happening ∷ []) ≡ true → is_table happening ≡ false
 no_table (NewTable table) calm = absurd (false≢true calm)
 no_table happening calm = refl
@@ -52,7 +53,7 @@ pub excluded_still : (between past : List Event) → is_calm between ≡ true �
 excluded_still between past calm child =
     λ i. not (may_live (entry_of child.id (same_table between past calm i)) child.act (same_stage between past calm i))
 
--- an id that is not started has no open Start behind the stretch, and so no new child
+-- an id that is not started has no open Start after the stretch, and so no new child
 not_ordered : (b : Bool) (ask : OrderKind) (o : Option OrderKind) → is_order Start (Some ask) ≡ false
     → is_order Start o ≡ false → is_order Start (cond b (Some ask) o) ≡ false
 not_ordered true ask o other rest = other
@@ -81,8 +82,9 @@ no_start id (happening ∷ between) past free none = no_start id between past fr
 
 pub kept_back : (goal : Goal) (id : List ℕ) (q : Child → Bool) (between past : List Event)
     → is_sound goal (between ++ past) ≡ true → is_calm between ≡ true → is_order Start (open_of id past) ≡ false
-    → list_any (is_start_of id) between ≡ false → list_any (λ x. is_of id x && q x) (kept_children (between ++ past))
-    ≡ true → list_any (λ x. is_of id x && q x) (kept_children past) ≡ true
+    → list_any (is_start_of id) between ≡ false
+    → list_any (λ x. is_child_of id x && q x) (kept_children (between ++ past))
+    ≡ true → list_any (λ x. is_child_of id x && q x) (kept_children past) ≡ true
 kept_back goal id q (Asked i Start ∷ between) past sound calm free none there =
     let next = next_of goal (Asked i Start) between past sound calm in
     kept_back goal id q between past next.sound next.calm free
@@ -90,7 +92,7 @@ kept_back goal id q (Asked i Start ∷ between) past sound calm free none there 
 kept_back goal id q (Birth i n ∷ between) past sound calm free none there =
     let next = next_of goal (Birth i n) between past sound calm in
     or_either (same_id id i && q (newborn i n (between ++ past)))
-    (list_any (λ x. is_of id x && q x) (kept_children (between ++ past))) there
+    (list_any (λ x. is_child_of id x && q x) (kept_children (between ++ past))) there
     (λ own. both_ways (is_order Start (open_of id (between ++ past)))
     (ap (is_order Start) (ap (λ x. open_of x (between ++ past)) (same_id-is id i
     (and_parts (same_id id i) (q (newborn i n (between ++ past))) own).0) ∙ undone_is_open i Start (between ++ past)
@@ -99,7 +101,7 @@ kept_back goal id q (Birth i n ∷ between) past sound calm free none there =
 kept_back goal id q (Told i ∷ between) past sound calm free none there =
     let next = next_of goal (Told i) between past sound calm in
     kept_back goal id q between past next.sound next.calm free none
-    (kept_before_told (λ x. is_of id x && q x) i (between ++ past) there)
+    (kept_before_told (λ x. is_child_of id x && q x) i (between ++ past) there)
 kept_back goal id q (happening ∷ between) past sound calm free none there =
     let next = next_of goal happening between past sound calm in
     kept_back goal id q between past next.sound next.calm free none there
@@ -153,7 +155,7 @@ quit_at goal id (happening ∷ between) past sound calm some =
     quit_step goal id happening (between ++ past) next.may next.sound next.here
     (quit_at goal id between past next.sound next.calm some)
 
--- an entry that is kept up is wanted only where nothing of it runs
+-- an entry with a respawn limit is wanted only if it has neither a child nor an open Start
 limited_idle : (a : Act) (starts idle fresh called : Bool) → is_limited a ≡ true
     → (starts && wanted_by a idle fresh called) ≡ true → idle ≡ true
 limited_idle a starts idle fresh called limited h = grind arith
@@ -162,9 +164,9 @@ busy_unlimited : (e : Entry) (past : List Event) → has_child e.id (kept_childr
     → is_limited e.act ≡ false
 busy_unlimited e past there wanted = false_from_ne_true (is_limited e.act)
     (λ limited. false≢true (sym (ap (λ b. not b && not (is_order Start (open_of e.id past))) there) ∙ limited_idle e.act
-    (starts_now e past) (nothing_runs e.id past) (not (is_asked e.id past)) (is_called e past) limited wanted))
+    (starts_now e past) (has_no_running_child e.id past) (not (is_asked e.id past)) (is_called e past) limited wanted))
 
--- why a child is awaited that is not excluded
+-- why init waits for a child that is not excluded
 record Wants (child : Child) (past : List Event) : Type 0 where
   pub entry : Entry
   pub found : entry_of child.id (table_of past) ≡ Some entry
@@ -184,7 +186,7 @@ wants_of child past spared h = read (entry_of child.id (table_of past)) refl (ap
       read None is h = absurd (false≢true h)
       read (Some e) is h = record { entry = e; found = is; asks = asks (waited_of e) (is_wanted e past) h }
 
--- what is awaited behind the stretch and was kept before it was awaited before it
+-- if init waits for a child after the stretch that was kept before it, it waited for it before
 was_awaited : (between past : List Event) → is_calm between ≡ true → (child : Child) → has_child child.id
     (kept_children (between ++ past)) ≡ true → is_awaited (between ++ past) child ≡ true → is_awaited past child ≡ true
 was_awaited between past calm child there h = at (is_excluded (between ++ past) child) refl where
@@ -214,7 +216,8 @@ is_waited_at : (past : List Event) (id : List ℕ) → is_waited_id id past ≡ 
 is_waited_at past id waited (Asked i Start) own = ap (λ x. is_waited_id x past) (sym (same_id-is id i own)) ∙ waited
 is_waited_at past id waited _ own = absurd (false≢true own)
 
--- what is awaited behind a calm stretch was awaited before it and isn't gone, or a waited entry was started in it
+-- if init waits for a child after a calm stretch, it waited for it before and the child is not gone, or a waited entry
+-- was started in the stretch
 pub awaited_from : (goal : Goal) (between past : List Event) → is_sound goal (between ++ past) ≡ true → is_calm between
     ≡ true → is_quiet past ≡ true → list_any (is_awaited (between ++ past)) (kept_children (between ++ past)) ≡ true
     → (list_any (is_waited_start past) between ≡ true)
@@ -229,7 +232,7 @@ awaited_from goal between past sound calm quiet some =
         id = there.item.id
 
         own : has_child there.item.id (kept_children (between ++ past)) ≡ true
-        own = there.within (is_of there.item.id) (same_id-self there.item.id)
+        own = there.within (is_child_of there.item.id) (same_id-self there.item.id)
 
         started : list_any (is_start_of there.item.id) between ≡ true → Quit there.item.id (between ++ past)
             → list_any (is_waited_start past) between ≡ true
@@ -250,7 +253,7 @@ awaited_from goal between past sound calm quiet some =
                   entry_id = found_id there.item.id (table_of (between ++ past)) wants.entry wants.found
 
         left : list_any (is_start_of there.item.id) between ≡ false
-            → Passing (λ x. is_of there.item.id x && is_awaited (between ++ past) x) (kept_children past)
+            → Passing (λ x. is_child_of there.item.id x && is_awaited (between ++ past) x) (kept_children past)
             → list_any (λ y. is_awaited past y && not (is_gone between past y)) (kept_children past) ≡ true
         left none x =
             x.within (λ y. is_awaited past y && not (is_gone between past y)) (and_from (is_awaited past x.item)
@@ -260,8 +263,8 @@ awaited_from goal between past sound calm quiet some =
             (is_start_of x.item.id) between) (ap not kept)
             (ap (λ i. list_any (is_start_of i) between) (sym same) ∙ none))))
           where
-            parts : (is_of there.item.id x.item ≡ true) × (is_awaited (between ++ past) x.item ≡ true)
-            parts = and_parts (is_of there.item.id x.item) (is_awaited (between ++ past) x.item) x.passes
+            parts : (is_child_of there.item.id x.item ≡ true) × (is_awaited (between ++ past) x.item ≡ true)
+            parts = and_parts (is_child_of there.item.id x.item) (is_awaited (between ++ past) x.item) x.passes
 
             same : there.item.id ≡ x.item.id
             same = same_id-is there.item.id x.item.id parts.0
@@ -273,10 +276,12 @@ awaited_from goal between past sound calm quiet some =
             ≡ true) ⊎ (list_any (λ y. is_awaited past y && not (is_gone between past y)) (kept_children past) ≡ true)
         at true begun = inl (started begun (quit_at goal there.item.id between past sound calm begun))
         at false none = inr (left none
-            (passing (λ x. is_of there.item.id x && is_awaited (between ++ past) x) (kept_children past) (kept_back goal
+            (passing (λ x. is_child_of there.item.id x && is_awaited (between ++ past) x) (kept_children past)
+            (kept_back goal
             there.item.id (is_awaited (between ++ past)) between past sound calm
             (quiet_start there.item.id past quiet) none
-            (there.within (λ x. is_of there.item.id x && is_awaited (between ++ past) x) (and_from (is_of there.item.id
+            (there.within (λ x. is_child_of there.item.id x && is_awaited (between ++ past) x)
+            (and_from (is_child_of there.item.id
             there.item) (is_awaited (between ++ past) there.item) (same_id-self there.item.id) there.passes)))))
 
 pub progress : (goal : Goal) (between past : List Event) → is_sound goal (between ++ past) ≡ true

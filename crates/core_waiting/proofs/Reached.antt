@@ -1,20 +1,21 @@
--- Over an undisturbed round a child that lacks a signal is sent one.
+-- Over an undisturbed round, a child that lacks a signal is sent one.
 use Rattle.core_waiting.proofs.Words.{◌≡◌, ◌≤◌, ◌+◌, ◌-◌, refl, sym, ◌∙◌, ap, subst, ◌⊎◌, inl, inr, ℕ, suc, ◌==◌, Bool}
 use Rattle.core_waiting.proofs.Words.{true, false, not, ◌&&◌, cond, nat_le, max, min, List, [], ◌∷◌, ◌++◌, filter, map}
 use Rattle.core_waiting.proofs.Words.{length, Option, length-append, arith, list_any, list_all, false≢true}
 use Rattle.core_waiting.proofs.Words.{false_from_ne_true, and_parts, and_from, or_parts, or_from, le-leb, leb-true}
 use Rattle.core_waiting.proofs.Words.{not-true, CLOCK_LIMIT, OrderKind, Start, Term, same_id, same_id-is, same_id-self}
 use Rattle.core_waiting.proofs.Words.{both_ways, not_from, Passing, passing, Birth, Told, Clock, Goal, Event, Child}
-use Rattle.core_waiting.proofs.Words.{is_of, has_child, open_of, is_quiet, is_idle, grace_of, time_of, kept_children}
+use Rattle.core_waiting.proofs.Words.{is_child_of, has_child, open_of, is_quiet, is_idle, grace_of, time_of}
+use Rattle.core_waiting.proofs.Words.{kept_children}
 use Rattle.core_waiting.proofs.Words.{is_order, is_excluded, Signal, told_at, untold_hits, is_birth_of, in_spell}
-use Rattle.core_waiting.proofs.Words.{tells_hits, spell_hits, is_missed, is_ripe, is_sound, is_order-is, idle_none}
+use Rattle.core_waiting.proofs.Words.{tells_hits, spell_hits, is_missed, is_grace_over, is_sound, is_order-is}
+use Rattle.core_waiting.proofs.Words.{idle_none}
 use Rattle.core_waiting.proofs.Words.{undone_is_open, start_undone, quiet_start, AtRest, are_in_force, is_stopping}
 use Rattle.core_waiting.proofs.Words.{is_calm, is_gone, is_start_of, signals_to_come, has_kill_to_come, is_nudge}
 use Rattle.std.proofs.Common.{append_assoc}
 use Rattle.core_waiting.proofs.Stops.{all_from, stops_at}
 use Rattle.core_waiting.proofs.Progress.{Next, next_of, excluded_still, filtered_none, no_start, kept_back, quit_at}
 
--- lists
 joined : (p : Signal → Bool) (xs ys : List Signal) → list_all p xs ≡ true → list_all p ys ≡ true
     → list_all p (xs ++ ys) ≡ true
 joined p [] ys f g = grind arith
@@ -28,7 +29,7 @@ pub none_fails : (p : Child → Bool) (xs : List Child) → list_all p xs ≡ tr
 none_fails p [] h = grind arith
 none_fails p (x ∷ xs) h = grind (arith, none_fails p xs)
 
--- what all pass, one that is among them passes
+-- what all elements pass, each one found among them passes
 pub passes_among : (p q : Child → Bool) (xs : List Child) → list_all p xs ≡ true → (there : Passing q xs)
     → p there.item ≡ true
 passes_among p q xs all there = at (p there.item) refl where
@@ -37,7 +38,7 @@ passes_among p q xs all there = at (p there.item) refl where
   at false is = both_ways (list_any (λ x. not (p x)) xs) (there.within (λ x. not (p x)) (not_from (p there.item) is))
       (none_fails p xs all)
 
--- the Hits of a spell were told by now
+-- the signals of a spell were told by now
 abbrev by_now : ℕ → Signal → Bool
 by_now now signal = nat_le signal.time now
 
@@ -71,11 +72,11 @@ told_by_now child (Told i ∷ past) = cut (by_now (time_of past)) (in_spell chil
 told_by_now child (happening ∷ past) =
     cut (by_now (time_of past)) (in_spell child happening past) (spell_hits child past) (told_by_now child past)
 
--- where no order is open, no Start is
+-- if no order is open, no Start is
 pub none_open : (id : List ℕ) (past : List Event) → is_idle past ≡ true → is_order Start (open_of id past) ≡ false
 none_open id past idle = ap (is_order Start) (idle_none id past idle)
 
--- an id that is not started in a calm stretch has no birth there
+-- an id that is not started in a calm stretch has no birth in it
 pub unborn : (goal : Goal) (id : List ℕ) (happening : Event) (between past : List Event)
     → Next goal happening between past → is_order Start (open_of id past) ≡ false
     → list_any (is_start_of id) between ≡ false → is_birth_of id happening ≡ false
@@ -85,7 +86,7 @@ unborn goal id (Birth i n) between past next free none = false_from_ne_true (sam
     (is_order-is Start _ (start_undone goal i n (between ++ past) next.may)))) (no_start id between past free none))
 unborn goal id happening between past next free none = refl
 
--- so the spell of an excluded child of it goes on
+-- so the spell of an excluded child of the id continues
 pub record Grown (child : Child) (between past : List Event) : Type 0 where
   pub new : List Signal
   pub is : spell_hits child (between ++ past) ≡ new ++ spell_hits child past
@@ -117,17 +118,17 @@ grown goal child (happening ∷ between) past sound calm free none own =
             ∙ sym (append_assoc (tells_hits child happening (between ++ past)) before.new (spell_hits child past));
       }
 
--- of an excluded child whose stop is under way behind the round
+-- an excluded child that is being stopped after the round
 sent : (grace now was k : ℕ) (hits new : List Signal) → list_all (by_now was) hits ≡ true → was + grace ≤ now
     → are_in_force grace now (new ++ hits) ≡ true → 2 - length hits ≤ suc k → 2 - length (new ++ hits) ≤ k
 sent grace now was k [] [] told over force lacks = absurd (false≢true force)
 sent grace now was k [] (signal ∷ new) told over force lacks = omega arith
 sent grace now was k (signal ∷ []) [] told over force lacks =
-    both_ways (is_ripe grace now signal) ripe (not-true (is_ripe grace now signal) parts.1) where
-      parts : (is_order Term signal.order ≡ true) × (not (is_ripe grace now signal) ≡ true)
-      parts = and_parts (is_order Term signal.order) (not (is_ripe grace now signal)) force
+    both_ways (is_grace_over grace now signal) ripe (not-true (is_grace_over grace now signal) parts.1) where
+      parts : (is_order Term signal.order ≡ true) × (not (is_grace_over grace now signal) ≡ true)
+      parts = and_parts (is_order Term signal.order) (not (is_grace_over grace now signal)) force
 
-      ripe : is_ripe grace now signal ≡ true
+      ripe : is_grace_over grace now signal ≡ true
       ripe =
           let before : signal.time ≤ was = leb-true signal.time was (and_parts (nat_le signal.time was) true told).0 in
           and_from (is_order Term signal.order) (nat_le (signal.time + grace) now) parts.0
@@ -137,7 +138,7 @@ sent grace now was k (signal ∷ []) (first ∷ new) told over force lacks = let
 sent grace now was k (signal ∷ first ∷ hits) new told over force lacks = let n =
     length-append new (signal ∷ first ∷ hits) in omega (arith, n)
 
--- the child that lacks most lacks one less behind an undisturbed round
+-- the child that lacks most lacks one signal fewer after an undisturbed round
 lacks_excluded : (b : Bool) (n k : ℕ) → not (nat_le (cond b n 0) k) ≡ true → b ≡ true
 lacks_excluded true n k h = refl
 lacks_excluded false n k h = both_ways (nat_le 0 k) (le-leb 0 k (omega arith)) (not-true (nat_le 0 k) h)
@@ -146,7 +147,7 @@ same_grace : (between past : List Event) → is_calm between ≡ true → grace_
 same_grace [] past calm = grind arith
 same_grace (happening ∷ between) past calm = grind (arith, same_grace between past)
 
--- what a child lacks
+-- the child lacks at most `k` signals
 abbrev pub lacks : ℕ → List Event → Child → Bool
 lacks k past child = nat_le (signals_to_come past child) k
 
@@ -160,12 +161,12 @@ of_lacks : (k : ℕ) (past : List Event) (child : Child) → is_excluded past ch
 of_lacks k past child own less = ap (λ b. nat_le (cond b (2 - length (spell_hits child past)) 0) k) own
     ∙ le-leb (2 - length (spell_hits child past)) k less
 
--- the signals of a child that is being stopped at its end
+-- the signals of a child that is being stopped at the end of the round
 stopped_force : (past : List Event) (child : Child) → is_excluded past child ≡ true → is_missed child past ≡ false
     → is_stopping past child ≡ true → are_in_force (grace_of past) (time_of past) (spell_hits child past) ≡ true
 stopped_force past child own hit h = grind arith
 
--- one that doesn't lack just the KILL is sent one at once, or lacks none
+-- a child that lacks more than just the KILL is sent a signal at once, or lacks none
 sent_at_once : (grace now k : ℕ) (hits new : List Signal) → (2 - length hits == 1) ≡ false
     → are_in_force grace now (new ++ hits) ≡ true → 2 - length hits ≤ suc k → 2 - length (new ++ hits) ≤ k
 sent_at_once grace now k [] [] other force lacks = absurd (false≢true force)
@@ -174,7 +175,7 @@ sent_at_once grace now k (signal ∷ []) new other force lacks = absurd (false�
 sent_at_once grace now k (signal ∷ first ∷ hits) new other force lacks = let n =
     length-append new (signal ∷ first ∷ hits) in omega (arith, n)
 
--- what of a round is known here
+-- what is known of the round here
 pub record Round (goal : Goal) (round past : List Event) : Type 0 where
   pub sound : is_sound goal (round ++ past) ≡ true
   pub sound_before : is_sound goal past ≡ true
@@ -187,7 +188,7 @@ pub record Round (goal : Goal) (round past : List Event) : Type 0 where
   pub rest : AtRest goal (round ++ past)
   pub idle_later : is_idle (round ++ past) ≡ true
 
--- the child that lacks most lacks one less behind it
+-- the child that lacks most lacks one signal fewer after the round
 pub fewer_signals : (goal : Goal) (round past : List Event) → Round goal round past → (k : ℕ) → list_all (lacks (suc k)
     past) (kept_children past) ≡ true → list_all (lacks k (round ++ past)) (kept_children (round ++ past)) ≡ true
 fewer_signals goal round past it k all = all_from (lacks k now) (kept_children now) (false_from_ne_true
@@ -204,20 +205,20 @@ fewer_signals goal round past it k all = all_from (lacks k now) (kept_children n
       stays : Child → Bool
       stays child = fails child && (is_stopping now child && not (is_missed child now))
 
-      -- it was there before
+      -- the child was there before
       was : (id : List ℕ) → list_any (is_start_of id) round ≡ false → has_child id (kept_children now) ≡ true
-          → Passing (λ x. is_of id x && stays x) (kept_children past) → ⊥
+          → Passing (λ x. is_child_of id x && stays x) (kept_children past) → ⊥
       was id none here there = both_ways (lacks k now child) (of_lacks k now child own
           (subst (λ hits. 2 - length hits ≤ k) (sym more.is) fewer)) (not-true (lacks k now child) two.0) where
             child : Child
             child = there.item
 
             same : id ≡ child.id
-            same = same_id-is id child.id (and_parts (is_of id child) (stays child) there.passes).0
+            same = same_id-is id child.id (and_parts (is_child_of id child) (stays child) there.passes).0
 
             two : (fails child ≡ true) × ((is_stopping now child && not (is_missed child now)) ≡ true)
             two = and_parts (fails child) (is_stopping now child && not (is_missed child now))
-                (and_parts (is_of id child) (stays child) there.passes).1
+                (and_parts (is_child_of id child) (stays child) there.passes).1
 
             stop : (is_stopping now child ≡ true) × (not (is_missed child now) ≡ true)
             stop = and_parts (is_stopping now child) (not (is_missed child now)) two.1
@@ -246,7 +247,7 @@ fewer_signals goal round past it k all = all_from (lacks k now) (kept_children n
 
             lacked : 2 - length (spell_hits child past) ≤ suc k
             lacked = lacks_of (suc k) past child own_before
-                (passes_among (lacks (suc k) past) (λ x. is_of id x && stays x) (kept_children past) all there)
+                (passes_among (lacks (suc k) past) (λ x. is_child_of id x && stays x) (kept_children past) all there)
 
             others : list_all (is_gone round past) (filter (has_kill_to_come past) (kept_children past)) ≡ true
                 → (b : Bool) → has_kill_to_come past child ≡ b → 2 - length (more.new ++ spell_hits child past) ≤ k
@@ -273,10 +274,10 @@ fewer_signals goal round past it k all = all_from (lacks k now) (kept_children n
         at : (b : Bool) → list_any (is_start_of there.item.id) round ≡ b → ⊥
         at true some = both_ways (list_any (is_excluded now) (kept_children now)) (there.within (is_excluded now)
             (excluded there.item there.passes)) (quit_at goal there.item.id round past it.sound it.calm some).spared
-        at false none = was there.item.id none (there.within (is_of there.item.id) (same_id-self there.item.id))
-            (passing (λ x. is_of there.item.id x && stays x) (kept_children past)
+        at false none = was there.item.id none (there.within (is_child_of there.item.id) (same_id-self there.item.id))
+            (passing (λ x. is_child_of there.item.id x && stays x) (kept_children past)
             (kept_back goal there.item.id stays round past it.sound it.calm (none_open there.item.id past it.idle) none
-            (there.within (λ x. is_of there.item.id x && stays x) (and_from (is_of there.item.id there.item)
+            (there.within (λ x. is_child_of there.item.id x && stays x) (and_from (is_child_of there.item.id there.item)
             (stays there.item) (same_id-self there.item.id)
             (and_from (fails there.item) (is_stopping now there.item && not
             (is_missed there.item now)) there.passes
@@ -284,7 +285,7 @@ fewer_signals goal round past it k all = all_from (lacks k now) (kept_children n
             (passes_among (is_stopping now) fails (kept_children now) (stops_at goal now it.sound it.rest it.idle_later)
             there) (passes_among (λ child. not (is_missed child now)) fails (kept_children now) it.reached there)))))))
 
--- over a calm stretch no child comes to lack more
+-- over a calm stretch no child lacks more signals than before
 pub no_more_signals : (goal : Goal) (between past : List Event) → is_sound goal (between ++ past) ≡ true
     → is_calm between ≡ true → is_quiet past ≡ true → (k : ℕ) → list_all (lacks k past) (kept_children past) ≡ true
     → list_all (lacks k (between ++ past)) (kept_children (between ++ past)) ≡ true
@@ -298,17 +299,18 @@ no_more_signals goal between past sound calm quiet k all = all_from (lacks k now
     fails child = not (lacks k now child)
 
     was : (id : List ℕ) → list_any (is_start_of id) between ≡ false
-        → Passing (λ x. is_of id x && fails x) (kept_children past) → ⊥
+        → Passing (λ x. is_child_of id x && fails x) (kept_children past) → ⊥
     was id none there = both_ways (lacks k now child) (of_lacks k now child own (subst (λ hits. 2 - length hits ≤ k)
         (sym more.is)
         (no_less k (spell_hits child past) more.new (lacks_of k past child own_before (passes_among (lacks k
-        past) (λ x. is_of id x && fails x) (kept_children past) all there))))) (not-true (lacks k now child) two.1)
+        past) (λ x. is_child_of id x && fails x) (kept_children past) all there)))))
+        (not-true (lacks k now child) two.1)
       where
         child : Child
         child = there.item
 
-        two : (is_of id child ≡ true) × (fails child ≡ true)
-        two = and_parts (is_of id child) (fails child) there.passes
+        two : (is_child_of id child ≡ true) × (fails child ≡ true)
+        two = and_parts (is_child_of id child) (fails child) there.passes
 
         own : is_excluded now child ≡ true
         own = lacks_excluded (is_excluded now child) (2 - length (spell_hits child now)) k two.1
@@ -329,7 +331,8 @@ no_more_signals goal between past sound calm quiet k all = all_from (lacks k now
       at true some = both_ways (list_any (is_excluded now) (kept_children now)) (there.within (is_excluded now)
           (lacks_excluded (is_excluded now there.item) (2 - length (spell_hits there.item now)) k there.passes))
           (quit_at goal there.item.id between past sound calm some).spared
-      at false none = was there.item.id none (passing (λ x. is_of there.item.id x && fails x) (kept_children past)
+      at false none = was there.item.id none (passing (λ x. is_child_of there.item.id x && fails x) (kept_children past)
           (kept_back goal there.item.id fails between past sound calm (quiet_start there.item.id past quiet) none
-          (there.within (λ x. is_of there.item.id x && fails x)
-          (and_from (is_of there.item.id there.item) (fails there.item) (same_id-self there.item.id) there.passes))))
+          (there.within (λ x. is_child_of there.item.id x && fails x)
+          (and_from (is_child_of there.item.id there.item) (fails there.item)
+          (same_id-self there.item.id) there.passes))))

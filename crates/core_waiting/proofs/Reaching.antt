@@ -1,13 +1,15 @@
--- From each rest at which no news waits a settled level can be reached.
+-- From each rest without a pending power event or letter, a settled level can be reached.
 use Rattle.core_waiting.proofs.Words.{◌≡◌, ◌≤◌, refl, sym, ◌∙◌, ap, subst, ℕ, true, false, List, [], ◌∷◌, ◌++◌, length}
-use Rattle.core_waiting.proofs.Words.{Some, arith, Run, Goal, Event, is_idle, stage_of, goal_of, keeps_news, is_sound}
-use Rattle.core_waiting.proofs.Words.{AtRest, is_level_announced, after_rounds, AreUnasked, undisturbed_among}
+use Rattle.core_waiting.proofs.Words.{Some, arith, Run, Goal, Event, is_idle, stage_of, goal_of, are_calls_pending}
+use Rattle.core_waiting.proofs.Words.{is_sound}
+use Rattle.core_waiting.proofs.Words.{AtRest, is_level_announced, after_rounds, AreRoundsWithoutRequests}
+use Rattle.core_waiting.proofs.Words.{undisturbed_among}
 use Rattle.core_waiting.proofs.Words.{destination, rounds_to_come}
 use Rattle.std.proofs.Common.{append_assoc}
 use Rattle.core_waiting.proofs.Arriving.{arrives, arrives_there}
 use Rattle.core_waiting.proofs.Existing.{rounds_exist}
 
--- rounds as one stretch
+-- the rounds as one stretch
 abbrev in_one : List (List Event) → List Event
 in_one [] = []
 in_one (round ∷ earlier) = round ++ in_one earlier
@@ -22,14 +24,15 @@ Reached goal past now = (is_sound goal now ≡ true) × (is_level_announced now 
     × (stage_of now ≡ Some (Run (destination (goal_of goal past).level (stage_of past))))
 
 pub reached : (goal : Goal) (later past : List Event) → is_sound goal (later ++ past) ≡ true → AtRest goal past
-    → is_idle past ≡ true → keeps_news past ≡ false
+    → is_idle past ≡ true → are_calls_pending past ≡ false
     → (onward : List Event) × (is_sound goal (onward ++ past) ≡ true) × (is_level_announced (onward ++ past) ≡ true)
     × (stage_of (onward ++ past) ≡ Some (Run (destination (goal_of goal past).level (stage_of past))))
 reached goal later past sound rest idle news =
     by (rounds_exist goal later past (rounds_to_come goal past) sound rest idle news) where
       by : (rounds : List (List Event)) × (length rounds ≡ rounds_to_come goal past)
           × (is_sound goal (after_rounds rounds
-          past) ≡ true) × AreUnasked goal rounds past × (undisturbed_among rounds past ≡ rounds_to_come goal past)
+          past) ≡ true) × AreRoundsWithoutRequests goal rounds past
+          × (undisturbed_among rounds past ≡ rounds_to_come goal past)
           → (onward : List Event) × (is_sound goal (onward ++ past) ≡ true)
           × (is_level_announced (onward ++ past) ≡ true)
           × (stage_of (onward ++ past) ≡ Some (Run (destination (goal_of goal past).level (stage_of past))))

@@ -1,4 +1,5 @@
--- Where no step is due and no order is open, no wish stands, and the level is announced settled or a child is awaited.
+-- If no step is due and no order is open, no request is pending, and the level is announced settled or init waits for a
+-- child.
 use Rattle.core_waiting.proofs.Words.{arith, ◌≡◌, refl, sym, ◌∙◌, ap, subst, ℕ, Bool, true, false, not, ◌&&◌, ◌||◌}
 use Rattle.core_waiting.proofs.Words.{cond, List, [], ◌∷◌, ◌++◌, Some, None, list_any, list_all, false≢true}
 use Rattle.core_waiting.proofs.Words.{true_from_ne_false, and_parts, and_from, or_left, or_right, or_parts, not-true}
@@ -6,9 +7,10 @@ use Rattle.core_waiting.proofs.Words.{Entry, Act, Level, Mark, At, Stage, Start,
 use Rattle.core_waiting.proofs.Words.{starts_by, waited_by, wanted_by, is_limited, served_by, waited_of, same_id-is}
 use Rattle.core_waiting.proofs.Words.{same_id-self, same_level-self, both_ways, falsely, or_either, not_from, any_less}
 use Rattle.core_waiting.proofs.Words.{all_less, any_filter, has_id, entry_of, is_distinct, Step, Goal, Event, table_of}
-use Rattle.core_waiting.proofs.Words.{stage_of, Child, is_of, has_child, open_of, open_orders, is_quiet, is_idle}
-use Rattle.core_waiting.proofs.Words.{kept_children, known_children, Open, starts_in, is_order, nothing_runs, is_asked}
-use Rattle.core_waiting.proofs.Words.{is_called, is_wanted, is_owed, is_excluded, is_held, wish_stands, step_if}
+use Rattle.core_waiting.proofs.Words.{stage_of, Child, is_child_of, has_child, open_of, open_orders, is_quiet, is_idle}
+use Rattle.core_waiting.proofs.Words.{kept_children, known_children, Open, starts_in, is_order, has_no_running_child}
+use Rattle.core_waiting.proofs.Words.{is_asked}
+use Rattle.core_waiting.proofs.Words.{is_called, is_wanted, is_owed, is_excluded, is_held, is_request_pending, step_if}
 use Rattle.core_waiting.proofs.Words.{steps_if, due_first, due_reexec, due_reread, due_level, due_news, due_stops}
 use Rattle.core_waiting.proofs.Words.{can_start, start_steps, starts_among, due_starts, due_stage, is_served}
 use Rattle.core_waiting.proofs.Words.{due_settle, due_looks, is_sound, idle_none, known_kept, sound_holds, entry_listed}
@@ -17,7 +19,6 @@ use Rattle.core_waiting.proofs.Words.{is_level_announced, is_empty, AtRest}
 use Rattle.std.proofs.Common.{is_some}
 use Rattle.init_words.specs.declared.stages.Stage.TheVariants as stage
 
--- lists and tests
 pub nil_parts : (xs ys : List Step) → xs ++ ys ≡ [] → (xs ≡ []) × (ys ≡ [])
 nil_parts [] ys h = (refl, h)
 nil_parts (x ∷ xs) ys h = cc
@@ -67,29 +68,30 @@ at_rest goal past h =
       looks = p.9;
     }
 
--- where no order is open, the point is quiet
+-- if no order is open, the point is quiet
 pub idle_quiet : (past : List Event) → is_idle past ≡ true → is_quiet past ≡ true
 idle_quiet past idle = not_from (list_any (λ (order : Open). not (same_ask Look order.ask)) (open_orders past)) (falsely
     (list_any (λ (order : Open). not (same_ask Look order.ask)) (open_orders past)) (list_any (λ (order : Open). true)
     (open_orders past)) (any_less (λ (order : Open). not (same_ask Look order.ask)) (λ order. true) (λ order h. refl)
     (open_orders past)) (not-true (list_any (λ (order : Open). true) (open_orders past)) idle))
 
-pub no_wish : (goal : Goal) (past : List Event) → Rest goal past → is_quiet past ≡ true → wish_stands past ≡ false
+pub no_wish : (goal : Goal) (past : List Event) → Rest goal past → is_quiet past ≡ true
+    → is_request_pending past ≡ false
 no_wish goal past rest quiet = grind arith
 
--- an entry that is waited for or wanted
+-- the entry is waited for or wanted
 abbrev pub asks_room : List Event → Entry → Bool
 asks_room past e = waited_of e || is_wanted e past
 
--- such an entry has a kept child
+-- the entry is waited for or wanted, and has a kept child
 abbrev pub lacks_room : List Event → Entry → Bool
 lacks_room past e = asks_room past e && has_child e.id (kept_children past)
 
--- an entry that is not owed, and is wanted only where it is held
+-- the entry is not owed, and is wanted only if it is held
 abbrev pub stands_still : List Event → Entry → Bool
 stands_still past e = not (is_owed e past) && (not (is_wanted e past) || is_limited e.act && is_held e.id past)
 
--- in a table with each id once, an entry that passes is found by its id
+-- in a table that has each id once, an entry that passes the test is found by its id
 pub record Found (p : Entry → Bool) (es : List Entry) : Type 0 where
   pub entry : Entry
   pub passes : p entry ≡ true
@@ -118,7 +120,7 @@ found_entry p (e ∷ es) distinct h =
         found = ap (λ b. cond b (Some e) (entry_of rest.entry.id es)) (other rest.entry rest.found) ∙ rest.found;
       }
 
--- the kept child of an entry that asks for room is awaited
+-- init waits for the kept child of an entry that is waited for or wanted
 why_some : (b : Bool) (e : Entry) (past : List Event) → asks_room past e ≡ true
     → is_some (cond b (Some Excluded) (why_of_entry (Some e) past)) ≡ true
 why_some true e past h = refl
@@ -135,7 +137,7 @@ room_awaited past distinct h = at (found_entry (lacks_room past) (table_of past)
   at : Found (lacks_room past) (table_of past) → list_any (is_awaited past) (kept_children past) ≡ true
   at found =
       let parts = and_parts (asks_room past found.entry) (has_child found.entry.id (kept_children past)) found.passes in
-      any_less (is_of found.entry.id) (is_awaited past) (λ child own. entry_awaited past child found.entry
+      any_less (is_child_of found.entry.id) (is_awaited past) (λ child own. entry_awaited past child found.entry
       (ap (λ i. entry_of i (table_of past)) (sym (same_id-is found.entry.id child.id own)) ∙ found.found) parts.0)
       (kept_children past) parts.1
 
@@ -146,7 +148,7 @@ excluded_awaited : (past : List Event) → list_any (is_excluded past) (kept_chi
     → list_any (is_awaited past) (kept_children past) ≡ true
 excluded_awaited past h = any_less (is_excluded past) (is_awaited past) (excluded_awaits past) (kept_children past) h
 
--- rank 7: where no entry lacks room, all stand still
+-- rank 7: if no waited or wanted entry has a kept child, no entry is owed, and only held ones are wanted
 pub waited_free : (a : Act) → waited_by a ≡ true → is_limited a ≡ true → false ≡ true
 waited_free a waited limited = grind arith
 
@@ -154,7 +156,8 @@ still : (e : Entry) (past : List Event) → open_of e.id past ≡ None → lacks
     past) (start_steps e past) ≡ [] → is_wanted e past ≡ true → (is_limited e.act ≡ true) × (is_held e.id past ≡ true)
 still e past free room none wanted = grind arith
 
--- of one entry: whether it is waited for, has a child, an open Start, is wanted, is limited and held
+-- the same for one entry: whether it is waited for, has a child or an open Start, is wanted, has a respawn limit and is
+-- held
 not_owed : (e : Entry) (past : List Event) → open_of e.id past ≡ None → lacks_room past e ≡ false
     → (is_wanted e past ≡ true → (is_limited e.act ≡ true) × (is_held e.id past ≡ true)) → is_owed e past ≡ false
 not_owed e past free room held = grind arith
@@ -179,7 +182,7 @@ all_still past idle (e ∷ es) room none =
     (not_from (is_owed e past) owed) (wanted_held (is_wanted e past) (is_limited e.act) (is_held e.id past) held))
     (all_still past idle es rooms.1 (ap (λ b. cond b [] (starts_among es past)) (sym owed) ∙ steps.1))
 
--- rank 8: in Sysinit and Boot nothing is limited, so nothing is wanted
+-- rank 8: in Sysinit and Boot no entry has a respawn limit, so none is wanted
 abbrev is_run : Stage → Bool
 is_run (stage.Run level) = true
 is_run _ = false
@@ -206,7 +209,7 @@ over_by past now is early room all = along (table_of past) room all where
       (has_child e.id (kept_children past)) (or_left (waited_of e) (is_wanted e past) two.0) two.1) rooms.0)))
       (along es rooms.1 alls.1)
 
--- rank 9: what stands still in a run level is served
+-- rank 9: in a run level all such entries are served
 served : (a : Act) (levels : List Mark) (level : Level) (idle asked called there held : Bool) → ((starts_by a levels
     (stage.Run level) && wanted_by a idle (not asked) called) ≡ true → (is_limited a && held) ≡ true)
     → (there ≡ false → idle ≡ true) → (not (names (At level) levels) || served_by a asked (there || held)) ≡ true
@@ -223,25 +226,26 @@ all_served goal past sound idle level is es all =
       one : (e : Entry) → stands_still past e ≡ true → is_served level (known_children past) past e ≡ true
       one e h = and_from (not (is_owed e past)) (not (names (At level) e.levels.items)
           || served_by e.act (is_asked e.id past) (has_child e.id (known_children past) || is_held e.id past)) parts.0
-          (served e.act e.levels.items level (nothing_runs e.id past) (is_asked e.id past) (is_called e past)
+          (served e.act e.levels.items level (has_no_running_child e.id past) (is_asked e.id past) (is_called e past)
           (has_child e.id (known_children past)) (is_held e.id past) limited free) where
             parts : (not (is_owed e past) ≡ true)
                 × ((not (is_wanted e past) || is_limited e.act && is_held e.id past) ≡ true)
             parts = and_parts (not (is_owed e past)) (not (is_wanted e past) || is_limited e.act && is_held e.id past) h
 
-            limited : (starts_by e.act e.levels.items (stage.Run level) && wanted_by e.act (nothing_runs e.id past)
+            limited : (starts_by e.act e.levels.items (stage.Run level)
+                && wanted_by e.act (has_no_running_child e.id past)
                 (not (is_asked e.id past)) (is_called e past)) ≡ true → (is_limited e.act && is_held e.id past) ≡ true
             limited wanted =
                 or_either (not (is_wanted e past)) (is_limited e.act && is_held e.id past) parts.1 (λ not_wanted.
                 both_ways (is_wanted e past)
-                (ap (λ now. starts_in e now && wanted_by e.act (nothing_runs e.id past) (not
+                (ap (λ now. starts_in e now && wanted_by e.act (has_no_running_child e.id past) (not
                 (is_asked e.id past)) (is_called e past)) is
                 ∙ wanted) (not-true (is_wanted e past) not_wanted)) (λ both. both)
 
-            free : has_child e.id (known_children past) ≡ false → nothing_runs e.id past ≡ true
+            free : has_child e.id (known_children past) ≡ false → has_no_running_child e.id past ≡ true
             free none = rw (has_known goal past sound e.id (no_start e.id) ∙ none, no_start e.id) refl
 
--- so the level is announced, or a kept child is awaited
+-- so the level is announced settled, or init waits for a kept child
 spared_known : (past : List Event) → list_any (is_excluded past) (kept_children past) ≡ false
     → list_any (is_excluded past) (known_children past) ≡ false
 spared_known past none = falsely (list_any (is_excluded past) (known_children past))
@@ -293,5 +297,6 @@ rest_accounted goal later past sound = at_moment goal (λ before. AtRest goal be
     (is_empty (awaited_children before)) (list_any (is_awaited before) (kept_children before))
     (announced_or_awaited goal before ok h) (some_awaited before)) later past sound
 
-pub rest_heard : (goal : Goal) (past : List Event) → AtRest goal past → is_idle past ≡ true → wish_stands past ≡ false
+pub rest_heard : (goal : Goal) (past : List Event) → AtRest goal past → is_idle past ≡ true
+    → is_request_pending past ≡ false
 rest_heard goal past h idle = no_wish goal past (at_rest goal past h) (idle_quiet past idle)

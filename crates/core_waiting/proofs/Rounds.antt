@@ -1,11 +1,11 @@
--- A level is announced after one round more than there are waited entries to come.
+-- A level is announced settled after one round more than there are waited entries to come.
 use Rattle.core_waiting.proofs.Words.{◌≡◌, ◌≤◌, ◌<◌, refl, sym, ◌∙◌, ap, subst, ℕ, Bool, true, false, not, ◌&&◌, List}
 use Rattle.core_waiting.proofs.Words.{[], ◌∷◌, ◌++◌, filter, length, Some, arith, list_any, option_map_or, false≢true}
 use Rattle.core_waiting.proofs.Words.{false_from_ne_true, and_parts, and_from, or_left, or_right, Entry, Start, same_id}
 use Rattle.core_waiting.proofs.Words.{is_limited, waited_of, same_id-self, or_either, not_from, entry_of, NewTable}
 use Rattle.core_waiting.proofs.Words.{Enter, Asked, Goal, Event, table_of, is_wanted, is_announced, is_sound, MayRun}
 use Rattle.core_waiting.proofs.Words.{due_facts, sound_holds, at_moment, AtRest, is_level_announced, is_calm}
-use Rattle.core_waiting.proofs.Words.{is_start_of, is_waited_start, is_waited_id, is_to_come, to_come}
+use Rattle.core_waiting.proofs.Words.{is_start_of, is_waited_start, is_waited_id, is_wanted_wait, count_wanted_waits}
 use Rattle.trace_events.specs.declared.happenings.Happening.TheVariants.{Call, Power, Settle}
 use Rattle.trace_events.specs.declared.steps.Step.TheVariants as step
 use Rattle.core_waiting.proofs.Rest.{waited_free, not_first}
@@ -13,7 +13,7 @@ use Rattle.core_waiting.proofs.Settled.{found_id}
 use Rattle.core_waiting.proofs.Once.{wanted_before, same_table}
 use Rattle.core_waiting.proofs.Progress.{Next, next_of, Quit, quit_at, same_stage}
 
--- fewer pass the narrower test
+-- fewer elements pass the narrower test
 pub fewer : (p q : Entry → Bool) → ((e : Entry) → p e ≡ true → q e ≡ true) → (es : List Entry)
     → length (filter p es) ≤ length (filter q es)
 fewer p q less [] = grind arith
@@ -82,26 +82,29 @@ begun goal (happening ∷ between) past sound calm some =
     let next = next_of goal happening between past sound calm in
     begun_later happening between past (begun goal between past next.sound next.calm some)
 
--- so fewer are to come behind it
+-- so fewer are to come after it
 pub fewer_to_come : (goal : Goal) (between past : List Event) → is_sound goal (between ++ past) ≡ true
-    → is_calm between ≡ true → list_any (is_waited_start past) between ≡ true → to_come (between ++ past) < to_come past
+    → is_calm between ≡ true → list_any (is_waited_start past) between ≡ true
+    → count_wanted_waits (between ++ past) < count_wanted_waits past
 fewer_to_come goal between past sound calm some = ap_less (begun goal between past sound calm some) where
-  less : (e : Entry) → is_to_come (between ++ past) e ≡ true → is_to_come past e ≡ true
+  less : (e : Entry) → is_wanted_wait (between ++ past) e ≡ true → is_wanted_wait past e ≡ true
   less e h = let parts = and_parts (waited_of e) (is_wanted e (between ++ past)) h in and_from (waited_of e)
       (is_wanted e past) parts.0 (wanted_before e between past (unlimited e parts.0) calm parts.1)
 
-  ap_less : Begun between past → to_come (between ++ past) < to_come past
+  ap_less : Begun between past → count_wanted_waits (between ++ past) < count_wanted_waits past
   ap_less it =
       let quit : Quit it.id (between ++ past) = quit_at goal it.id between past sound calm it.started in
       let done : is_wanted it.entry (between ++ past) ≡ false =
       quit.done it.entry (found_id it.id (table_of past) it.entry it.found) (unlimited it.entry it.waited) in
-      let one : length (filter (is_to_come (between ++ past)) (table_of past)) < length
-      (filter (is_to_come past) (table_of past)) = fewer_by_one (is_to_come (between ++ past)) (is_to_come past) less
-      (table_of past) (entry_any (λ e. is_to_come past e && not (is_to_come (between ++ past) e)) it.id (table_of past)
-      it.entry it.found (and_from (is_to_come past it.entry) (not (is_to_come (between ++ past) it.entry))
-      (and_from (waited_of it.entry) (is_wanted it.entry past) it.waited it.wanted) (not_from (is_to_come
+      let one : length (filter (is_wanted_wait (between ++ past)) (table_of past)) < length
+      (filter (is_wanted_wait past) (table_of past)) =
+      fewer_by_one (is_wanted_wait (between ++ past)) (is_wanted_wait past) less
+      (table_of past)
+      (entry_any (λ e. is_wanted_wait past e && not (is_wanted_wait (between ++ past) e)) it.id (table_of past)
+      it.entry it.found (and_from (is_wanted_wait past it.entry) (not (is_wanted_wait (between ++ past) it.entry))
+      (and_from (waited_of it.entry) (is_wanted it.entry past) it.waited it.wanted) (not_from (is_wanted_wait
       (between ++ past) it.entry) (ap (λ b. b && is_wanted it.entry (between ++ past)) it.waited ∙ done)))) in
-      subst (λ es. length (filter (is_to_come (between ++ past)) es) < to_come past)
+      subst (λ es. length (filter (is_wanted_wait (between ++ past)) es) < count_wanted_waits past)
       (sym (same_table between past calm)) one
 
 -- an announced level stays announced

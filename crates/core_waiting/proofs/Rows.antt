@@ -1,10 +1,12 @@
--- Worked rests, each with whose end init awaits there and why: `refl` computes them.
+-- Worked examples of rests, each with the children that init waits for and the reasons, checked by computation
+-- (`refl`).
 use Rattle.core_waiting.proofs.Words.{◌≡◌, refl, ℕ, true, false, List, [], ◌∷◌, ◌++◌, codes, map, Option, Some, Entry}
 use Rattle.core_waiting.proofs.Words.{Act, Level, Mark, At, OnCall, Start, Look, Term, Exit, NewTable, NotRead, Enter}
 use Rattle.core_waiting.proofs.Words.{Asked, Birth, NoBirth, Death, Reaped, Hit, Miss, Told, Clock, Nudge, Got, Goal}
 use Rattle.core_waiting.proofs.Words.{Event, Child, is_idle, due, is_sound, WhyAwaited, Excluded, WaitedFor, InTheWay}
-use Rattle.core_waiting.proofs.Words.{why_awaited, awaited_children, is_level_announced, is_on_power, to_come}
-use Rattle.core_waiting.proofs.Words.{after_rounds, AreUnasked, undisturbed_among}
+use Rattle.core_waiting.proofs.Words.{why_awaited, awaited_children, is_level_announced, is_on_power}
+use Rattle.core_waiting.proofs.Words.{count_wanted_waits}
+use Rattle.core_waiting.proofs.Words.{after_rounds, AreRoundsWithoutRequests, undisturbed_among}
 use Rattle.init_words.specs.declared.actions.Act.TheVariants as act
 use Rattle.init_words.specs.declared.levels.Level.TheVariants as level
 use Rattle.init_words.specs.declared.levels.Letter.TheVariants as letter
@@ -17,18 +19,18 @@ abbrev pub entry : List ℕ → List Mark → Act → Entry
 entry id levels action =
     record { id = id; levels = record { items = levels }; act = action; process = record { items = codes "x" } }
 
--- the goal that an opening at this level has
+-- the opening goal with this level
 abbrev pub opening : Level → Goal
 opening l = record { level = l; grace = 5 }
 
--- the ids of the awaited children, and why each is awaited
+-- the ids of the children that init waits for, and the reason for each
 abbrev ids : List Event → List (List ℕ)
 ids past = map (λ (child : Child). child.id) (awaited_children past)
 
 abbrev whys : List Event → List (Option WhyAwaited)
 whys past = map (why_awaited past) (awaited_children past)
 
--- an order, its act, and that it is told
+-- an order, its act, and its `told`
 abbrev pub started : List ℕ → ℕ → List Event
 started id n = Told id ∷ Birth id n ∷ Asked id Start ∷ []
 
@@ -41,7 +43,7 @@ missed id = Told id ∷ Miss id ∷ Asked id Term ∷ []
 abbrev ended : List ℕ → ℕ → List Event
 ended id n = Told id ∷ Reaped id n (Exit 0) ∷ Death n ∷ Asked id Look ∷ []
 
--- a level is asked for in another, and inittab can't be read
+-- another level is requested, and inittab cannot be read
 abbrev pub goes_to : Level → List Event
 goes_to l = Enter (stage.Run l) 5 ∷ NotRead ∷ Got (got.Level l 5) ∷ []
 
@@ -51,7 +53,7 @@ entered l table = Enter (stage.Run l) 5 ∷ Enter stage.Boot 5 ∷ Enter stage.S
 abbrev failed : List Event
 failed = Told (codes "r") ∷ NoBirth (codes "r") ∷ Asked (codes "r") Start ∷ []
 
--- a respawn entry's child that the new level excludes: TERM was sent, and its grace is not over
+-- the child of a respawn entry, which the new level excludes: it was sent a TERM whose grace is not over
 abbrev pub stopped : List Event
 stopped = termed (codes "r") ++ goes_to level.L2 ++ Settle level.L3 ∷ started (codes "r") 7
     ++ entered level.L3 ((entry (codes "r") (At level.L3 ∷ []) act.Respawn) ∷ [])
@@ -74,7 +76,7 @@ stopped-awaits = refl
 stopped-why : whys stopped ≡ Some Excluded ∷ []
 stopped-why = refl
 
--- the signal to it missed: it is tried again in the next round
+-- the signal to it failed, and is tried again in the next round
 abbrev signal_missed : List Event
 signal_missed = missed (codes "r") ++ goes_to level.L2 ++ Settle level.L3 ∷ started (codes "r") 7
     ++ entered level.L3 ((entry (codes "r") (At level.L3 ∷ []) act.Respawn) ∷ [])
@@ -120,7 +122,7 @@ left_the_table-awaits = refl
 left_the_table-why : whys left_the_table ≡ Some Excluded ∷ []
 left_the_table-why = refl
 
--- a wait entry runs: the one behind it has to wait
+-- a wait entry runs, and the one after it has to wait
 abbrev pub waited_for : List Event
 waited_for = started (codes "w") 7 ++ entered level.L3
     ((entry (codes "w") (At level.L3 ∷ []) act.Wait) ∷ (entry (codes "r") (At level.L3 ∷ []) act.Respawn) ∷ [])
@@ -143,7 +145,7 @@ waited_for-awaits = refl
 waited_for-why : whys waited_for ≡ Some WaitedFor ∷ []
 waited_for-why = refl
 
--- in Boot a bootwait entry runs
+-- a bootwait entry runs in Boot
 abbrev boot_waits : List Event
 boot_waits = started (codes "b") 7 ++ Enter stage.Boot 5 ∷ Enter stage.Sysinit 5
     ∷ NewTable ((entry (codes "b") ([]) act.Bootwait) ∷ (entry (codes "r") (At level.L3 ∷ []) act.Respawn) ∷ []) ∷ []
@@ -166,7 +168,7 @@ boot_waits-awaits = refl
 boot_waits-why : whys boot_waits ≡ Some WaitedFor ∷ []
 boot_waits-why = refl
 
--- a once entry's child of the last level lives on: the entry starts again in this level once it is gone
+-- the child of a once entry from the last level lives on: the entry starts again in this level when the child is gone
 abbrev pub in_its_way : List Event
 in_its_way = goes_to level.L2 ++ Settle level.L3 ∷ started (codes "o") 7
     ++ entered level.L3 ((entry (codes "o") (At level.L2 ∷ At level.L3 ∷ []) act.Once) ∷ [])
@@ -189,7 +191,7 @@ in_its_way-awaits = refl
 in_its_way-why : whys in_its_way ≡ Some InTheWay ∷ []
 in_its_way-why = refl
 
--- two at once, the one that was told of last in front
+-- two children at once, the one whose birth was told last first
 abbrev two_awaited : List Event
 two_awaited = termed (codes "r") ++ goes_to level.L2 ++ Settle level.L3 ∷ started (codes "o") 8 ++ started (codes "r") 7
     ++ entered level.L3 ((entry (codes "r") (At level.L3 ∷ []) act.Respawn)
@@ -213,7 +215,7 @@ two_awaited-awaits = refl
 two_awaited-why : whys two_awaited ≡ Some Excluded ∷ Some InTheWay ∷ []
 two_awaited-why = refl
 
--- a start is not answered: no child is awaited
+-- a start is not answered: init waits for no child
 abbrev order_open : List Event
 order_open = Asked (codes "o") Start ∷ entered level.L3 ((entry (codes "o") (At level.L3 ∷ []) act.Once) ∷ [])
 
@@ -235,7 +237,7 @@ order_open-awaits = refl
 order_open-why : whys order_open ≡ []
 order_open-why = refl
 
--- a settled level: children of respawn, once and boot run, and none is awaited
+-- a settled level: children of respawn, once and boot entries run, and init waits for none of them
 abbrev all_kept_up : List Event
 all_kept_up = Settle level.L3 ∷ started (codes "o") 9 ++ started (codes "r") 8 ++ Enter (stage.Run level.L3) 5
     ∷ started (codes "b") 7 ++ Enter stage.Boot 5 ∷ Enter stage.Sysinit 5 ∷ NewTable ((entry (codes "b") ([]) act.Boot)
@@ -259,7 +261,7 @@ all_kept_up-awaits = refl
 all_kept_up-why : whys all_kept_up ≡ []
 all_kept_up-why = refl
 
--- a table with no entries
+-- a table without entries
 abbrev no_entries : List Event
 no_entries = Settle level.S ∷ Enter (stage.Run level.S) 5 ∷ Enter stage.Sysinit 5 ∷ NewTable [] ∷ []
 
@@ -281,7 +283,7 @@ no_entries-awaits = refl
 no_entries-why : whys no_entries ≡ []
 no_entries-why = refl
 
--- a letter's entry runs in a settled level
+-- an entry called by a letter runs in a settled level
 abbrev on_call : List Event
 on_call = started (codes "d") 7 ++ Call letter.A ∷ Got (got.Call letter.A) ∷ Settle level.L3
     ∷ entered level.L3 ((entry (codes "d") (OnCall letter.A ∷ []) act.Ondemand) ∷ [])
@@ -304,7 +306,7 @@ on_call-awaits = refl
 on_call-why : whys on_call ≡ []
 on_call-why = refl
 
--- in a settled level news of the power calls a powerwait entry, and init waits for it: the level stays announced
+-- in a settled level a power event calls a powerwait entry, and init waits for it: the level stays announced
 abbrev power_waits : List Event
 power_waits = started (codes "p") 8 ++ Power power.Fail ∷ Got (got.Power power.Fail) ∷ Settle level.L3
     ∷ started (codes "r") 7 ++ entered level.L3
@@ -328,7 +330,7 @@ power_waits-awaits = refl
 power_waits-why : whys power_waits ≡ Some WaitedFor ∷ []
 power_waits-why = refl
 
--- news of the power comes again while the first call's child runs
+-- the power event comes again while the child of the first call runs
 abbrev power_again : List Event
 power_again = Power power.Fail ∷ Got (got.Power power.Fail) ∷ started (codes "p") 8 ++ Power power.Fail ∷ Got (got.Power
     power.Fail) ∷ Settle level.L3 ∷ entered level.L3 ((entry (codes "p") (At level.L3 ∷ []) act.Powerfail) ∷ [])
@@ -351,7 +353,7 @@ power_again-awaits = refl
 power_again-why : whys power_again ≡ Some InTheWay ∷ []
 power_again-why = refl
 
--- a held entry counts as kept up
+-- a held entry counts as served
 abbrev held_back : List Event
 held_back = Settle level.S ∷ Hold (codes "r") ∷ failed ++ failed ++ failed ++ failed ++ failed ++ failed ++ failed
     ++ failed ++ failed ++ failed ++ Enter (stage.Run level.S) 5 ∷ Enter stage.Sysinit 5
@@ -375,8 +377,8 @@ held_back-awaits = refl
 held_back-why : whys held_back ≡ []
 held_back-why = refl
 
--- two wait entries: from the rest at which the first runs, one more is to come, and the level is announced in the
--- second round and not in the first
+-- two wait entries: from the rest at which the first one runs, one more is to come, and the level is announced settled
+-- in the second round but not in the first
 abbrev first_runs : List Event
 first_runs = started (codes "v") 7 ++ entered level.L3 ((entry (codes "v") (At level.L3 ∷ []) act.Wait)
     ∷ (entry (codes "w") (At level.L3 ∷ []) act.Wait) ∷ (entry (codes "r") (At level.L3 ∷ []) act.Respawn) ∷ [])
@@ -390,14 +392,14 @@ second_ends = Settle level.L3 ∷ started (codes "r") 9 ++ ended (codes "w") 8 +
 two_rounds-are_sound : is_sound (opening level.L3) (after_rounds (second_ends ∷ first_ends ∷ []) first_runs) ≡ true
 two_rounds-are_sound = refl
 
-two_rounds-are_unasked : AreUnasked (opening level.L3) (second_ends ∷ first_ends ∷ []) first_runs
+two_rounds-are_unasked : AreRoundsWithoutRequests (opening level.L3) (second_ends ∷ first_ends ∷ []) first_runs
 two_rounds-are_unasked = (((refl, refl), refl, refl, refl), refl, refl, refl)
 
 two_rounds-undisturbed : undisturbed_among (second_ends ∷ first_ends ∷ []) first_runs ≡ 2
 two_rounds-undisturbed = refl
 
-first_runs-to_come : to_come first_runs ≡ 1
-first_runs-to_come = refl
+first_runs-count_wanted_waits : count_wanted_waits first_runs ≡ 1
+first_runs-count_wanted_waits = refl
 
 first_ends-told : is_level_announced (after_rounds (first_ends ∷ []) first_runs) ≡ false
 first_ends-told = refl

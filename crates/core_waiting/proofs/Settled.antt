@@ -1,13 +1,14 @@
--- While a level is announced, the only children awaited are those of entries that answer news of the power.
+-- While a level is announced settled, init waits only for children of entries that a power event calls.
 use Rattle.core_waiting.proofs.Words.{arith, ◌≡◌, refl, sym, ◌∙◌, ap, ℕ, Bool, true, false, not, ◌&&◌, ◌||◌, cond, List}
 use Rattle.core_waiting.proofs.Words.{[], ◌∷◌, ◌++◌, filter, Option, Some, None, list_any, list_all, option_map_or}
 use Rattle.core_waiting.proofs.Words.{false≢true, false_from_ne_true, and_parts, and_from, or_left, or_right, or_from}
 use Rattle.core_waiting.proofs.Words.{not-true, none-some, same_Some, Entry, Act, Level, Mark, At, Stage, Start}
 use Rattle.core_waiting.proofs.Words.{same_id, names, starts_by, waited_by, wanted_by, served_by, waited_of, same_id-is}
 use Rattle.core_waiting.proofs.Words.{same_id-self, falsely, or_either, all_less, Passing, passing, entry_of, NewTable}
-use Rattle.core_waiting.proofs.Words.{Enter, Asked, Birth, Told, Goal, Event, table_of, stage_of, Child, is_of}
+use Rattle.core_waiting.proofs.Words.{Enter, Asked, Birth, Told, Goal, Event, table_of, stage_of, Child, is_child_of}
 use Rattle.core_waiting.proofs.Words.{has_child, open_of, newborn, kept_children, known_children, starts_in, starts_now}
-use Rattle.core_waiting.proofs.Words.{is_order, nothing_runs, is_asked, is_called, is_wanted, is_owed, is_excluded}
+use Rattle.core_waiting.proofs.Words.{is_order, has_no_running_child, is_asked, is_called, is_wanted, is_owed}
+use Rattle.core_waiting.proofs.Words.{is_excluded}
 use Rattle.core_waiting.proofs.Words.{is_held, in_run, is_level, is_announced, is_served, may_come, is_sound, cleared}
 use Rattle.core_waiting.proofs.Words.{idle_none, kept_before_told, undone_is_open, is_order-is, MayRun, MaySettle}
 use Rattle.core_waiting.proofs.Words.{due_facts, sound_holds, sound_ind, start_stays, start_undone, born_ready}
@@ -19,7 +20,7 @@ use Rattle.init_words.specs.declared.stages.Stage.TheVariants as stage
 use Rattle.trace_events.specs.declared.happenings.Happening.TheVariants.{Settle}
 use Rattle.trace_events.specs.declared.steps.Step.TheVariants as step
 
--- what is wanted once in a level
+-- the action is wanted once in a level
 abbrev is_once : Act → Bool
 is_once act.Wait = true
 is_once act.Once = true
@@ -29,11 +30,11 @@ is_once _ = false
 abbrev was_asked : List Event → Entry → Bool
 was_asked past e = not (is_once e.act && starts_now e past) || is_asked e.id past
 
--- init doesn't wait for it, but where news of the power called it
+-- init does not wait for the entry, unless a power event calls it
 abbrev lets_on : Entry → Bool
 lets_on e = not (waited_of e) || answers_power e.act
 
--- the child's entry is waited for, and not for news of the power
+-- the child's entry is waited for, and no power event calls it
 abbrev holds_on : List Event → Child → Bool
 holds_on past child = option_map_or (λ (e : Entry). not (lets_on e)) (entry_of child.id (table_of past)) false
 
@@ -45,7 +46,6 @@ record Settled (past : List Event) : Type 0 where
       → option_map_or lets_on (entry_of id (table_of past)) false ≡ true
   pub room : list_any (holds_on past) (kept_children past) ≡ false
 
--- tables
 pub all_found : (p : Entry → Bool) (id : List ℕ) (es : List Entry) (e : Entry) → list_all p es ≡ true
     → entry_of id es ≡ Some e → p e ≡ true
 all_found p id [] e all found = grind arith
@@ -58,7 +58,7 @@ found_id id (x ∷ es) e found = grind (arith, found_id id es e, none-some, same
 level_run : (level : Level) (o : Option Stage) → is_level level o ≡ true → o ≡ Some (stage.Run level)
 level_run level o h = grind arith
 
--- what is read off an action, in a run level
+-- what follows from an action, in a run level
 served_asked : (a : Act) (levels : List Mark) (level : Level) (asked kept : Bool) → (not (names (At level) levels)
     || served_by a asked kept) ≡ true → (not (is_once a && starts_by a levels (stage.Run level)) || asked) ≡ true
 served_asked a levels level asked kept h = grind arith
@@ -76,7 +76,7 @@ wanted_power a levels level idle asked called wanted was busy = grind arith
 pub in_level : (o : Option Stage) → in_run o ≡ true → (level : Level) × (o ≡ Some (stage.Run level))
 in_level o h = grind arith
 
--- where a level is announced
+-- when a level is announced settled
 at_settle : (goal : Goal) (level : Level) (past : List Event) → is_sound goal past ≡ true → MaySettle level past
     → Settled (Settle level ∷ past)
 at_settle goal level past sound may = record {
@@ -117,7 +117,7 @@ at_settle goal level past sound may = record {
         → option_map_or (λ (e : Entry). not (lets_on e)) o false ≡ true → ⊥
     read None is h = false≢true h
     read (Some e) is h =
-        let own : has_child e.id (kept_children past) ≡ true = there.within (is_of e.id) (ap (λ i.
+        let own : has_child e.id (kept_children past) ≡ true = there.within (is_child_of e.id) (ap (λ i.
         same_id i there.item.id) (sym (found_id there.item.id (table_of past) e is)) ∙ same_id-self there.item.id) in
         let waited : waited_of e ≡ true = waits (waited_of e) (answers_power e.act) h in
         let free = (and_parts (not (is_owed e past)) (not (names (At level) e.levels.items)
@@ -128,7 +128,7 @@ at_settle goal level past sound may = record {
           waits true power h = refl
           waits false power h = h
 
--- and with each happening after it
+-- and after each further happening
 start_lets : (i : List ℕ) (past : List Event) → Settled past → (may : MayRun i (table_of past) past)
     → entry_of i (table_of past) ≡ Some may.entry → option_map_or lets_on (entry_of i (table_of past)) false ≡ true
 start_lets i past before may found = grind (arith, in_level, wanted_lets, all_found)
@@ -225,7 +225,7 @@ settled_keeps goal past h = sound_ind goal (λ before. is_announced before ≡ t
           was : Settled before
           was = rest told
 
--- so a child that is awaited there is of an entry that answers news of the power
+-- so a child that init waits for then belongs to an entry that a power event calls
 all_filtered : (p q : Child → Bool) (xs : List Child) → list_any (λ x. q x && not (p x)) xs ≡ false
     → list_all p (filter q xs) ≡ true
 all_filtered p q [] h = grind arith
@@ -254,18 +254,18 @@ settled_power past was = all_filtered (is_on_power past) (is_awaited past) (kept
             read None is why off = false≢true why
             read (Some e) is why off = by (waited_of e) refl (is_wanted e past) refl why where
               own : has_child e.id (kept_children past) ≡ true
-              own = there.within (is_of e.id) (ap (λ i. same_id i there.item.id)
+              own = there.within (is_child_of e.id) (ap (λ i. same_id i there.item.id)
                   (sym (found_id there.item.id (table_of past) e is)) ∙ same_id-self there.item.id)
 
-              busy : nothing_runs e.id past ≡ false
+              busy : has_no_running_child e.id past ≡ false
               busy = ap (λ b. not b && not (is_order Start (open_of e.id past))) own
 
               wants : (level : Level) × (stage_of past ≡ Some (stage.Run level)) → is_wanted e past ≡ true
                   → answers_power e.act ≡ true
               wants now wanted =
-                  wanted_power e.act e.levels.items now.0 (nothing_runs e.id past) (is_asked e.id past)
+                  wanted_power e.act e.levels.items now.0 (has_no_running_child e.id past) (is_asked e.id past)
                   (is_called e past)
-                  (ap (λ o. starts_in e o && wanted_by e.act (nothing_runs e.id past) (not (is_asked e.id past))
+                  (ap (λ o. starts_in e o && wanted_by e.act (has_no_running_child e.id past) (not (is_asked e.id past))
                   (is_called e past)) (sym now.1) ∙ wanted)
                   (ap (λ o. not (is_once e.act && starts_in e o) || is_asked e.id past) (sym now.1)
                   ∙ all_found (was_asked past) there.item.id (table_of past) e was.asked is)

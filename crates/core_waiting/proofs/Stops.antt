@@ -1,12 +1,12 @@
--- What came of the children at a rest: no signal and no look is due to one.
+-- The children at a rest: no signal and no look is due to any of them.
 use Rattle.core_waiting.proofs.Words.{◌≡◌, refl, sym, ◌∙◌, ap, ℕ, Bool, true, false, not, ◌&&◌, ◌||◌, cond, List, []}
 use Rattle.core_waiting.proofs.Words.{◌∷◌, ◌++◌, Option, Some, None, is_none, find, list_any, list_all, false≢true}
 use Rattle.core_waiting.proofs.Words.{false_from_ne_true, and_parts, and_from, or_left, or_right, or_parts, or_from}
 use Rattle.core_waiting.proofs.Words.{not-true, none-some, same_Some, OrderKind, Look, Term, Kill, same_id, same_id-is}
 use Rattle.core_waiting.proofs.Words.{same_id-self, both_ways, falsely, not_from, or_either, Passing, passing, Order}
-use Rattle.core_waiting.proofs.Words.{Goal, Event, Child, is_of, has_child, open_of, is_idle, kept_children}
-use Rattle.core_waiting.proofs.Words.{known_children, grace_of, time_of, is_order, is_excluded, Signal, is_ripe}
-use Rattle.core_waiting.proofs.Words.{stop_by, stop_due, is_missed, spell_hits, wish_stands, step_if, steps_if}
+use Rattle.core_waiting.proofs.Words.{Goal, Event, Child, is_child_of, has_child, open_of, is_idle, kept_children}
+use Rattle.core_waiting.proofs.Words.{known_children, grace_of, time_of, is_order, is_excluded, Signal, is_grace_over}
+use Rattle.core_waiting.proofs.Words.{stop_by, stop_due, is_missed, spell_hits, is_request_pending, step_if, steps_if}
 use Rattle.core_waiting.proofs.Words.{record_ids, stop_step, stops_of, stops_among, wants_look, can_look, looks_among}
 use Rattle.core_waiting.proofs.Words.{is_sound, idle_none, same_any, at_moment, quiet_known, known_single, hits_are}
 use Rattle.core_waiting.proofs.Words.{hits_shape, found_holds, child_in_records, AtRest, are_in_force, is_stopping}
@@ -14,7 +14,7 @@ use Rattle.core_waiting.proofs.Words.{is_looked_at}
 use Rattle.std.proofs.Common.{is_some}
 use Rattle.core_waiting.proofs.Rest.{Rest, at_rest, nil_parts, none_if, none_of, no_wish, idle_quiet, not_first}
 
--- every child passes that no child fails
+-- if no child fails the test, all pass it
 pub all_from : (p : Child → Bool) (xs : List Child) → list_any (λ child. not (p child)) xs ≡ false
     → list_all p xs ≡ true
 all_from p [] h = refl
@@ -28,13 +28,14 @@ all_from p (x ∷ xs) h =
 -- rank 6
 
 no_stop : (id : List ℕ) (past : List Event) (children : List Child) → stops_of id children past ≡ []
-    → list_any (λ child. is_of id child && is_some (stop_due child past)) children ≡ false
+    → list_any (λ child. is_child_of id child && is_some (stop_due child past)) children ≡ false
 no_stop id past [] h = refl
 no_stop id past (child ∷ children) h =
     let parts =
-    nil_parts (steps_if (is_of id child) (stop_step id (stop_due child past))) (stops_of id children past) h in
-    or_from (is_of id child && is_some (stop_due child past)) (list_any (λ c. is_of id c && is_some (stop_due c past))
-    children) (one (is_of id child) (stop_due child past) parts.0) (no_stop id past children parts.1) where
+    nil_parts (steps_if (is_child_of id child) (stop_step id (stop_due child past))) (stops_of id children past) h in
+    or_from (is_child_of id child && is_some (stop_due child past))
+    (list_any (λ c. is_child_of id c && is_some (stop_due c past))
+    children) (one (is_child_of id child) (stop_due child past) parts.0) (no_stop id past children parts.1) where
       one : (b : Bool) (o : Option OrderKind) → steps_if b (stop_step id o) ≡ [] → (b && is_some o) ≡ false
       one false o h = refl
       one true None h = refl
@@ -60,27 +61,28 @@ unsignalled goal past sound h idle =
       rest : Rest goal past
       rest = at_rest goal past h
 
-      unwished : wish_stands past ≡ false
+      unwished : is_request_pending past ≡ false
       unwished = no_wish goal past rest (idle_quiet past idle)
 
       wrong : Passing (λ child. is_some (stop_due child past)) (known_children past) → ⊥
       wrong there =
           let child = there.item in
-          let own : is_of child.id child ≡ true = same_id-self child.id in
+          let own : is_child_of child.id child ≡ true = same_id-self child.id in
           let none = no_stops (record_ids past) past child.id (ap is_none (idle_none child.id past idle)) (none_of
-          (not (wish_stands past)) (stops_among (record_ids past) past) rest.stops
-          (not_from (wish_stands past) unwished))
-          (child_in_records goal past sound child.id (there.within (is_of child.id) own)) in
-          false≢true (sym (no_stop child.id past (known_children past) none) ∙ there.within (λ x. is_of child.id x
+          (not (is_request_pending past)) (stops_among (record_ids past) past) rest.stops
+          (not_from (is_request_pending past) unwished))
+          (child_in_records goal past sound child.id (there.within (is_child_of child.id) own)) in
+          false≢true (sym (no_stop child.id past (known_children past) none) ∙ there.within (λ x. is_child_of child.id x
           && is_some (stop_due x past))
-          (and_from (is_of child.id child) (is_some (stop_due child past)) own there.passes))
+          (and_from (is_child_of child.id child) (is_some (stop_due child past)) own there.passes))
 
--- so the stop of each excluded child is under way
+-- so each excluded child is being stopped
 in_force : (grace now : ℕ) (hits : List Signal) → hits_are hits ≡ true → is_some (stop_by grace now hits) ≡ false
     → are_in_force grace now hits ≡ true
 in_force grace now [] are h = sym h
 in_force grace now (signal ∷ []) are h =
-    and_from (is_order Term signal.order) (not (is_ripe grace now signal)) are (ripe (is_ripe grace now signal) h) where
+    and_from (is_order Term signal.order) (not (is_grace_over grace now signal)) are
+    (ripe (is_grace_over grace now signal) h) where
       ripe : (b : Bool) → is_some (cond b (Some Kill) None) ≡ false → not b ≡ true
       ripe true h = sym h
       ripe false h = refl
@@ -102,7 +104,7 @@ under_way child past are h = by (is_excluded past child) (is_missed child past) 
   by true true h = refl
   by true false h = force h
 
--- the child that an id's search finds
+-- the child that is found for an id
 found_some : (p : Child → Bool) (xs : List Child) → list_any p xs ≡ true → (child : Child) × (find p xs ≡ Some child)
 found_some p [] h = absurd (false≢true h)
 found_some p (x ∷ xs) h = split (p x) h (found_some p xs) where
@@ -131,14 +133,15 @@ stops_at goal past sound h idle = all_from (is_stopping past) (kept_children pas
       wrong : Passing fails (known_children past) → ⊥
       wrong there =
           let id = there.item.id in
-          let own : is_of id there.item ≡ true = same_id-self id in
-          let found = found_some (is_of id) (known_children past) (there.within (is_of id) own) in
+          let own : is_child_of id there.item ≡ true = same_id-self id in
+          let found = found_some (is_child_of id) (known_children past) (there.within (is_child_of id) own) in
           let wrongly =
-          found_holds (is_of id) fails (known_children past) found.0 (known_single goal past sound id) found.1
+          found_holds (is_child_of id) fails (known_children past) found.0 (known_single goal past sound id) found.1
           (there.within
-          (λ x. is_of id x && fails x) (and_from (is_of id there.item) (fails there.item) own there.passes)) in
+          (λ x. is_child_of id x && fails x)
+          (and_from (is_child_of id there.item) (fails there.item) own there.passes)) in
           let none = falsely (is_some (stop_due found.0 past)) (list_any (λ child. is_some (stop_due child past))
-          (known_children past)) (found_any (is_of id) (λ child. is_some (stop_due child past))
+          (known_children past)) (found_any (is_child_of id) (λ child. is_some (stop_due child past))
           (known_children past) found.0 found.1) (unsignalled goal past sound h idle) in
           both_ways (is_stopping past found.0)
           (under_way found.0 past (hits_shape goal past sound id found.0 found.1) none)
@@ -162,7 +165,7 @@ looks_at goal past sound h = all_from (is_looked_at past) (known_children past)
       wrong : Passing (λ child. not (is_looked_at past child)) (known_children past) → ⊥
       wrong there =
           let child = there.item in
-          let known = there.within (is_of child.id) (same_id-self child.id) in
+          let known = there.within (is_child_of child.id) (same_id-self child.id) in
           let none = no_look (record_ids past) past child.id (at_rest goal past h).looks
           (child_in_records goal past sound child.id known) in
           false≢true (sym none ∙ fails (has_child child.id (known_children past)) (open_of child.id past)

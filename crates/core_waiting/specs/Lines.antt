@@ -1,10 +1,10 @@
--- What init waits for where no level is announced settled, a line each.
+-- The messages that say what init waits for while no level is announced settled, one per line.
 use Rattle.std.specs.Prelude.{ℕ, ◌-◌, if◌then◌else◌, List, [], ◌∷◌, ◌++◌, codes, decimal, Option, Some, None, is_some}
 use Rattle.std.specs.Prelude.{option_and_then}
-use Rattle.core_waiting.specs.Words.{Level, Stage, Sysinit, Boot, Run, level_code, RecordState, CoreState}
-use Rattle.core_records.specs.declared.children.Stop.{Stop}
-use Rattle.core_records.specs.declared.children.Stop.TheVariants.{Due, Termed, Killed}
-use Rattle.core_records.specs.Lists.{record_by_id}
+use Rattle.core_waiting.specs.Words.{Level, Stage, Sysinit, Boot, Run, level_code, SlotState, CoreState}
+use Rattle.child_table.specs.declared.children.Stop.{Stop}
+use Rattle.child_table.specs.declared.children.Stop.TheVariants.{Due, Termed, Killed}
+use Rattle.child_table.specs.Lists.{record_by_id}
 use Rattle.core_waiting.specs.declared.rests.Awaited.{Awaited}
 use Rattle.core_waiting.specs.declared.rests.WhyAwaited.{WhyAwaited}
 use Rattle.core_waiting.specs.declared.rests.WhyAwaited.TheVariants.{Excluded, WaitedFor, InTheWay}
@@ -14,64 +14,71 @@ abbrev pub level_words : Level → List ℕ
 level_words level = codes "level " ++ level_code level ∷ []
 
 abbrev pub stage_words : Option Stage → List ℕ
-stage_words None = codes "the opening"
+stage_words None = codes "startup"
 stage_words (Some Sysinit) = codes "sysinit"
 stage_words (Some Boot) = codes "boot"
 stage_words (Some (Run level)) = level_words level
 
+-- the beginning of each line: which level or stage is waiting
 abbrev pub line_start : Option Stage → List ℕ
-line_start stage = codes "initd: " ++ (stage_words stage ++ codes " waits for ")
+line_start stage = codes "initd: " ++ (stage_words stage ++ codes " is waiting for ")
 
 -- the line of a record with an open order
-abbrev pub answer_line : Option Stage → RecordState → List ℕ
+abbrev pub answer_line : Option Stage → SlotState → List ℕ
 answer_line stage slot =
     if is_some slot.order then line_start stage ++ (codes "an answer about " ++ (slot.id ++ codes "\n")) else []
 
-abbrev pub answers_text : Option Stage → List RecordState → List ℕ
+-- the lines of all records with an open order
+abbrev pub answers_text : Option Stage → List SlotState → List ℕ
 answers_text stage [] = []
 answers_text stage (slot ∷ slots) = answer_line stage slot ++ answers_text stage slots
 
 -- how far the stopping of the id's child has come
-abbrev pub stop_in : List ℕ → List RecordState → Option Stop
-stop_in id slots = option_and_then (λ (slot : RecordState). slot.stop) (record_by_id id slots)
+abbrev pub stop_in : List ℕ → List SlotState → Option Stop
+stop_in id slots = option_and_then (λ (slot : SlotState). slot.stop) (record_by_id id slots)
 
--- by the seconds between the two signals and the time: KILL comes when they are over since TERM
+-- a text and a number of seconds
 abbrev pub seconds_words : List ℕ → ℕ → List ℕ
 seconds_words what seconds = what ++ (decimal seconds ++ codes " s")
 
+-- a child that was sent TERM: the seconds until it is sent KILL
 abbrev pub termed_words : ℕ → ℕ → ℕ → List ℕ
 termed_words grace now time =
-    seconds_words (codes "it is being stopped, TERM sent, KILL in ") (grace - (now - time))
+    seconds_words (codes "it is being stopped; TERM was sent, KILL follows in ") (grace - (now - time))
 
+-- how far the stopping of a child has come
 abbrev pub stop_words : ℕ → ℕ → Option Stop → List ℕ
 stop_words grace now (Some (Termed time)) = termed_words grace now time
-stop_words grace now (Some (Killed time)) = codes "it is being stopped, KILL sent"
-stop_words grace now (Some Due) = codes "it is to be stopped, no signal has reached it yet"
-stop_words grace now None = codes "it is to be stopped, no signal has reached it yet"
+stop_words grace now (Some (Killed time)) = codes "it is being stopped; KILL was sent"
+stop_words grace now (Some Due) = codes "it must be stopped, but no signal has reached it yet"
+stop_words grace now None = codes "it must be stopped, but no signal has reached it yet"
 
--- what is waited for, and the number of the child
+-- a text and the number of the child in parentheses
 abbrev pub ended_words : List ℕ → ℕ → List ℕ
 ended_words what number = what ++ (codes " (" ++ (decimal number ++ codes ")"))
 
--- why the end of the child is awaited
+-- the reason why init waits for a child of this id and number
 abbrev pub why_of : CoreState → List ℕ → ℕ → WhyAwaited → List ℕ
 why_of core id number Excluded = stop_words core.fields.grace core.fields.time (stop_in id core.slots)
-why_of core id number WaitedFor = ended_words (codes "init waits for its end") number
-why_of core id number InTheWay = ended_words (codes "its earlier child has to end first") number
+why_of core id number WaitedFor = ended_words (codes "init waits until it exits") number
+why_of core id number InTheWay = ended_words (codes "its earlier child must exit first") number
 
+-- the reason why init waits for the child
 abbrev pub why_words : CoreState → Awaited → List ℕ
 why_words core awaited = why_of core awaited.id awaited.number awaited.why
 
--- the line of a child whose end is awaited
+-- the line of a child that init waits for
 abbrev pub end_line : CoreState → Awaited → List ℕ
 end_line core awaited =
     line_start core.fields.stage ++ (awaited.id ++ (codes ": " ++ (why_words core awaited ++ codes "\n")))
 
+-- the lines of all children that init waits for
 abbrev pub ends_text : CoreState → List Awaited → List ℕ
 ends_text core [] = []
 ends_text core (awaited ∷ others) = end_line core awaited ++ ends_text core others
 
--- the answers that are waited for, and then the ends; nothing where a runlevel is announced settled
+-- the lines for the answers that init waits for, and then those for the children; no lines if a runlevel is announced
+-- settled
 abbrev pub waiting_text : CoreState → List ℕ
 waiting_text core =
     if core.fields.announced then [] else answers_text core.fields.stage core.slots ++ ends_text core (awaited_by core)

@@ -1,9 +1,9 @@
--- Requests for a level, and what comes after them.
+-- Requests for a level, and what follows them.
 use Rattle.std.specs.Prelude.{Bool, true, false, not, List, [], ◌∷◌, Option, Some}
 use Rattle.core_waiting.specs.Words.{Level, Stage, Run, same_level, Enter, Got, Event}
 use Rattle.initctl_frame.specs.declared.requests.HeardRequest.TheVariants as got
 
--- no level is asked for in the stretch
+-- no level is requested in the stretch
 abbrev pub is_no_level_asked : List Event → Bool
 is_no_level_asked [] = true
 is_no_level_asked (Got (got.Level level grace) ∷ stretch) = false
@@ -15,7 +15,7 @@ is_stage_entered [] = false
 is_stage_entered (Enter stage grace ∷ stretch) = true
 is_stage_entered (happening ∷ stretch) = is_stage_entered stretch
 
--- another run level is in force than this one, or none yet
+-- this run level is not in force
 abbrev pub is_elsewhere : Level → Option Stage → Bool
 is_elsewhere level (Some (Run now)) = not (same_level level now)
 is_elsewhere level _ = true

@@ -1,28 +1,28 @@
-//! Whose end init awaits, and why: the children that it names where it has nothing to do (init(8)).
+//! The children that init waits for when it has nothing to do, and why; see init(8).
 //!
-//! Tested by the rows of `test_core`, and against the trace by `tools/pages.d/waits`. What the record of a child
-//! says is compared with `awaited_children` of the past by `next`, whose clause is public: the helpers may change.
+//! This is tested by the rows of `test_core`, and compared with traces by `tools/pages.d/waits`. The public clause of
+//! `next` compares what the record of a child says with `awaited_children` of the past, so the helpers may change.
 
 ghost use Rattle.std.specs.Prelude.{◌≡◌, IsTrue};
-ghost use Rattle.core_waiting.specs.Words.{is_quiet, OnEachTrace};
+ghost use Rattle.core_waiting.specs.Words.{is_quiet, ForAllFittedTraces};
 ghost use Rattle.core_waiting.specs.Rest.{awaited_children};
 ghost use Rattle.core_waiting.specs.Awaiting.{in_record_order, awaited_known, is_wanted_in, why_of_record, awaited_of_record, awaited_by};
 
 use crate::rests::{Awaited, WhyAwaited};
-use core_records::Record;
-use core_steps::Core;
+use child_table::Slot;
 use init_words::{Entry, OrderKind, Stage, starts, waited};
 use inittab_text::Table;
+use level_core::Core;
 use std::alloc::{Allocator, Global};
 use std::marker::Model;
 
-/// The children whose end init awaits, one after another in the order of its records, each with why: seen as the list of
-/// those that are left. It takes no memory.
+/// An iterator over the children that init waits for, in record order, each with the reason. Contracts see it as the
+/// list of the remaining ones. It does not allocate.
 #[derive(Drop)]
 pub struct AwaitedChildren<'a, A: Allocator = Global> {
     stage: Option<Stage>,
     table: &'a Table<A>,
-    slots: &'a [Record],
+    slots: &'a [Slot],
 }
 
 impl<'a, A: Allocator> Model for AwaitedChildren<'a, A> {
@@ -36,15 +36,15 @@ impl<'a, A: Allocator> Model for AwaitedChildren<'a, A> {
 }
 
 impl<'a, A: Allocator> AwaitedChildren<'a, A> {
-    /// The children whose end the core awaits.
+    /// Returns the children that the core waits for.
     ///
-    /// Of every goal and every sound trace that the core fits: the known children whose end is awaited there, and where
-    /// no start and no signal is open, all children whose end is.
+    /// For every goal and every sound trace that the core fits, these are the known children that init waits for there.
+    /// If no start and no signal is open, they are all children that init waits for.
     pub fn of(core: &'a Core<A>) -> AwaitedChildren<'a, A>
         ensures state { result ≡ awaited_by core.now }
-        ensures known { OnEachTrace core.now (λ goal past.
+        ensures known { ForAllFittedTraces core.now (λ goal past.
             result ≡ in_record_order (awaited_known past) past) }
-        ensures all { OnEachTrace core.now (λ goal past. IsTrue (is_quiet past)
+        ensures all { ForAllFittedTraces core.now (λ goal past. IsTrue (is_quiet past)
             → result ≡ in_record_order (awaited_children past) past) }
     {
         AwaitedChildren {
@@ -75,12 +75,8 @@ impl<'a, A: Allocator> Iterator for AwaitedChildren<'a, A> {
     }
 }
 
-/// The child of the record, if its end is awaited.
-fn awaited_of<A: Allocator>(
-    stage: Option<Stage>,
-    table: &Table<A>,
-    slot: &Record,
-) -> Option<Awaited>
+/// Returns the child of the record, if init waits for it.
+fn awaited_of<A: Allocator>(stage: Option<Stage>, table: &Table<A>, slot: &Slot) -> Option<Awaited>
     ensures { result ≡ awaited_of_record stage table.now slot.now }
 {
     let number = slot.child()?;
@@ -92,7 +88,7 @@ fn awaited_of<A: Allocator>(
     })
 }
 
-fn why_of<A: Allocator>(stage: Option<Stage>, table: &Table<A>, slot: &Record) -> Option<WhyAwaited>
+fn why_of<A: Allocator>(stage: Option<Stage>, table: &Table<A>, slot: &Slot) -> Option<WhyAwaited>
     ensures { result ≡ why_of_record stage table.now slot.now }
 {
     if slot.stop().is_some() {
@@ -108,8 +104,8 @@ fn why_of<A: Allocator>(stage: Option<Stage>, table: &Table<A>, slot: &Record) -
     None
 }
 
-/// The entry is to be started in the stage once nothing of it runs.
-fn is_wanted_in(stage: Option<Stage>, entry: &Entry, slot: &Record) -> bool
+/// Returns whether the entry is to be started in the stage once it has neither a child nor an open start.
+fn is_wanted_in(stage: Option<Stage>, entry: &Entry, slot: &Slot) -> bool
     ensures { result ≡ is_wanted_in stage entry.now slot.now }
 {
     let Some(stage) = stage else {

@@ -1,5 +1,5 @@
-//! For whose end init waits, and why: what a rest of init is, whose end a core awaits there, and lines of it for people
-//! to read (init(8)). Init never waits for nothing, and a level is settled at last.
+//! Which children init waits for, and why: what a rest of init is, which children a core waits for there, and messages
+//! about them; see init(8). Init never waits without a reason, and a level is settled in the end.
 #![tactic(auto)]
 
 mod arrivals;

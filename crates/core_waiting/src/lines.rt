@@ -1,4 +1,4 @@
-//! The lines, by what a core keeps.
+//! The messages that say what init waits for.
 
 ghost use Rattle.std.specs.Prelude.{◌≡◌, ◌++◌, ◌-◌, IfOk, OnOk};
 ghost use Rattle.core_waiting.specs.Awaiting.{awaited_by};
@@ -6,14 +6,14 @@ ghost use Rattle.core_waiting.specs.Lines.{answer_line, answers_text, end_line, 
 
 use crate::awaited::AwaitedChildren;
 use crate::rests::{Awaited, WhyAwaited};
-use core_records::{Record, Stop};
-use core_steps::Core;
+use child_table::{Slot, Stop};
 use init_words::{ChildNumber, Id, Level, Stage};
 use itoa::Buffer;
+use level_core::Core;
 use std::alloc::{AllocError, Allocator, Global};
 
-/// What init waits for, a line each: answers to its orders first, and then the ends of the children that
-/// `AwaitedChildren` names, each with why; both in the order of its records. No line where a runlevel is announced
+/// Returns one line for each thing that init waits for: first the answers to its orders, then the children that
+/// `AwaitedChildren` gives, each with the reason, both in record order. There are no lines if a runlevel is announced
 /// settled.
 pub fn waiting_lines<A: Allocator>(alloc: Global, core: &Core<A>) -> Result<Vec<u8>, AllocError>
     ensures { IfOk result (λ text. text.items ≡ waiting_text core.now) }
@@ -26,8 +26,8 @@ pub fn waiting_lines<A: Allocator>(alloc: Global, core: &Core<A>) -> Result<Vec<
     Ok(text)
 }
 
-/// Adds a line for each record with an open order.
-fn add_answers(text: &mut Vec<u8>, stage: Option<Stage>, slots: &[Record]) -> Result<(), AllocError>
+/// Appends a line for each record with an open order.
+fn add_answers(text: &mut Vec<u8>, stage: Option<Stage>, slots: &[Slot]) -> Result<(), AllocError>
     ensures { OnOk result (text.new.items ≡ text.old.items ++ answers_text stage slots.now) }
 {
     let mut rest = slots;
@@ -38,7 +38,7 @@ fn add_answers(text: &mut Vec<u8>, stage: Option<Stage>, slots: &[Record]) -> Re
     Ok(())
 }
 
-fn add_answer(text: &mut Vec<u8>, stage: Option<Stage>, slot: &Record) -> Result<(), AllocError>
+fn add_answer(text: &mut Vec<u8>, stage: Option<Stage>, slot: &Slot) -> Result<(), AllocError>
     ensures { OnOk result (text.new.items ≡ text.old.items ++ answer_line stage slot.now) }
 {
     if slot.order().is_some() {
@@ -50,7 +50,7 @@ fn add_answer(text: &mut Vec<u8>, stage: Option<Stage>, slot: &Record) -> Result
     Ok(())
 }
 
-/// Adds a line for each child whose end is awaited.
+/// Appends a line for each child that init waits for.
 fn add_ends<A: Allocator>(text: &mut Vec<u8>, core: &Core<A>) -> Result<(), AllocError>
     ensures { OnOk result (text.new.items
         ≡ text.old.items ++ ends_text core.now (awaited_by core.now)) }
@@ -76,7 +76,7 @@ fn add_end<A: Allocator>(
     Ok(())
 }
 
-/// Adds why the end of a child is awaited.
+/// Appends the reason why init waits for a child.
 fn add_why<A: Allocator>(
     text: &mut Vec<u8>,
     core: &Core<A>,
@@ -89,16 +89,16 @@ fn add_why<A: Allocator>(
             let stop = stop_of(core, &awaited.id);
             add_stop(text, core.fields().grace, core.time(), stop)
         }
-        WhyAwaited::WaitedFor => add_ended(text, b"init waits for its end", awaited.number),
+        WhyAwaited::WaitedFor => add_ended(text, b"init waits until it exits", awaited.number),
         WhyAwaited::InTheWay => add_ended(
             text,
-            b"its earlier child has to end first",
+            b"its earlier child must exit first",
             awaited.number,
         ),
     }
 }
 
-/// Adds what is waited for, and the number of the child.
+/// Appends a text and the number of the child in parentheses.
 fn add_ended(text: &mut Vec<u8>, what: &[u8], number: ChildNumber) -> Result<(), AllocError>
     ensures { OnOk result (text.new.items ≡ text.old.items ++ ended_words what.now number) }
 {
@@ -110,15 +110,21 @@ fn add_ended(text: &mut Vec<u8>, what: &[u8], number: ChildNumber) -> Result<(),
     Ok(())
 }
 
-/// Adds how far the stopping of a child has come, by the seconds between the two signals and the time.
+/// Appends how far the stopping of a child has come, given the seconds between the two signals and the present time.
 fn add_stop(text: &mut Vec<u8>, grace: u16, now: u64, stop: Option<Stop>) -> Result<(), AllocError>
     ensures { OnOk result (text.new.items ≡ text.old.items ++ stop_words grace now stop) }
 {
     match stop {
         Some(Stop::Termed(time)) => add_termed(text, grace, now, time),
-        Some(Stop::Killed(_)) => put(text, b"it is being stopped, KILL sent"),
-        Some(Stop::Due) => put(text, b"it is to be stopped, no signal has reached it yet"),
-        None => put(text, b"it is to be stopped, no signal has reached it yet"),
+        Some(Stop::Killed(_)) => put(text, b"it is being stopped; KILL was sent"),
+        Some(Stop::Due) => put(
+            text,
+            b"it must be stopped, but no signal has reached it yet",
+        ),
+        None => put(
+            text,
+            b"it must be stopped, but no signal has reached it yet",
+        ),
     }
 }
 
@@ -126,10 +132,14 @@ fn add_termed(text: &mut Vec<u8>, grace: u16, now: u64, time: u64) -> Result<(),
     ensures { OnOk result (text.new.items ≡ text.old.items ++ termed_words grace now time) }
 {
     let left = seconds_left(grace, now, time);
-    add_seconds(text, b"it is being stopped, TERM sent, KILL in ", left)
+    add_seconds(
+        text,
+        b"it is being stopped; TERM was sent, KILL follows in ",
+        left,
+    )
 }
 
-/// Adds what comes, and in how many seconds.
+/// Appends a text and a number of seconds.
 fn add_seconds(text: &mut Vec<u8>, what: &[u8], seconds: u64) -> Result<(), AllocError>
     ensures { OnOk result (text.new.items ≡ text.old.items ++ seconds_words what.now seconds) }
 {
@@ -140,7 +150,7 @@ fn add_seconds(text: &mut Vec<u8>, what: &[u8], seconds: u64) -> Result<(), Allo
     Ok(())
 }
 
-/// The seconds of the grace that are left of those since the time.
+/// Returns how many seconds of the grace period are left, given the time when it began.
 fn seconds_left(grace: u16, now: u64, time: u64) -> u64
     ensures { result ≡ grace - (now - time) }
 {
@@ -154,20 +164,20 @@ fn put(text: &mut Vec<u8>, bytes: &[u8]) -> Result<(), AllocError>
     Ok(())
 }
 
-/// How far the stopping of the id's child has come.
+/// Returns how far the stopping of the id's child has come.
 fn stop_of<A: Allocator>(core: &Core<A>, id: &Id) -> Option<Stop>
     ensures { result ≡ stop_in id.now core.now.slots }
 {
     core.slots().by_id(id)?.stop()
 }
 
-/// Adds the start of a line: what waits.
+/// Appends the beginning of a line, which says what is waiting.
 fn add_start(text: &mut Vec<u8>, stage: Option<Stage>) -> Result<(), AllocError>
     ensures { OnOk result (text.new.items ≡ text.old.items ++ line_start stage) }
 {
     text.extend_from_slice(b"initd: ")?;
     add_stage(text, stage)?;
-    text.extend_from_slice(b" waits for ")?;
+    text.extend_from_slice(b" is waiting for ")?;
     Ok(())
 }
 
@@ -175,7 +185,7 @@ fn add_stage(text: &mut Vec<u8>, stage: Option<Stage>) -> Result<(), AllocError>
     ensures { OnOk result (text.new.items ≡ text.old.items ++ stage_words stage) }
 {
     match stage {
-        None => put(text, b"the opening"),
+        None => put(text, b"startup"),
         Some(Stage::Sysinit) => put(text, b"sysinit"),
         Some(Stage::Boot) => put(text, b"boot"),
         Some(Stage::Run(level)) => add_level(text, level),

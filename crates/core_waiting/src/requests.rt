@@ -1,15 +1,16 @@
-//! No request for a level is lost (telinit(8)).
+//! No request for a level is lost; see telinit(8).
 
 ghost use Rattle.std.specs.Prelude.{◌≡◌, ◌≤◌, ◌⊎◌, ℕ, IsTrue, false, List, ◌∷◌, ◌++◌, Some};
 ghost use Rattle.core_waiting.specs.Words.{Level, Stage, Boot, Run, same_level, Enter, Got, Goal, Event, stage_of, is_idle, goal_of, is_sound};
 ghost use Rattle.initctl_frame.specs.declared.requests.HeardRequest.TheVariants.{Level as LevelAsked};
-ghost use Rattle.core_waiting.specs.Arrival.{AreUnasked, undisturbed_among, rounds_to_come};
+ghost use Rattle.core_waiting.specs.Arrival.{AreRoundsWithoutRequests, undisturbed_among, rounds_to_come};
 ghost use Rattle.core_waiting.specs.Rest.{AtRest, after_rounds, is_level_announced};
 ghost use Rattle.core_waiting.specs.Requests.{is_elsewhere, is_no_level_asked, is_stage_entered};
 
-/// A request for another level than the one in force is carried out. It does nothing: its contract says the laws.
+/// States in its contract that a request for another level than the one in force is carried out. The function itself
+/// does nothing.
 pub fn law_of_request()
-    // where init rests with no order open after such a request, and no other level was asked for since, a stage was
+    // if init is at rest with no order open after such a request, and no other level was requested since, a stage was
     // entered
     ensures heard { (goal : Goal) (between before : List Event) (level now : Level) (grace : ℕ)
         → stage_of before ≡ Some (Run now) → same_level level now ≡ false
@@ -17,7 +18,8 @@ pub fn law_of_request()
         → AtRest goal (between ++ Got (LevelAsked level grace) ∷ before)
         → IsTrue (is_idle (between ++ Got (LevelAsked level grace) ∷ before))
         → IsTrue (is_stage_entered between) }
-    // the first that is entered is that level, or Boot with that level as the goal; with the request's seconds
+    // the first stage entered is that level, or Boot with that level as the goal; it is entered with the seconds of the
+    // request
     ensures entered { (goal : Goal) (later between before : List Event) (level now : Level)
         (grace seconds : ℕ) (stage : Stage) → IsTrue (is_sound goal
         (later ++ Enter stage seconds ∷ (between ++ Got (LevelAsked level grace) ∷ before)))
@@ -26,14 +28,15 @@ pub fn law_of_request()
         → ((stage ≡ Run level)
         ⊎ (stage ≡ Boot) × ((goal_of goal (between ++ Got (LevelAsked level grace) ∷ before)).level
         ≡ level)) × (seconds ≡ grace) }
-    // and from the first rest with no order open on, after as many undisturbed rounds as there are to come there, that
-    // level is announced settled; whatever the stage was at the request, and whatever else but a request came between
+    // from the first rest with no order open, after as many undisturbed rounds as are to come there, that level is
+    // announced settled, whatever the stage was at the request, and whatever happens in between except other requests
     ensures settled { (goal : Goal) (later between before : List Event)
         (rounds : List (List Event)) (level : Level) (grace : ℕ)
         → let asked : List Event = between ++ Got (LevelAsked level grace) ∷ before in
         IsTrue (is_sound goal (later ++ after_rounds rounds asked))
         → IsTrue (is_elsewhere level (stage_of before)) → IsTrue (is_no_level_asked between)
-        → AreUnasked goal rounds asked → rounds_to_come goal asked ≤ undisturbed_among rounds asked
+        → AreRoundsWithoutRequests goal rounds asked
+        → rounds_to_come goal asked ≤ undisturbed_among rounds asked
         → IsTrue (is_level_announced (after_rounds rounds asked))
         × (stage_of (after_rounds rounds asked) ≡ Some (Run level)) }
 {}

@@ -1,4 +1,4 @@
--- What a host tells of its calls, and when it may answer a fault.
+-- What a host records about its calls, and when it may answer that a call failed.
 use Rattle.std.specs.Prelude.{◌≡◌, ◌<◌, ◌≤◌, ◌+◌, ◌-◌, ◌^◌, ◌⊎◌, min, ℕ, Bool, true, false, if◌then◌else◌}
 use Rattle.std.specs.Prelude.{List, ◌∷◌, take, Option, Some, None, IfSome, Result, Ok, Err}
 use Rattle.init_words.specs.declared.entries.Entry.{Entry}
@@ -10,52 +10,54 @@ use Rattle.host_calls.specs.declared.calls.HostFault.{HostFault}
 use Rattle.host_calls.specs.declared.calls.Reply.{Reply}
 use Rattle.host_calls.specs.declared.calls.Reply.TheVariants.{Now, Later}
 
--- a call with what was answered, in whichever memory its texts, its table and the files of one lie
+-- a call with its answer, regardless of the memory that holds its texts, its table and its files
 abbrev pub HostCall : Type 0
 HostCall = Call (List ℕ) (List Entry) (List NamedText)
 
--- a text, or why it was not had
+-- a text, or why it could not be read
 abbrev pub TextRead : Type 0
 TextRead = Result (List ℕ) HostFault
 
--- the files of a table, or why they were not had
+-- the files of a table, or why they could not be read
 abbrev pub PartsRead : Type 0
 PartsRead = Result (List NamedText) HostFault
 
--- where a host tells its record now, the newest call first, it told it before, and the record has gained this call
+-- if the host records its calls now, the newest first, it recorded them before, and this call was added
 abbrev pub AddsCall : Option (List HostCall) → Option (List HostCall) → HostCall → Type 0
 AddsCall old new call = IfSome new (λ all. (before : List HostCall) × (old ≡ Some before) × (all ≡ call ∷ before))
 
--- where a call failed, the count of faults has risen, or stood at its greatest number; it never falls
-pub record HasCause (before now : ℕ) (failed : Bool) : Type 0 where
+-- the count of faults never decreases, and if a call failed, it has increased or was at its maximum
+pub record FaultIsCounted (before now : ℕ) (failed : Bool) : Type 0 where
   pub later : before ≤ now
   pub cause : failed ≡ true → (before < now) ⊎ (before ≡ 2 ^ 64 - 1)
 
--- the count of faults after a call: it stays at its greatest number
+-- the count of faults after a call; it stays at its maximum
 abbrev pub counted : Bool → ℕ → ℕ
 counted failed faults = if failed then min (faults + 1) (2 ^ 64 - 1) else faults
 
--- answers that tell of a fault
+-- the answers that report a fault
 abbrev pub is_failed_answer : Answer → Bool
 is_failed_answer answer.NotBorn = true
 is_failed_answer answer.NoLook = true
 is_failed_answer answer.Miss = true
 is_failed_answer _ = false
 
+-- the reply reports a fault
 abbrev pub is_failed_reply : Reply → Bool
 is_failed_reply (Now given) = is_failed_answer given
 is_failed_reply Later = false
 
+-- the late answer reports a fault
 abbrev pub is_failed_late : Option (List ℕ × Answer) → Bool
 is_failed_late (Some late) = is_failed_answer late.1
 is_failed_late None = false
 
--- the text that a call gave, whatever it is held in
+-- the text that a call returned, regardless of its type
 abbrev pub text_read : {T : Type 0} → (T → List ℕ) → Result T HostFault → TextRead
 text_read text (Ok held) = Ok (text held)
 text_read text (Err fault) = Err fault
 
--- the files that a call gave, whatever they are held in
+-- the files that a call returned, regardless of their type
 abbrev pub parts_read : {T : Type 0} → (T → List NamedText) → Result T HostFault → PartsRead
 parts_read parts (Ok held) = Ok (parts held)
 parts_read parts (Err fault) = Err fault

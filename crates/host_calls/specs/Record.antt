@@ -1,11 +1,11 @@
--- What was asked of a host between two moments, the newest call first, and what the host has told of it.
+-- The calls of a host between two moments, the newest first, and what the host has recorded of them.
 use Rattle.std.specs.Prelude.{◌≡◌, List, ◌++◌, Option, Some, IfSome}
 
--- where the host tells its record now, it told it before, and the calls are what it has told since
-abbrev pub AreTold : {T : Type 0} → Option (List T) → Option (List T) → List T → Type 0
-AreTold old new calls =
+-- if the host records its calls now, it recorded them before, and these are the calls that it has recorded since
+abbrev pub AreNewCalls : {T : Type 0} → Option (List T) → Option (List T) → List T → Type 0
+AreNewCalls old new calls =
     IfSome new (λ all. (before : List _) × (old ≡ Some before) × (all ≡ calls ++ before))
 
--- some calls were made, whether the host tells them or not; where it tells them they are those told; and they have P
-abbrev pub Since : {T : Type 0} → Option (List T) → Option (List T) → (List T → Type 0) → Type 0
-Since old new P = (calls : List _) × AreTold old new calls × P calls
+-- some calls were made, which are those recorded since if the host records its calls, and they have the property P
+abbrev pub NewCallsSatisfy : {T : Type 0} → Option (List T) → Option (List T) → (List T → Type 0) → Type 0
+NewCallsSatisfy old new P = (calls : List _) × AreNewCalls old new calls × P calls

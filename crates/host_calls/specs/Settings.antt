@@ -1,11 +1,13 @@
--- What no call changes of a host.
+-- The settings of a host, which no call changes.
 use Rattle.std.specs.Prelude.{ℕ, Bool, List, Option}
 
--- the path of its inittab; the folder of the children's output, where that goes to logs; whether each child is in a
--- session of its own, and signals go to its group (setsid(1), kill(2)); and whether it passes over the requests that
--- stood in its channel before its first reading
+-- the path of its inittab; the directory of the log files, if the output of children is logged; whether each child runs
+-- in a session of its own, and signals are sent to its process group (setsid(1), kill(2)); the longest delay of a start
+-- in seconds, if starts that follow each other too soon are delayed; and whether the host skips the requests that were
+-- in its channel before the first reading
 pub record HostSettings : Type 0 where
   pub inittab : List ℕ
   pub logs : Option (List ℕ)
   pub groups : Bool
+  pub respawn_delay : Option ℕ
   pub fresh : Bool

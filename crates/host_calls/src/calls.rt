@@ -1,4 +1,4 @@
-//! The calls that init makes of its host, and the answers that they get.
+//! The calls that init makes to its host, and their answers.
 
 ghost use Rattle.std.specs.Prelude.{◌≡◌, [], IfOk};
 
@@ -10,27 +10,27 @@ use std::marker::Model;
 use thiserror::Error;
 use trace_events::Happening;
 
-/// What a host answers to an order: its answer, or that the answer comes later.
+/// The reply of a host to an order.
 #[derive(Clone, Copy, PartialEq, Eq)]
 pub enum Reply {
-    /// The answer.
+    /// The answer to the order.
     Now(Answer),
-    /// `late` will give the answer.
+    /// The answer will be returned by a later call of `late`.
     Later,
 }
 
-/// Why a host could not do what it was asked.
+/// The reason why a host could not do what it was asked.
 #[derive(Clone, Copy, Debug, PartialEq, Eq, Error)]
 pub enum HostFault {
     /// A file, the clock or the output failed.
     #[error("a device failed")]
     Device,
-    /// Out of memory.
+    /// Memory allocation failed.
     #[error("out of memory")]
     Memory,
 }
 
-/// A text in memory of its own.
+/// A text that owns its memory.
 #[derive(Drop)]
 pub struct Bytes<A: Allocator = Global> {
     text: Vec<u8, A>,
@@ -45,7 +45,7 @@ impl<A: Allocator> Model for Bytes<A> {
 }
 
 impl<A: Allocator> Bytes<A> {
-    /// No bytes. It takes no memory.
+    /// Creates an empty text. This allocates no memory.
     pub fn new(alloc: A) -> Bytes<A>
         ensures { result ≡ [] }
     {
@@ -54,7 +54,7 @@ impl<A: Allocator> Bytes<A> {
         }
     }
 
-    /// A copy of the text.
+    /// Copies the text.
     pub fn copy_of(alloc: A, text: &[u8]) -> Result<Bytes<A>, Memory>
         ensures { IfOk result (λ bytes. bytes ≡ text.now) }
     {
@@ -63,7 +63,7 @@ impl<A: Allocator> Bytes<A> {
         })
     }
 
-    /// The text.
+    /// Returns the bytes of the text.
     pub fn as_slice(&self) -> &[u8]
         ensures { result.now ≡ self.now }
     {
@@ -71,20 +71,21 @@ impl<A: Allocator> Bytes<A> {
     }
 }
 
-/// A call of a host, with what it was given and what it answered. `B` is a text, `T` a table, `P` the files of one.
+/// A call to a host, with its arguments and its answer. `B` is the type of a text, `T` of a table, `P` of the files of
+/// a table.
 #[derive(Drop)]
 pub enum Call<B = Bytes, T = Table, P = PartList> {
-    /// A child was to be started for the id, by this process text.
+    /// A child was to be started for the id, with this command.
     Start(Id, B, Reply),
-    /// The id's child was looked at.
+    /// The child of the id was looked at.
     Look(Id, Reply),
-    /// The id's child was to be sent the signal.
+    /// The child of the id was to be sent this signal.
     Signal(Id, SignalKind, Reply),
-    /// An answer that came later was asked for.
+    /// An answer to an earlier order was asked for.
     Late(Option<(Id, Answer)>),
     /// The clock was read, in seconds.
     Clock(Result<u64, HostFault>),
-    /// Bytes of requests were asked for, with room for so many.
+    /// Bytes of requests were asked for, with room for this many.
     TakeBytes(usize, Result<B, HostFault>),
     /// The files of the inittab were read.
     ReadTables(Result<P, HostFault>),
@@ -92,9 +93,9 @@ pub enum Call<B = Bytes, T = Table, P = PartList> {
     Carry(B, Result<B, HostFault>),
     /// A happening was announced.
     Announce(Happening<T>),
-    /// It paused.
+    /// The host paused.
     Pause,
 }
 
-/// A call whose texts, table and files lie in memory of this allocator.
+/// A call whose texts, table and files are in memory of this allocator.
 pub type CallIn<A> = Call<Bytes<A>, Table<A>, PartList<A>>;

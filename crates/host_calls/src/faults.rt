@@ -1,19 +1,19 @@
-//! Which answers say that a call failed, and how often a count of calls may fail.
+//! Which answers report a fault, and how faults are counted.
 
 ghost use Rattle.std.specs.Prelude.{◌≡◌};
-ghost use Rattle.host_calls.specs.Calls.{HasCause, counted, is_failed_answer, is_failed_reply, is_failed_late};
+ghost use Rattle.host_calls.specs.Calls.{FaultIsCounted, counted, is_failed_answer, is_failed_reply, is_failed_late};
 
 use crate::calls::Reply;
 use init_words::{Answer, Id};
 
-/// The answer tells of a fault.
+/// Returns whether the answer reports a fault.
 fn is_failed_answer(answer: &Answer) -> bool
     ensures { result ≡ is_failed_answer answer.now }
 {
     matches!(answer, Answer::NotBorn | Answer::NoLook | Answer::Miss)
 }
 
-/// The reply tells of a fault.
+/// Returns whether the reply reports a fault.
 pub fn is_failed_reply(reply: &Reply) -> bool
     ensures { result ≡ is_failed_reply reply.now }
 {
@@ -23,7 +23,7 @@ pub fn is_failed_reply(reply: &Reply) -> bool
     }
 }
 
-/// The late answer tells of a fault.
+/// Returns whether the late answer reports a fault.
 pub fn is_failed_late(late: &Option<(Id, Answer)>) -> bool
     ensures { result ≡ is_failed_late late.now }
 {
@@ -33,10 +33,10 @@ pub fn is_failed_late(late: &Option<(Id, Answer)>) -> bool
     }
 }
 
-/// The count of faults after a call.
+/// Returns the count of faults after a call, which stays at its maximum.
 pub fn counted(faults: u64, failed: bool) -> u64
     ensures value { result ≡ counted failed faults }
-    ensures cause { HasCause faults result failed }
+    ensures cause { FaultIsCounted faults result failed }
 {
     if failed {
         faults.saturating_add(1)

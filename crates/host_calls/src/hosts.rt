@@ -1,8 +1,8 @@
-//! The host: what init asks of the system, call by call.
+//! The host: everything that init asks of the system, call by call.
 
 ghost use Rattle.std.specs.Prelude.{◌≡◌, ◌≤◌, ℕ, List, Option, IfOk, length, is_err, false};
-ghost use Rattle.host_calls.specs.Calls.{HostCall, AddsCall, HasCause};
-ghost use Rattle.host_calls.specs.Held.{HeldChildren, HoldsBy};
+ghost use Rattle.host_calls.specs.Calls.{HostCall, AddsCall, FaultIsCounted};
+ghost use Rattle.host_calls.specs.Held.{HeldChildren, HeldChildrenAfter};
 ghost use Rattle.host_calls.specs.Settings.{HostSettings};
 ghost use Rattle.host_calls.specs.Calls.{is_failed_reply, is_failed_late, text_read, parts_read, front_read};
 
@@ -11,108 +11,117 @@ use init_words::{Answer, Id, Part, SignalKind};
 use std::alloc::Allocator;
 use trace_events::HappeningIn;
 
-/// What init asks of the system (init(8)).
+/// Everything that init asks of the system (init(8)).
 ///
-/// `NotBorn`, `NoLook`, `Miss` and a `HostFault` are answered only where the count of faults rose in that call, or
-/// stood at its greatest number, where it stays. After a fault no child was born, reaped or signalled by that call, and
-/// the host takes further calls.
+/// A host answers `NotBorn`, `NoLook`, `Miss` or a `HostFault` only if its count of faults increased in that call, or
+/// was already at its maximum, where it stays. After a fault, no child was born, reaped or signalled by that call, and
+/// the host accepts further calls.
 ///
-/// A contract sees of a host the calls that it tells, with what it answered, the children that it holds, where those are
-/// known, and the count of faults. From a call on that a host doesn't tell, it tells none; it may tell none at all.
+/// Contracts describe a host by the calls that it records, with their answers, by the children that it holds, if those
+/// are known, and by its count of faults. A host may record no calls at all; once it fails to record a call, it records
+/// none from then on.
 pub trait Host {
-    /// The calls so far with their answers, the newest first. None from the first call that the host doesn't tell.
+    /// The calls so far with their answers, the newest first. None from the first call on that the host does not
+    /// record.
     ghost told: { Self → Option (List HostCall) };
 
-    /// The children that it holds. None of a host of which that isn't known.
+    /// The children that the host holds. None if they are not known.
     ghost held: { Self → Option HeldChildren };
 
     /// The count of faults.
     ghost failures: { Self → ℕ };
 
-    /// What no call changes of it. None of a host of which that isn't known.
+    /// The settings of the host, which no call changes. None if they are not known.
     ghost settings: { Self → Option HostSettings };
 
-    /// Starts a child for the id by the command of an inittab(5) entry, its process without a leading `+`: `Born` with
-    /// the child's number, or `NotBorn`.
+    /// Starts a child for the id with the command of an inittab(5) entry, which is its process without a leading `+`.
+    /// The answer is `Born` with the number of the child, or `NotBorn`.
     fn start<A: Allocator + Copy>(&mut self, alloc: A, id: Id, command: &[u8]) -> Reply
         ensures adds { AddsCall (told self.old) (told self.new) (Call.Start id command.now result) }
-        ensures children { HoldsBy (held self.old) (held self.new)
+        ensures children { HeldChildrenAfter (held self.old) (held self.new)
             (Call.Start id command.now result) }
-        ensures cause { HasCause (failures self.old) (failures self.new) (is_failed_reply result) }
+        ensures cause { FaultIsCounted (failures self.old) (failures self.new)
+            (is_failed_reply result) }
         ensures settings { settings self.new ≡ settings self.old };
 
-    /// Looks whether the id's child has ended, and reaps it where it has: `Ended`, `Alive` or `NoLook`.
+    /// Looks whether the child of the id has ended, and reaps it if it has. The answer is `Ended`, `Alive` or `NoLook`.
     fn look(&mut self, id: Id) -> Reply
         ensures adds { AddsCall (told self.old) (told self.new) (Call.Look id result) }
-        ensures children { HoldsBy (held self.old) (held self.new) (Call.Look id result) }
-        ensures cause { HasCause (failures self.old) (failures self.new) (is_failed_reply result) }
+        ensures children { HeldChildrenAfter (held self.old) (held self.new) (Call.Look id result) }
+        ensures cause { FaultIsCounted (failures self.old) (failures self.new)
+            (is_failed_reply result) }
         ensures settings { settings self.new ≡ settings self.old };
 
-    /// Sends the id's child a signal: `Hit` or `Miss`.
+    /// Sends a signal to the child of the id. The answer is `Hit` or `Miss`.
     fn signal(&mut self, id: Id, signal: SignalKind) -> Reply
         ensures adds { AddsCall (told self.old) (told self.new) (Call.Signal id signal result) }
-        ensures children { HoldsBy (held self.old) (held self.new) (Call.Signal id signal result) }
-        ensures cause { HasCause (failures self.old) (failures self.new) (is_failed_reply result) }
+        ensures children { HeldChildrenAfter (held self.old) (held self.new)
+            (Call.Signal id signal result) }
+        ensures cause { FaultIsCounted (failures self.old) (failures self.new)
+            (is_failed_reply result) }
         ensures settings { settings self.new ≡ settings self.old };
 
-    /// The answer to an order whose reply was `Later`, with the order's id; None where none has come.
+    /// Returns the answer to an order whose reply was `Later`, with the id of the order, or `None` if no answer has
+    /// come.
     fn late(&mut self) -> Option<(Id, Answer)>
         ensures adds { AddsCall (told self.old) (told self.new) (Call.Late result) }
-        ensures children { HoldsBy (held self.old) (held self.new) (Call.Late result) }
-        ensures cause { HasCause (failures self.old) (failures self.new) (is_failed_late result) }
+        ensures children { HeldChildrenAfter (held self.old) (held self.new) (Call.Late result) }
+        ensures cause { FaultIsCounted (failures self.old) (failures self.new)
+            (is_failed_late result) }
         ensures settings { settings self.new ≡ settings self.old };
 
-    /// The time, in seconds. It may be set back.
+    /// Returns the time, in seconds. It may be less than an earlier one, because the clock may be set back.
     fn clock(&mut self) -> Result<u64, HostFault>
         ensures adds { AddsCall (told self.old) (told self.new) (Call.Clock result) }
-        ensures children { HoldsBy (held self.old) (held self.new) (Call.Clock result) }
-        ensures cause { HasCause (failures self.old) (failures self.new) (is_err result) }
+        ensures children { HeldChildrenAfter (held self.old) (held self.new) (Call.Clock result) }
+        ensures cause { FaultIsCounted (failures self.old) (failures self.new) (is_err result) }
         ensures settings { settings self.new ≡ settings self.old };
 
-    /// Takes the next bytes of requests (initreq.h) into the front of the buffer, and gives how many: 0 where none have
-    /// come.
+    /// Reads the next bytes of requests (initreq.h) into the front of the buffer, and returns their number, which is 0
+    /// if none have come.
     fn take_bytes(&mut self, buffer: &mut [u8]) -> Result<usize, HostFault>
         ensures within { IfOk result (λ count. count ≤ length buffer.old) }
         ensures adds { AddsCall (told self.old) (told self.new)
             (Call.TakeBytes (length buffer.old) (front_read result buffer.new)) }
-        ensures children { HoldsBy (held self.old) (held self.new)
+        ensures children { HeldChildrenAfter (held self.old) (held self.new)
             (Call.TakeBytes (length buffer.old) (front_read result buffer.new)) }
-        ensures cause { HasCause (failures self.old) (failures self.new) (is_err result) }
+        ensures cause { FaultIsCounted (failures self.old) (failures self.new) (is_err result) }
         ensures settings { settings self.new ≡ settings self.old };
 
-    /// The files of the inittab (inittab(5)), in their order, in memory of `alloc`.
+    /// Returns the files of the inittab (inittab(5)), in their order, in memory of `alloc`.
     fn read_tables<A: Allocator + Copy>(&mut self, alloc: A) -> Result<Vec<Part<A>, A>, HostFault>
         ensures adds { AddsCall (told self.old) (told self.new)
             (Call.ReadTables (parts_read (λ parts. parts.items) result)) }
-        ensures children { HoldsBy (held self.old) (held self.new)
+        ensures children { HeldChildrenAfter (held self.old) (held self.new)
             (Call.ReadTables (parts_read (λ parts. parts.items) result)) }
-        ensures cause { HasCause (failures self.old) (failures self.new) (is_err result) }
+        ensures cause { FaultIsCounted (failures self.old) (failures self.new) (is_err result) }
         ensures settings { settings self.new ≡ settings self.old };
 
-    /// Hands the text of init's state over to a new init, and gives what reaches it, in memory of `alloc`.
+    /// Carries the text of init's state to a new init, and returns what reaches it, in memory of `alloc`.
     fn carry<A: Allocator + Copy>(&mut self, alloc: A, text: &[u8]) -> Result<Vec<u8, A>, HostFault>
         ensures adds { AddsCall (told self.old) (told self.new)
             (Call.Carry text.now (text_read (λ back. back.items) result)) }
-        ensures children { HoldsBy (held self.old) (held self.new)
+        ensures children { HeldChildrenAfter (held self.old) (held self.new)
             (Call.Carry text.now (text_read (λ back. back.items) result)) }
-        ensures cause { HasCause (failures self.old) (failures self.new) (is_err result) }
+        ensures cause { FaultIsCounted (failures self.old) (failures self.new) (is_err result) }
         ensures settings { settings self.new ≡ settings self.old };
 
-    /// Says what happened, where init says something of it (init(8)).
+    /// Reports the happening, if init has a message for it (init(8)).
     fn announce<A: Allocator>(&mut self, happening: &HappeningIn<A>)
         ensures adds { AddsCall (told self.old) (told self.new) (Call.Announce happening.now) }
-        ensures children { HoldsBy (held self.old) (held self.new) (Call.Announce happening.now) }
-        ensures cause { HasCause (failures self.old) (failures self.new) false }
+        ensures children { HeldChildrenAfter (held self.old) (held self.new)
+            (Call.Announce happening.now) }
+        ensures cause { FaultIsCounted (failures self.old) (failures self.new) false }
         ensures settings { settings self.new ≡ settings self.old };
 
-    /// Lets some time pass, a second or as long as the host was told.
+    /// Waits for a second, or for as long as the host was configured to wait.
     fn pause(&mut self)
         ensures adds { AddsCall (told self.old) (told self.new) Call.Pause }
-        ensures children { HoldsBy (held self.old) (held self.new) Call.Pause }
-        ensures cause { HasCause (failures self.old) (failures self.new) false }
+        ensures children { HeldChildrenAfter (held self.old) (held self.new) Call.Pause }
+        ensures cause { FaultIsCounted (failures self.old) (failures self.new) false }
         ensures settings { settings self.new ≡ settings self.old };
 
-    /// How many faults there were. It stays at its greatest number.
+    /// Returns the count of faults, which stays at its maximum.
     fn faults(&self) -> u64
         ensures { result ≡ failures self.now };
 }

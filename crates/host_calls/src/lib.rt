@@ -1,8 +1,9 @@
-//! What init asks of the system, as a trait: children are started, looked at and signalled, requests and inittab are
-//! read, init's state is carried over to a new init. A host tells its calls, and counts its faults.
+//! The interface between init and the system, as a trait: starting children, looking at them and sending them signals,
+//! reading requests and inittab, and carrying init's state to a new init. A host records its calls and counts its
+//! faults.
 //!
-//! `host_system` is the host of a machine, `host_scripted` that of tests, which try both in `test_hosts`. A new call
-//! changes `Call`, `Reply`, both hosts, and what `host_trace` says of the pair.
+//! `host_system` implements the trait for a machine, and `host_scripted` for tests; `test_hosts` tests both. A new call
+//! changes `Call`, `Reply`, both hosts, and what `supervisor` says about them.
 #![tactic(auto)]
 
 mod calls;

@@ -1,4 +1,4 @@
-//! The texts of an inittab of several files, copied and kept.
+//! Lists of the files of an inittab, and copies of them.
 
 ghost use Rattle.std.specs.Prelude.{◌≡◌, [], IfOk};
 
@@ -6,7 +6,7 @@ use init_words::{Memory, Part};
 use std::alloc::{Allocator, Global};
 use std::marker::Model;
 
-/// The files of a table, in memory of their own.
+/// The files of a table, as a list that owns its memory.
 #[derive(Drop)]
 pub struct PartList<A: Allocator = Global> {
     parts: Vec<Part<A>, A>,
@@ -22,7 +22,7 @@ impl<A: Allocator> Model for PartList<A> {
 }
 
 impl<A: Allocator> PartList<A> {
-    /// No files. It takes no memory.
+    /// Creates an empty list. This allocates no memory.
     pub fn new(alloc: A) -> PartList<A>
         ensures { result ≡ [] }
     {
@@ -31,14 +31,14 @@ impl<A: Allocator> PartList<A> {
         }
     }
 
-    /// These files.
+    /// Creates the list of these files.
     pub fn of(parts: Vec<Part<A>, A>) -> PartList<A>
         ensures { result ≡ parts.items }
     {
         PartList { parts }
     }
 
-    /// The files.
+    /// Returns the files.
     pub fn as_slice(&self) -> &[Part<A>]
         ensures { result.now ≡ self.now }
     {
@@ -46,7 +46,7 @@ impl<A: Allocator> PartList<A> {
     }
 }
 
-/// A copy of a file.
+/// Copies a file.
 fn part_copy<A: Allocator + Copy, B: Allocator>(alloc: A, part: &Part<B>) -> Result<Part<A>, Memory>
     ensures { IfOk result (λ copy. copy ≡ part.now) }
 {
@@ -56,7 +56,7 @@ fn part_copy<A: Allocator + Copy, B: Allocator>(alloc: A, part: &Part<B>) -> Res
     })
 }
 
-/// A copy of files, in memory of the allocator.
+/// Copies files into memory of this allocator.
 pub fn parts_copy<A: Allocator + Copy, B: Allocator>(
     alloc: A,
     parts: &[Part<B>],

@@ -9,14 +9,15 @@ use Rattle.std.proofs.lemmas.List.{drop_at, length-take-le}
 use Rattle.std.proofs.lemmas.Bool.{true≢false}
 use Rattle.host_files.specs.declared.channel_files.FoundFile.{FoundFile}
 use Rattle.host_files.specs.declared.channel_progress.Progress.{Progress}
-use Rattle.host_files.specs.Channels.{ChannelCall, IsReadOn, begun, bytes_read, first_offset, is_another, is_anew}
+use Rattle.host_files.specs.Channels.{ChannelCall, ReadsConsecutively, begun, bytes_read, first_offset, is_another}
+use Rattle.host_files.specs.Channels.{is_replaced}
 use Rattle.host_files.specs.Channels.{moved}
 use Rattle.host_files.specs.Channels.{progress_of}
 use Rattle.host_files.specs.Channels.{progress_after, whole_length}
 use Rattle.host_files.specs.Channels.ChannelCall.{found, read}
 use Rattle.host_files.specs.Grown.{AreOfFile}
 
--- the place stands in the text, behind a front of whole requests that was passed over and the bytes that were read
+-- the position is in the text, after a prefix of whole requests that was skipped, and the bytes that were read
 record Stands (device number : ℕ) (text : List ℕ) (progress : Progress) (bytes : List ℕ) : Type 0 where
   there : progress.missing ≡ false
   known : (progress.file ≡ None) ⊎ (progress.file ≡ Some (device, number))
@@ -39,12 +40,12 @@ is_same progress at device number there (inr some) same is =
     ap (λ file. option_map_or (differs progress at) file false) some
     ∙ rw (there, eq-eqb device at.device (sym same), eq-eqb number at.number (sym is)) refl
 
--- a look at which the file stands there leaves the place where it is
+-- a look that finds the file leaves the position unchanged
 still : (progress : Progress) (at : FoundFile) (device number : ℕ) (text bytes : List ℕ)
     → Stands device number text progress bytes → at.device ≡ device → at.number ≡ number → progress.heard ≤ at.length
     → Stands device number text (moved (Some at) progress) bytes
 still progress at device number text bytes stands same is below =
-    let anew : is_anew progress at ≡ false =
+    let anew : is_replaced progress at ≡ false =
     rw
     (is_same progress at device number stands.there stands.known same is, le-ltb at.length progress.heard below) refl in
     record {
@@ -66,7 +67,7 @@ first_whole : (fresh : Bool) (at : FoundFile) → first_offset fresh (Some at) %
 first_whole true at = omega (arith)
 first_whole false at = refl
 
--- the first look, and each behind it
+-- after the first look, and after each later one, the position is in the text
 looked : (fresh : Bool) (progress : Progress) (at : FoundFile) (device number : ℕ) (text bytes : List ℕ) (b : Bool)
     → progress.begun ≡ b → Stands device number text progress bytes → at.device ≡ device → at.number ≡ number
     → at.length ≤ length text → progress.heard ≤ at.length
@@ -96,7 +97,7 @@ looked fresh progress at device number text bytes false is stands same so within
     (subst (λ (p : Progress). Stands device number text (moved (Some at) p) []) (sym before)
     (still new at device number text [] begins same so (first_below fresh at)))
 
--- a request that is read
+-- the same after a request is read
 gone_on : (progress : Progress) (device number position : ℕ) (text bytes block : List ℕ)
     → Stands device number text progress bytes → progress.begun ≡ true → position ≡ progress.heard
     → block ≡ take 384 (drop position text) → length block ≡ 384
@@ -120,7 +121,7 @@ gone_on progress device number position text bytes block stands begun at same lo
       unbegun = λ not_begun. absurd (true≢false (sym begun ∙ not_begun));
     }
 
-stands : (device number : ℕ) (text : List ℕ) (fresh : Bool) (told : List ChannelCall) → IsReadOn fresh told
+stands : (device number : ℕ) (text : List ℕ) (fresh : Bool) (told : List ChannelCall) → ReadsConsecutively fresh told
     → AreOfFile device number text fresh told → Stands device number text (progress_of fresh told) (bytes_read told)
 stands device number text fresh [] on of = record {
   there = refl;
@@ -140,8 +141,9 @@ stands device number text fresh (read position block ∷ told) (at, long, on) (b
     gone_on (progress_of fresh told) device number position text (bytes_read told) block
     (stands device number text fresh told on of) begun at same long
 
--- where all of the text was read, what was handed on is all that stands behind a front of whole requests
-pub all_read : (device number : ℕ) (text : List ℕ) (fresh : Bool) (told : List ChannelCall) → IsReadOn fresh told
+-- if the whole text was read, the bytes that were read are all of it after a prefix of whole requests
+pub all_read : (device number : ℕ) (text : List ℕ) (fresh : Bool) (told : List ChannelCall)
+    → ReadsConsecutively fresh told
     → AreOfFile device number text fresh told → (progress_of fresh told).heard ≡ length text
     → (front : List ℕ) × (front ++ bytes_read told ≡ text) × (length front % 384 ≡ 0)
 all_read device number text fresh told on of all =

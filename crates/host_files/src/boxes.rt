@@ -1,12 +1,13 @@
-//! Values on the heap, which are one word to whoever holds them.
+//! Values on the heap, which are one word to their owners.
 //!
-//! A function that holds a channel or a bell in its own frame costs the prover minutes; so they are made here, by `?`.
+//! A function that has a channel or a bell in its own stack frame costs the prover minutes, so such values are created
+//! here.
 
 ghost use Rattle.std.specs.Prelude.{◌≡◌, IfOk};
 
 use std::alloc::{AllocError, Allocator};
 
-/// The value on the heap.
+/// Moves the value to the heap.
 pub fn boxed<T: Drop, A: Allocator>(alloc: A, value: T) -> Result<Box<T, A>, AllocError>
     ensures { IfOk result (λ made. made.value ≡ value) }
 {

@@ -1,4 +1,4 @@
-//! The file of a channel of requests, as it is found at its path and read.
+//! The file of a request channel, as it is found at its path and read.
 
 ghost use Rattle.std.specs.Prelude.{◌≡◌, ◌∷◌, [], List, length, IfOk, OnErr, OnOk};
 ghost use Rattle.program_io.specs.declared.channel_files.TheConstants.{REQUEST};
@@ -13,17 +13,17 @@ use std::os::unix::fs::MetadataExt;
 use std::rt::Files;
 use std::{fs, io};
 
-/// A plain file that stands at a path.
+/// A plain file that was found at a path.
 #[derive(Clone, Copy)]
 pub struct FoundFile {
-    /// Its device, and its number there.
+    /// Its device, and its inode number there.
     pub device: u64,
     pub number: u64,
-    /// How many bytes it has.
+    /// Its length in bytes.
     pub length: u64,
-    /// The user that it is of.
+    /// The user that owns it.
     pub owner: u32,
-    /// When it was last written to: seconds and nanoseconds.
+    /// When it was last written to, in seconds and nanoseconds.
     pub written: (i64, i64),
 }
 
@@ -41,34 +41,35 @@ impl FoundFile {
 
 /// The file at the path of a channel.
 ///
-/// A contract sees of it what it was found to be, and what was read of it. Whoever knows no more of it than this has no
-/// other way to its requests.
+/// A contract sees what was found at the path, and what was read of the file. Code that knows the channel only through
+/// this trait has no other way to read its requests.
 pub trait ChannelFile {
-    /// What it answered, the newest first.
+    /// What it answered, newest first.
     ghost told: { Self → List ChannelCall };
 
-    /// A file that was not looked at.
+    /// Returns a file that was not looked at yet.
     fn unread() -> Self
         ensures { told result ≡ [] };
 
-    /// The record of its answers, which proofs alone can read.
+    /// Returns the record of its answers, which only proofs can read.
     fn calls(&self) -> Noted<ChannelCallList>
         ensures { result.value ≡ told self.now };
 
-    /// From now on the lock is held of each file that is found, beginning with that of this lock.
+    /// Starts to hold the lock of each file that is found, beginning with the file of this lock.
     fn hold(&mut self, lock: ChannelLock)
         ensures { told self.new ≡ told self.old };
 
-    /// The plain file at the path; None where nothing is there. Where a lock is held that of the file is taken; where
-    /// another init has it, that is an error.
+    /// Returns the plain file at the path; `None` if there is nothing. If a lock is held, the lock of the file is
+    /// taken; if another initd holds that, it is an error.
     fn find<R: Files<File = File>>(&mut self, rt: &R, path: &str) -> io::Result<Option<FoundFile>>
+        // what was found is recorded
         ensures ok { IfOk result (λ file. told self.new ≡ found file ∷ told self.old) }
         ensures err { OnErr result (told self.new ≡ told self.old) };
 
-    /// How many bytes the file has whose lock is held.
+    /// Returns the length in bytes of the file whose lock is held, if there is one.
     fn locked_length(&self) -> Option<u64>;
 
-    /// Reads a request of the file that was found last at the path, from this byte on.
+    /// Reads the request at this position of the file that was last found at the path.
     fn read_at<R: Files<File = File>>(
         &mut self,
         rt: &R,
@@ -76,12 +77,15 @@ pub trait ChannelFile {
         position: u64,
         request: &mut [u8; REQUEST],
     ) -> io::Result<()>
+        // a whole request was read
         ensures size { length request.new ≡ REQUEST }
+        // it is recorded, with its position
         ensures ok { OnOk result (told self.new ≡ read position request.new ∷ told self.old) }
         ensures err { OnErr result (told self.new ≡ told self.old) };
 }
 
-/// A list of what a channel's file answered, the newest first. None is ever made: it is the type of what is noted.
+/// A list of what a channel's file answered, newest first. It is the type of a note, and no value of it is ever
+/// created.
 pub struct ChannelCallList {
     marker: PhantomData<()>,
 }
@@ -95,7 +99,7 @@ impl Model for ChannelCallList {
     ghost view = { λ _. [] };
 }
 
-/// How the record of no answers is read.
+/// Marks the note of no answers.
 struct Empty;
 
 impl Reads<(), ChannelCallList> for Empty {
@@ -104,14 +108,14 @@ impl Reads<(), ChannelCallList> for Empty {
     ghost value = { λ _. [] };
 }
 
-/// The record of no answers.
+/// Creates a record of no answers.
 pub fn nothing_read() -> Noted<ChannelCallList>
     ensures { result.value ≡ [] }
 {
     Noted::of::<(), Empty>(&())
 }
 
-/// What stood at the path.
+/// Marks what was found at the path.
 struct Found;
 
 impl<'a> Reads<(&'a Noted<ChannelCallList>, &'a Option<FoundFile>), ChannelCallList> for Found {
@@ -121,7 +125,7 @@ impl<'a> Reads<(&'a Noted<ChannelCallList>, &'a Option<FoundFile>), ChannelCallL
     ghost value = { λ said. found said.1.now ∷ said.0.now.value };
 }
 
-/// A request was read from a byte on.
+/// Marks a request that was read at a position.
 struct ReadAt;
 
 impl<'a> Reads<(&'a Noted<ChannelCallList>, u64, &'a [u8; REQUEST]), ChannelCallList> for ReadAt {
@@ -131,16 +135,16 @@ impl<'a> Reads<(&'a Noted<ChannelCallList>, u64, &'a [u8; REQUEST]), ChannelCall
     ghost value = { λ said. read said.1 said.2.now ∷ said.0.now.value };
 }
 
-/// The file of the operating system at the path of a channel. Each call notes what was answered.
+/// The file of the operating system at the path of a channel. Each call records its answer.
 #[derive(Drop)]
 pub struct OsChannelFile {
-    /// The lock of the file that is read, where the host holds one.
+    /// The lock of the file that is read, if the host holds one.
     lock: Option<ChannelLock>,
     told: Noted<ChannelCallList>,
 }
 
 impl OsChannelFile {
-    /// Takes the lock of the file that was found, where the lock that is held is another file's.
+    /// Takes the lock of the file that was found, if the lock that is held is that of another file.
     fn lock_found<R: Files<File = File>>(
         &mut self,
         rt: &R,
@@ -154,7 +158,7 @@ impl OsChannelFile {
             _ => return Ok(()),
         }
         let Some(lock) = lock_channel(rt, path)? else {
-            return Err(Error::other("another initd run reads it"));
+            return Err(Error::other("another initd run is reading it"));
         };
         self.lock = Some(lock);
         Ok(())
@@ -213,7 +217,7 @@ impl ChannelFile for OsChannelFile {
     }
 }
 
-/// The plain file at the path; None where nothing is there.
+/// Returns the plain file at the path; `None` if there is nothing.
 pub(crate) fn found_at<R: Files>(rt: &R, path: &str) -> io::Result<Option<FoundFile>> {
     Ok(metadata_at(rt, path)?.as_ref().map(FoundFile::of))
 }
@@ -221,7 +225,7 @@ pub(crate) fn found_at<R: Files>(rt: &R, path: &str) -> io::Result<Option<FoundF
 fn metadata_at<R: Files>(rt: &R, path: &str) -> io::Result<Option<Metadata>> {
     match fs::metadata(rt, path) {
         Ok(found) if found.is_file() => Ok(Some(found)),
-        Ok(_) => Err(Error::new(ErrorKind::InvalidInput, "it is no plain file")),
+        Ok(_) => Err(Error::new(ErrorKind::InvalidInput, "not a regular file")),
         Err(error) if error.kind() == ErrorKind::NotFound => Ok(None),
         Err(error) => Err(error),
     }

@@ -1,8 +1,8 @@
-//! What is noted of a channel to tell what is wrong with it.
+//! What is remembered about a channel in order to report what is wrong with it.
 
 use crate::channel_files::FoundFile;
 use crate::channel_progress::Progress;
-use host_lines::{Doing, HostLine, Power, Tells, Trouble};
+use host_lines::{Doing, HostLine, MessageSink, Power, Trouble};
 use initctl_frame::{Cause, HeardRequest, decode};
 use libc::geteuid;
 use program_io::REQUEST;
@@ -10,37 +10,38 @@ use std::io;
 use std::rt::Clock;
 use std::time::{Duration, Instant};
 
-/// After how many microseconds what was begun is taken for done.
+/// After how many microseconds a write that was begun counts as finished. It is also the time between two looks at the
+/// channel during a pause.
 pub(crate) const LOOK: u64 = 40_000;
 
-/// After how many microseconds without a byte more a request that was begun is taken for torn.
+/// After how many microseconds without another byte a request that was begun counts as torn.
 const TORN: u64 = 3_000_000;
 
-/// How many requests that are passed over are told of one by one.
+/// How many ignored requests are reported one by one.
 const TOLD_LIMIT: u32 = 10;
 
-/// What is noted of a channel.
+/// What is remembered about a channel.
 #[derive(Drop)]
 pub(crate) struct ChannelNotes {
-    /// The user that it is of.
+    /// The user that owns it.
     owner: Option<u32>,
-    /// Its length, and when it was last written to, as it was found read to this end: seconds and nanoseconds.
+    /// Its length, and when it was last written to, in seconds and nanoseconds, when it was found read to this end.
     end: Option<(u64, i64, i64)>,
-    /// When its length was found to be another last.
+    /// When its length was last found to have changed.
     resized: Option<Instant>,
-    /// Since when each look has found it written to behind its end, and as long as it was.
+    /// Since when each look has found it written to after it was read to its end, with its length unchanged.
     changed: Option<Instant>,
     hearing: Trouble,
-    /// How many requests that init passes over were told.
+    /// How many requests that init ignores were reported.
     passed_over: u32,
-    /// How many bytes it had when it was last read to an end that is not a request's, and since when.
+    /// Its length when it was last read to an end that is not that of a request, and since when.
     torn: u64,
     torn_since: Option<Instant>,
     told_torn: bool,
 }
 
 impl ChannelNotes {
-    /// Nothing was noted yet.
+    /// Returns a value with nothing remembered.
     pub fn new() -> ChannelNotes {
         ChannelNotes {
             owner: None,
@@ -55,13 +56,13 @@ impl ChannelNotes {
         }
     }
 
-    /// Tells that it can't be read, or can again.
-    pub fn tell_taken(&mut self, rt: &impl Tells, path: &str, taken: &io::Result<usize>) {
+    /// Reports that the channel cannot be read, or can be read again.
+    pub fn tell_taken(&mut self, rt: &impl MessageSink, path: &str, taken: &io::Result<usize>) {
         self.hearing.tell(rt, path, taken);
     }
 
-    /// Tells of the bytes that stand in the channel at its first reading.
-    pub fn tell_first(rt: &impl Tells, path: &str, found: Option<FoundFile>, fresh: bool) {
+    /// Reports that the channel has bytes before its first reading, if it has.
+    pub fn tell_first(rt: &impl MessageSink, path: &str, found: Option<FoundFile>, fresh: bool) {
         match found {
             Some(found) if found.length > 0 => rt.tell(&HostLine::Old {
                 path,
@@ -72,7 +73,7 @@ impl ChannelNotes {
         }
     }
 
-    /// Notes that it is read on here, and was to be there.
+    /// Forgets an incomplete request at the end if the position of reading has changed.
     pub fn note_progress(&mut self, before: &Progress, now: &Progress) {
         if before.heard != now.heard {
             self.torn = 0;
@@ -80,15 +81,16 @@ impl ChannelNotes {
         }
     }
 
-    /// Tells that this file is another than before, or of another user than that or init's, or shorter than what was read.
-    pub fn note_file<R: Clock + Tells>(
+    /// Reports that the channel is a different file than before, or shorter than what was read, or that it belongs to
+    /// another user than before, or than initd.
+    pub fn note_file<R: Clock + MessageSink>(
         &mut self,
         rt: &R,
         path: &str,
         before: &Progress,
         found: &FoundFile,
     ) {
-        if before.is_anew(found) {
+        if before.is_replaced(found) {
             self.end = None;
             self.resized = Instant::now(rt).ok();
             rt.tell(&HostLine::MadeAnew { path });
@@ -104,16 +106,18 @@ impl ChannelNotes {
         }
     }
 
-    /// Notes a channel that was read to its end, and tells what is wrong with that.
-    pub fn note_end<R: Clock + Tells>(&mut self, rt: &R, path: &str, found: &FoundFile) {
+    /// Remembers a channel that was read to its end, and reports what is wrong with that end.
+    pub fn note_end<R: Clock + MessageSink>(&mut self, rt: &R, path: &str, found: &FoundFile) {
         self.note_written(rt, path, found);
         self.note_torn(rt, path, found.length);
     }
 
-    /// Tells that it was written to since it was read to this end, where it is as long as it was: for
-    /// some time before its time changed, and behind. For a file that is appended to has its new time for a moment before
-    /// its new length, and one that is cut behind it.
-    fn note_written(&mut self, rt: &(impl Clock + Tells), path: &str, found: &FoundFile) {
+    /// Reports that the channel was written to since it was read to this end, although its length is unchanged.
+    ///
+    /// It is reported only if the length has been the same for some time, both before and after the time of writing
+    /// changed. For a moment, a file that is appended to has its new time before its new length, and a file that is
+    /// truncated has it after its new length.
+    fn note_written(&mut self, rt: &(impl Clock + MessageSink), path: &str, found: &FoundFile) {
         let end = (found.length, found.written.0, found.written.1);
         let before = self.end.unwrap_or(end);
         if before.0 != end.0 {
@@ -132,9 +136,9 @@ impl ChannelNotes {
         self.end = Some(end);
     }
 
-    /// Tells, once until it is over, that its end is none of a request, where nothing was added for some time, since a
-    /// writer may be in the middle; and that it is over.
-    fn note_torn(&mut self, rt: &(impl Clock + Tells), path: &str, length: u64) {
+    /// Reports, once until it is over, that the channel ends within a request, if nothing was added for some time,
+    /// because a writer may be in the middle of it; and reports when that is over.
+    fn note_torn(&mut self, rt: &(impl Clock + MessageSink), path: &str, length: u64) {
         let over = length % REQUEST as u64;
         if over == 0 {
             if self.told_torn {
@@ -153,10 +157,10 @@ impl ChannelNotes {
         }
     }
 
-    /// Tells why init passes over a request that ends at this byte, where it does.
+    /// Reports why init ignores the request that ends at this byte, if it does.
     pub fn tell_passed_over(
         &mut self,
-        rt: &impl Tells,
+        rt: &impl MessageSink,
         path: &str,
         request: &[u8; REQUEST],
         end: u64,
@@ -166,7 +170,7 @@ impl ChannelNotes {
         }
     }
 
-    fn count_passed_over(&mut self, rt: &impl Tells, path: &str, number: u64, cause: Cause) {
+    fn count_passed_over(&mut self, rt: &impl MessageSink, path: &str, number: u64, cause: Cause) {
         if self.passed_over < TOLD_LIMIT {
             rt.tell(&HostLine::PassedOver {
                 path,
@@ -180,7 +184,7 @@ impl ChannelNotes {
     }
 }
 
-/// It was so many microseconds ago, or never.
+/// Returns whether at least this many microseconds have passed since then; `true` if there is no such moment.
 fn is_past(rt: &impl Clock, since: Option<Instant>, length: u64) -> bool {
     let Some(since) = since else {
         return true;

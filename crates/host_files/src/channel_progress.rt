@@ -1,27 +1,27 @@
-//! Where a channel is read on.
+//! The position at which a channel is read.
 
 ghost use Rattle.std.specs.Prelude.{◌≡◌, ◌-◌, [], false, nat_le};
 ghost use Rattle.program_io.specs.declared.channel_files.TheConstants.{REQUEST};
-ghost use Rattle.host_files.specs.Channels.{begun, first_offset, is_anew, is_another, moved, progress_after, progress_of};
+ghost use Rattle.host_files.specs.Channels.{begun, first_offset, is_replaced, is_another, moved, progress_after, progress_of};
 
 use crate::channel_files::FoundFile;
 use program_io::REQUEST;
 
-/// Where a channel is read on.
+/// The position at which a channel is read.
 #[derive(Clone, Copy)]
 pub(crate) struct Progress {
-    /// It was looked at.
+    /// Whether the channel was looked at.
     pub begun: bool,
-    /// How many of its bytes were read, or passed over: those of whole requests.
+    /// How many of its bytes were read or skipped; they are those of whole requests.
     pub heard: u64,
-    /// No file stood at the path at the last look.
+    /// Whether there was no file at the path at the last look.
     pub missing: bool,
-    /// The device and the number of the file that stood at the path when there was one last.
+    /// The device and the inode number of the file that was last found at the path.
     pub file: Option<(u64, u64)>,
 }
 
 impl Progress {
-    /// Nothing was looked at.
+    /// Returns the position before the first look.
     pub fn unread() -> Progress
         ensures { result ≡ progress_of false [] }
     {
@@ -33,8 +33,8 @@ impl Progress {
         }
     }
 
-    /// Where it is read on behind a look by which this file stands at the path, or none. Whether the first reading begins
-    /// behind the whole requests that stand there then.
+    /// Returns the position after a look that found this file at the path, or none. With `fresh`, the first reading
+    /// begins after the whole requests that are there at the first look.
     pub fn after(self, fresh: bool, found: Option<FoundFile>) -> Progress
         ensures { result ≡ progress_after fresh found self }
     {
@@ -66,15 +66,20 @@ impl Progress {
         };
         Progress {
             begun: self.begun,
-            heard: if self.is_anew(&found) { 0 } else { self.heard },
+            heard: if self.is_replaced(&found) {
+                0
+            } else {
+                self.heard
+            },
             missing: false,
             file: Some((found.device, found.number)),
         }
     }
 
-    /// The channel was made anew: another file stands at the path than before, or one that is shorter than what was read.
-    pub fn is_anew(&self, found: &FoundFile) -> bool
-        ensures { result ≡ is_anew self.now found.now }
+    /// Returns whether the channel was created anew: a different file than before is at the path, or one that is
+    /// shorter than what was read.
+    pub fn is_replaced(&self, found: &FoundFile) -> bool
+        ensures { result ≡ is_replaced self.now found.now }
     {
         self.is_another(found) || found.length < self.heard
     }
@@ -90,7 +95,7 @@ impl Progress {
         }
     }
 
-    /// A channel of this length has a whole request that was not read.
+    /// Returns whether a channel of this length has a whole request that was not read.
     pub fn is_request_behind(&self, length: u64) -> bool
         ensures { result ≡ nat_le REQUEST (length - self.now.heard) }
     {
@@ -98,7 +103,8 @@ impl Progress {
     }
 }
 
-/// Where the first request is read: behind those that stand there, where these are passed over.
+/// Returns where the first request is read: at the first byte, or, if earlier requests are skipped, after the whole
+/// requests that are there.
 fn first_offset(fresh: bool, found: Option<FoundFile>) -> u64
     ensures { result ≡ first_offset fresh found }
 {

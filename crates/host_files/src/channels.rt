@@ -1,31 +1,32 @@
-//! The channel of requests: what of its file was read, and is handed on.
+//! The request channel: which bytes of its file are read, and which are handed on.
 //!
-//! The clauses say which bytes of the file are handed on. How the file is told of is tested by `tools/pages.d/channel` and
-//! `edges`, over real files, and by `test_turns`. Its words are in `host_messages`.
+//! The clauses say which bytes of the file are handed on. The messages about the file are tested by
+//! `tools/pages.d/channel` and `edges`, over real files, and by `test_turns`. Their words are in `host_messages`.
 
 ghost use Rattle.std.specs.Prelude.{◌≡◌, ◌≤◌, [], length, take, IfOk, OnErr};
-ghost use Rattle.host_files.specs.Channels.{HandsNothing, HandsOn, IsReadOn, bytes_read};
+ghost use Rattle.host_files.specs.Channels.{HandsOverNothing, HandsOn, ReadsConsecutively, bytes_read};
 
-use crate::bells::Bell;
+use crate::bells::{Bell, wait_for};
 use crate::boxes::boxed;
 use crate::channel_files::{ChannelCallList, ChannelFile, found_at};
 use crate::channel_notes::{ChannelNotes, LOOK};
 use crate::channel_progress::Progress;
-use host_lines::Tells;
+use host_lines::MessageSink;
 use program_io::{ChannelLock, Noted, REQUEST};
 use std::alloc::{AllocError, Allocator};
 use std::fs::File;
 use std::io::Read;
 use std::marker::Model;
+use std::os::fd::RawFd;
 use std::rt::{Clock, Files};
 use std::time::Duration;
 use std::{io, thread};
 
-/// The channel of requests.
+/// The request channel.
 #[derive(Drop)]
 pub struct Channel<F: ChannelFile + Drop, A: Allocator> {
     path: String<A>,
-    /// What stands in it before its first reading is passed over.
+    /// Whether requests that are there before the first reading are skipped.
     fresh: bool,
     file: F,
     progress: Progress,
@@ -38,7 +39,7 @@ pub struct Channel<F: ChannelFile + Drop, A: Allocator> {
 
 impl<F: ChannelFile + Drop, A: Allocator> Model for Channel<F, A> {
     ghost use Rattle.std.specs.Prelude.{◌≡◌, drop};
-    ghost use Rattle.host_files.specs.Channels.{ChannelState, IsReadOn, progress_of};
+    ghost use Rattle.host_files.specs.Channels.{ChannelState, ReadsConsecutively, progress_of};
 
     ghost Value = { ChannelState };
 
@@ -48,13 +49,13 @@ impl<F: ChannelFile + Drop, A: Allocator> Model for Channel<F, A> {
       rest = drop channel.handed channel.request;
     } };
 
-    ghost invariant = { λ channel. IsReadOn channel.fresh (F.told channel.file)
+    ghost invariant = { λ channel. ReadsConsecutively channel.fresh (F.told channel.file)
         × (channel.progress ≡ progress_of channel.fresh (F.told channel.file)) };
 }
 
 impl<F: ChannelFile + Drop, A: Allocator + Copy> Channel<F, A> {
-    /// The channel at this path, with nothing taken, and whether its first reading begins behind the whole requests that
-    /// stand there then.
+    /// Returns the channel at this path, of which nothing was read. With `fresh`, the first reading begins after the
+    /// whole requests that are there then.
     pub fn new(alloc: A, path: &str, fresh: bool) -> Result<Box<Channel<F, A>, A>, AllocError>
         ensures { IfOk result (λ made.
             made.value ≡ record { fresh = fresh; told = []; rest = [] }) }
@@ -73,51 +74,59 @@ impl<F: ChannelFile + Drop, A: Allocator + Copy> Channel<F, A> {
         boxed(alloc, channel)
     }
 
-    /// The path of its bell, where nothing stands there.
+    /// Returns the path of its bell if nothing exists there.
     pub fn missing_bell<R: Files>(&self, rt: &R) -> Option<&str> {
         self.bell.missing_path(rt)
     }
 
-    /// Sleeps for so many microseconds, or until the bell is rung; where there is none, until the channel has news,
-    /// which is looked at meanwhile.
-    pub fn rest<R: Files<File = File> + Clock + Tells>(&mut self, rt: &R, length: u64)
+    /// Sleeps for this many microseconds, or until the bell is rung or the other descriptor is ready, and returns whether
+    /// that is ready. If there is no bell, it looks at the channel meanwhile, and returns when the channel has news.
+    pub fn rest<R: Files<File = File> + Clock + MessageSink>(
+        &mut self,
+        rt: &R,
+        length: u64,
+        other: Option<RawFd>,
+    ) -> bool
         ensures { self.new ≡ self.old }
     {
-        if self.bell.wait(rt, length) {
-            return;
+        if let Some(is_ready) = self.bell.wait(rt, length, other) {
+            return is_ready;
         }
         for _ in 0..length / LOOK {
-            thread::sleep(rt, Duration::from_micros(LOOK));
+            if nap(rt, LOOK, other) {
+                return true;
+            }
             if self.has_news(rt) {
-                return;
+                return false;
             }
         }
-        thread::sleep(rt, Duration::from_micros(length % LOOK));
+        nap(rt, length % LOOK, other)
     }
 
-    /// It holds the lock of the file at its path, and takes that of each other file that comes to stand there.
+    /// Starts to hold the lock of the file at the channel's path, and of each other file that appears there.
     pub fn hold(&mut self, lock: ChannelLock)
         ensures { self.new ≡ self.old }
     {
         self.file.hold(lock);
     }
 
-    /// The path of the channel.
+    /// Returns the path of the channel.
     pub fn path(&self) -> &str {
         self.path.as_str()
     }
 
-    /// What its file answered.
+    /// Returns the record of what its file answered.
     pub fn told(&self) -> Noted<ChannelCallList>
         ensures value { result.value ≡ self.now.told }
-        ensures read_on { IsReadOn self.now.fresh self.now.told }
+        ensures read_on { ReadsConsecutively self.now.fresh self.now.told }
     {
         self.file.calls()
     }
 
-    /// It has a request that was not read, or is shorter than what was read. Of a file whose lock is held, and that stood
-    /// at its path when it was read last, the length alone is asked for: that another file stands there now is seen when
-    /// it is read again.
+    /// Returns whether the channel has a request that was not read, or is shorter than what was read.
+    ///
+    /// If the lock of the file is held, and the file was at its path when it was last read, only its length is checked:
+    /// a different file at the path is noticed at the next reading.
     pub fn has_news<R: Files>(&self, rt: &R) -> bool {
         if !self.progress.missing {
             if let Some(length) = self.file.locked_length() {
@@ -126,34 +135,40 @@ impl<F: ChannelFile + Drop, A: Allocator + Copy> Channel<F, A> {
         }
         match found_at(rt, self.path.as_str()) {
             Ok(Some(found)) => {
-                self.progress.is_anew(&found) || self.progress.is_request_behind(found.length)
+                self.progress.is_replaced(&found) || self.progress.is_request_behind(found.length)
             }
             _ => false,
         }
     }
 
-    /// Takes the channel's next bytes: those of whole requests alone, so that nothing of a torn one is left where the
-    /// channel is made anew. A channel that isn't there has none. Where another file stands at the path, or the file is
-    /// shorter than what was read, it was made anew, and is read from its first byte on; where a lock is held, that file's
-    /// is taken first, and where another init has it, that is an error. What is no plain file is not opened, since a
-    /// FIFO would wait for its writer.
-    pub fn take_bytes<R: Files<File = File> + Clock + Tells>(
+    /// Reads the channel's next bytes into the buffer.
+    ///
+    /// - Only whole requests are read, so that no part of a torn one is left if the channel is created anew.
+    /// - A channel that does not exist has no bytes.
+    /// - If a different file is at the path, or the file is shorter than what was read, the channel was created anew,
+    ///   and is read from its first byte on. If a lock is held, the lock of that file is taken first; if another initd
+    ///   holds it, that is an error.
+    /// - Anything but a plain file is not opened, because opening a FIFO would block until it has a writer.
+    pub fn take_bytes<R: Files<File = File> + Clock + MessageSink>(
         &mut self,
         rt: &R,
         buffer: &mut [u8],
     ) -> io::Result<usize>
+        // the buffer has room for these bytes
         ensures within { IfOk result (λ count. count ≤ length buffer.old) }
         ensures fresh { self.new.fresh ≡ self.old.fresh }
+        // they are the next bytes that were read of the file, after all those handed on before
         ensures handed { IfOk result (λ count.
             HandsOn self.old self.new (take count buffer.new)) }
-        ensures kept { OnErr result (HandsNothing self.old self.new) }
+        // if there is an error, no byte is handed on, and none is lost
+        ensures kept { OnErr result (HandsOverNothing self.old self.new) }
     {
         let taken = self.next_bytes(rt, buffer);
         self.notes.tell_taken(rt, self.path.as_str(), &taken);
         taken
     }
 
-    fn next_bytes<R: Files<File = File> + Clock + Tells>(
+    fn next_bytes<R: Files<File = File> + Clock + MessageSink>(
         &mut self,
         rt: &R,
         buffer: &mut [u8],
@@ -162,7 +177,7 @@ impl<F: ChannelFile + Drop, A: Allocator + Copy> Channel<F, A> {
         ensures fresh { self.new.fresh ≡ self.old.fresh }
         ensures handed { IfOk result (λ count.
             HandsOn self.old self.new (take count buffer.new)) }
-        ensures kept { OnErr result (HandsNothing self.old self.new) }
+        ensures kept { OnErr result (HandsOverNothing self.old self.new) }
     {
         if self.handed >= REQUEST && !self.read_request(rt)? {
             return Ok(0);
@@ -170,13 +185,13 @@ impl<F: ChannelFile + Drop, A: Allocator + Copy> Channel<F, A> {
         self.hand_on(buffer)
     }
 
-    /// Hands on what it has.
+    /// Hands on the bytes of the request that was read.
     fn hand_on(&mut self, buffer: &mut [u8]) -> io::Result<usize>
         ensures within { IfOk result (λ count. count ≤ length buffer.old) }
         ensures fresh { self.new.fresh ≡ self.old.fresh }
         ensures handed { IfOk result (λ count.
             HandsOn self.old self.new (take count buffer.new)) }
-        ensures kept { OnErr result (HandsNothing self.old self.new) }
+        ensures kept { OnErr result (HandsOverNothing self.old self.new) }
     {
         let mut rest = self.request.get(self.handed..).unwrap_or(&[]);
         let taken = rest.read(buffer)?;
@@ -184,10 +199,13 @@ impl<F: ChannelFile + Drop, A: Allocator + Copy> Channel<F, A> {
         Ok(taken)
     }
 
-    /// Reads the next request, where there is a whole one.
-    fn read_request<R: Files<File = File> + Clock + Tells>(&mut self, rt: &R) -> io::Result<bool>
+    /// Reads the next request if there is a whole one, and returns whether there was.
+    fn read_request<R: Files<File = File> + Clock + MessageSink>(
+        &mut self,
+        rt: &R,
+    ) -> io::Result<bool>
         ensures fresh { self.new.fresh ≡ self.old.fresh }
-        ensures kept { self.old.rest ≡ [] → HandsNothing self.old self.new }
+        ensures kept { self.old.rest ≡ [] → HandsOverNothing self.old self.new }
     {
         if !self.has_request(rt)? {
             return Ok(false);
@@ -204,8 +222,11 @@ impl<F: ChannelFile + Drop, A: Allocator + Copy> Channel<F, A> {
         Ok(true)
     }
 
-    /// The channel has a whole request that was not read.
-    fn has_request<R: Files<File = File> + Clock + Tells>(&mut self, rt: &R) -> io::Result<bool>
+    /// Returns whether the channel has a whole request that was not read.
+    fn has_request<R: Files<File = File> + Clock + MessageSink>(
+        &mut self,
+        rt: &R,
+    ) -> io::Result<bool>
         ensures fresh { self.new.fresh ≡ self.old.fresh }
         ensures rest { self.new.rest ≡ self.old.rest }
         ensures unread { bytes_read self.new.told ≡ bytes_read self.old.told }
@@ -228,4 +249,15 @@ impl<F: ChannelFile + Drop, A: Allocator + Copy> Channel<F, A> {
         }
         Ok(is_whole)
     }
+}
+
+/// Sleeps for this many microseconds, or until the other descriptor is ready, and returns whether it is.
+fn nap(rt: &impl Clock, length: u64, other: Option<RawFd>) -> bool {
+    if let Some(other) = other {
+        if let Some(is_ready) = wait_for(other, length) {
+            return is_ready;
+        }
+    }
+    thread::sleep(rt, Duration::from_micros(length));
+    false
 }

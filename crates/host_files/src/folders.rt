@@ -5,7 +5,7 @@ ghost use Rattle.std.specs.List.{list_all};
 ghost use Rattle.init_words.specs.Parts.{NamedText};
 ghost use Rattle.host_files.specs.Folders.{IsFaultIn, IsFolderFault, is_hidden, is_name_byte, is_part_name};
 
-use host_lines::{HostLine, Tells};
+use host_lines::{HostLine, MessageSink};
 use indexmap::IndexSet;
 use init_words::Part;
 use program_io::{Reason, read_all, read_file};
@@ -15,14 +15,14 @@ use std::rt::Files;
 use std::{io, str};
 use thiserror::Error;
 
-/// Why the files of a folder were not read.
+/// The reason why the files of a folder were not read.
 #[derive(Drop, Error)]
 #[derive_where(Debug)]
 pub enum FolderFault<A: Allocator = Global> {
-    /// The folder of this path could not be listed, or the file of this path not be read.
+    /// The folder at this path could not be listed, or the file at this path could not be read.
     #[error("cannot read {0}: {reason}", reason = Reason(.1))]
     Unread(String<A>, io::Error),
-    /// Out of memory.
+    /// Memory allocation failed.
     #[error("out of memory")]
     Memory,
 }
@@ -49,7 +49,7 @@ impl<T: Drop, A: Allocator> From<AllocFailed<T>> for FolderFault<A> {
     }
 }
 
-/// The name begins with a point.
+/// Returns whether the name begins with a dot.
 pub fn is_hidden(name: &[u8]) -> bool
     ensures { result ≡ is_hidden name.now }
 {
@@ -59,8 +59,8 @@ pub fn is_hidden(name: &[u8]) -> bool
     }
 }
 
-/// The file's name is that of a part of an inittab: bytes of A-Z a-z 0-9 . _ - that end in `.tab` and don't begin with
-/// a point.
+/// Returns whether the name is that of a part of an inittab: it has only the characters A-Z a-z 0-9 . _ -, ends in
+/// `.tab` and does not begin with a dot.
 fn is_part_name(name: &[u8]) -> bool
     ensures { result ≡ is_part_name name.now }
 {
@@ -79,14 +79,14 @@ fn is_name_byte(byte: u8) -> bool
     byte.is_ascii_alphanumeric() || matches!(byte, b'.' | b'_' | b'-')
 }
 
-/// The path of what has the name in a folder.
+/// Returns the path of a name in a folder.
 fn path_in<A: Allocator>(alloc: A, folder: &str, name: &str) -> Result<String<A>, AllocError>
     ensures { IfOk result (λ path. string_bytes path ≡ folder.now ++ (codes "/" ++ name.now)) }
 {
     format!(in alloc; "{folder}/{name}")
 }
 
-/// The names in a folder, each with a NUL behind it. A folder without a path can't be listed.
+/// Returns the names in a folder, each followed by a NUL. For an empty path the error is `NotFound`.
 fn listed<R: Files, A: Allocator + Copy>(rt: &R, alloc: A, folder: &str) -> io::Result<Vec<u8, A>> {
     if folder.is_empty() {
         return Err(io::Error::from(io::ErrorKind::NotFound));
@@ -96,39 +96,39 @@ fn listed<R: Files, A: Allocator + Copy>(rt: &R, alloc: A, folder: &str) -> io::
     read_all(alloc, &mut dir)
 }
 
-/// What hears of the names in an inittab's folder that are passed over, where the folder is read by this runtime.
-pub trait HearsPassed<R> {
+/// Receives the names of ignored files in an inittab's folder, with the runtime that reads the folder.
+pub trait SkippedFileListener<R> {
     fn hear(&mut self, rt: &R, folder: &str, name: &[u8]);
 }
 
-/// What tells none of them.
+/// Reports no ignored files.
 #[derive(Clone, Copy)]
-pub struct Unheard;
+pub struct IgnoringListener;
 
-impl<R> HearsPassed<R> for Unheard {
+impl<R> SkippedFileListener<R> for IgnoringListener {
     fn hear(&mut self, _rt: &R, _folder: &str, _name: &[u8]) {}
 }
 
-/// The names of the files of an inittab's folder that don't count. They are told on standard error, each once, where that
-/// is asked for.
+/// The names of ignored files in an inittab's folder. Each is reported once on standard error, if that is asked for.
 #[derive(Drop)]
-pub(crate) struct PassedNames<A: Allocator> {
+pub(crate) struct SkippedNames<A: Allocator> {
     alloc: A,
     is_asked: bool,
     told: IndexSet<Vec<u8, A>, BuildHasherDefault<FoldHasher>, A>,
 }
 
-impl<A: Allocator + Copy> PassedNames<A> {
-    /// None was told; whether they are to be told. It takes no memory.
-    pub(crate) fn new(alloc: A, is_asked: bool) -> PassedNames<A> {
-        PassedNames {
+impl<A: Allocator + Copy> SkippedNames<A> {
+    /// Returns a value for which no name was reported; `is_asked` says whether names are to be reported. It allocates
+    /// no memory.
+    pub(crate) fn new(alloc: A, is_asked: bool) -> SkippedNames<A> {
+        SkippedNames {
             alloc,
             is_asked,
             told: IndexSet::new(alloc),
         }
     }
 
-    /// From now on the names are told, but for those that stand in the folder now.
+    /// Starts to report names, except those that are in the folder now.
     pub(crate) fn tell_further<R: Files>(&mut self, rt: &R, folder: &str) {
         self.is_asked = true;
         let Ok(list) = listed(rt, self.alloc, folder) else {
@@ -139,7 +139,8 @@ impl<A: Allocator + Copy> PassedNames<A> {
         }
     }
 
-    /// The name is taken for told, and was not told before; so is one that there is no memory to keep.
+    /// Notes the name as reported, and returns whether it was not noted before; also `true` if there is no memory to
+    /// keep it.
     fn note(&mut self, name: &[u8]) -> bool {
         let Ok(name) = Vec::from_slice(self.alloc, name) else {
             return true;
@@ -148,8 +149,8 @@ impl<A: Allocator + Copy> PassedNames<A> {
     }
 }
 
-impl<R: Tells, A: Allocator + Copy> HearsPassed<R> for PassedNames<A> {
-    /// Tells of a name, where it is one, it is asked for and was not told.
+impl<R: MessageSink, A: Allocator + Copy> SkippedFileListener<R> for SkippedNames<A> {
+    /// Reports a name, if it is not empty, reports are asked for, and it was not reported before.
     fn hear(&mut self, rt: &R, folder: &str, name: &[u8]) {
         if self.is_asked && !name.is_empty() && self.note(name) {
             rt.tell(&HostLine::PassedFile { folder, name });
@@ -157,7 +158,7 @@ impl<R: Tells, A: Allocator + Copy> HearsPassed<R> for PassedNames<A> {
     }
 }
 
-/// The part of a name in a folder.
+/// Reads the part with this name in a folder.
 fn part_in<R: Files, A: Allocator + Copy>(
     rt: &R,
     alloc: A,
@@ -173,8 +174,8 @@ fn part_in<R: Files, A: Allocator + Copy>(
     }
 }
 
-/// The names of the parts in a folder, in byte order. The others are passed over.
-fn names_in<R: Files, A: Allocator + Copy, P: HearsPassed<R>>(
+/// Returns the names of the parts in a folder, in byte order. The other names are passed to `passed`.
+fn names_in<R: Files, A: Allocator + Copy, P: SkippedFileListener<R>>(
     rt: &R,
     alloc: A,
     folder: &str,
@@ -197,10 +198,12 @@ fn names_in<R: Files, A: Allocator + Copy, P: HearsPassed<R>>(
     Ok(names)
 }
 
-/// The parts of an inittab: its own file, and after it the files of a folder, where there is one, by the order of
-/// their names. Those files count whose names end in `.tab`, don't begin with a point, and have only bytes of A-Z a-z
-/// 0-9 . _ -. The others are passed over, which `passed` hears.
-pub fn with_folder<R: Files, A: Allocator + Copy, P: HearsPassed<R>>(
+/// Reads the parts of an inittab: its own file, followed by the files of a folder, if there is one, in the order of
+/// their names.
+///
+/// A file of the folder is a part if its name ends in `.tab`, does not begin with a dot, and has only the characters
+/// A-Z a-z 0-9 . _ -. Other files are ignored, and their names are passed to `passed`.
+pub fn with_folder<R: Files, A: Allocator + Copy, P: SkippedFileListener<R>>(
     rt: &R,
     alloc: A,
     main_part: Part<A>,

@@ -4,8 +4,8 @@ ghost use Rattle.std.specs.Prelude.{◌≡◌, IfOk};
 ghost use Rattle.host_files.specs.Folders.{IsOwnFirst, text_of};
 
 use crate::boxes::boxed;
-use crate::folders::{FolderFault, PassedNames, with_folder};
-use host_lines::{Doing, HostLine, Tells, Trouble};
+use crate::folders::{FolderFault, SkippedNames, with_folder};
+use host_lines::{Doing, HostLine, MessageSink, Trouble};
 use init_words::Part;
 use inittab_text::TableFault;
 use std::alloc::{AllocError, Allocator};
@@ -19,10 +19,10 @@ use std::rt::Files;
 pub struct InittabFiles<A: Allocator> {
     path: String<A>,
     reading: Trouble,
-    /// The folder of its further files, where it has one.
+    /// The folder of its further files, if it has one.
     folder: Option<String<A>>,
     listing: Trouble,
-    passed: PassedNames<A>,
+    passed: SkippedNames<A>,
 }
 
 impl<A: Allocator> Model for InittabFiles<A> {
@@ -34,7 +34,7 @@ impl<A: Allocator> Model for InittabFiles<A> {
 }
 
 impl<A: Allocator + Copy> InittabFiles<A> {
-    /// The file at this path, and those of this folder.
+    /// Returns the inittab with its own file at this path, and its further files in this folder.
     pub fn new(
         alloc: A,
         path: &str,
@@ -51,19 +51,19 @@ impl<A: Allocator + Copy> InittabFiles<A> {
             reading: Trouble::new(Doing::Read),
             folder,
             listing: Trouble::new(Doing::Read),
-            passed: PassedNames::new(alloc, false),
+            passed: SkippedNames::new(alloc, false),
         };
         boxed(alloc, files)
     }
 
-    /// The path of the inittab's own file.
+    /// Returns the path of the inittab's own file.
     pub fn path(&self) -> &str
         ensures { result.now ≡ self.now }
     {
         self.path.as_str()
     }
 
-    /// From now on files that come to stand in the folder and are passed over are told.
+    /// Starts to report ignored files that appear in the folder.
     pub fn tell_all<R: Files>(&mut self, rt: &R)
         ensures { self.new ≡ self.old }
     {
@@ -72,9 +72,9 @@ impl<A: Allocator + Copy> InittabFiles<A> {
         }
     }
 
-    /// The parts of the inittab: its file, of which this was read, and those of its folder, where it has one, which are
-    /// read anew.
-    pub fn read<R: Files + Tells, B: Allocator + Copy>(
+    /// Returns the parts of the inittab: its own file, of which this was read, and those of its folder, if it has one,
+    /// which are read anew.
+    pub fn read<R: Files + MessageSink, B: Allocator + Copy>(
         &mut self,
         rt: &R,
         alloc: B,
@@ -100,8 +100,8 @@ impl<A: Allocator + Copy> InittabFiles<A> {
         }
     }
 
-    /// Says why the parts have no table.
-    pub fn tell_no_table(&mut self, rt: &impl Tells, fault: TableFault)
+    /// Reports why the parts have no table.
+    pub fn tell_no_table(&mut self, rt: &impl MessageSink, fault: TableFault)
         ensures { self.new ≡ self.old }
     {
         let path = self.path.as_str();

@@ -1,5 +1,5 @@
-//! The files that init reads and writes while it runs: the channel of requests with its bell, the inittab with its
-//! folder, the text of init's state. No process is started here; whom a host asks besides is in `host_system`.
+//! The files that initd reads and writes while it runs: the request channel with its bell, the inittab with its folder,
+//! and the state file. No process is started here; what else a host asks of the system is in `host_system`.
 #![tactic(auto)]
 
 mod bells;
@@ -15,6 +15,6 @@ mod state_files;
 pub use boxes::boxed;
 pub use channel_files::{ChannelCallList, ChannelFile, FoundFile, OsChannelFile, nothing_read};
 pub use channels::Channel;
-pub use folders::{FolderFault, HearsPassed, Unheard, is_hidden, with_folder};
+pub use folders::{FolderFault, IgnoringListener, SkippedFileListener, is_hidden, with_folder};
 pub use inittab_files::InittabFiles;
 pub use state_files::StateFile;

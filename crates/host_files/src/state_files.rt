@@ -1,7 +1,7 @@
-//! The file of the text of init's state, as a host writes it and reads it back.
+//! The state file, which has the text of init's state, as a host writes it and reads it back.
 
 use crate::boxes::boxed;
-use host_lines::{Doing, Tells, Trouble};
+use host_lines::{Doing, MessageSink, Trouble};
 use program_io::{are_one_file, read_file, refuse_too_large, write_text};
 use std::alloc::{AllocError, Allocator};
 use std::fs::{File, OpenOptions};
@@ -10,22 +10,22 @@ use std::os::unix::fs::OpenOptionsExt;
 use std::rt::Files;
 use std::{fs, io};
 
-/// The mode of a file that is made: others than its group don't read the commands of entries.
+/// The mode of a new file: only its owner and its group can read it, because it has the commands of entries.
 const MODE: u32 = 0o640;
 
-/// The file of the text of init's state.
+/// The state file.
 #[derive(Drop)]
 pub struct StateFile<A: Allocator> {
     path: String<A>,
-    /// Where a text is written first.
+    /// The path that a text is written to first.
     beside: String<A>,
-    /// A further file that no text replaces.
+    /// The path of a further file that the state does not replace.
     spared: String<A>,
     carrying: Trouble,
 }
 
 impl<A: Allocator + Copy> StateFile<A> {
-    /// The file at this path, and one that no text replaces.
+    /// Returns the state file at this path. The state does not replace the file at `spared`.
     pub fn new(alloc: A, path: &str, spared: &str) -> Result<Box<StateFile<A>, A>, AllocError> {
         let state = StateFile {
             path: String::from_str(alloc, path)?,
@@ -36,9 +36,10 @@ impl<A: Allocator + Copy> StateFile<A> {
         boxed(alloc, state)
     }
 
-    /// Why no text can be put in its place as things stand, which is told: something else than a plain file stands
-    /// there or beside it, or the file there is another of the run's, as the inittab and the channel.
-    pub fn tell_blocked<R: Files + Tells>(
+    /// Returns an error, and reports it, if the state could not be written as things are: at its path, or at the path
+    /// that it is written to first, there is something other than a plain file, or another file of the run, such as the
+    /// inittab or the channel.
+    pub fn tell_blocked<R: Files + MessageSink>(
         &mut self,
         rt: &R,
         inittab: &str,
@@ -55,26 +56,27 @@ impl<A: Allocator + Copy> StateFile<A> {
         Ok(())
     }
 
-    /// Refuses a link, what is no plain file, and another file of the run.
+    /// Returns an error for a symbolic link, for anything but a plain file, and for another file of the run.
     fn refuse<R: Files>(&self, rt: &R, path: &str, inittab: &str, channel: &str) -> io::Result<()> {
         match fs::symlink_metadata(rt, path) {
             Ok(found) if found.is_symlink() => {
-                return Err(refusal("it is a link: name the file that it leads to"));
+                return Err(refusal("it is a symbolic link; name its target instead"));
             }
-            Ok(found) if !found.is_file() => return Err(refusal("it is no plain file")),
+            Ok(found) if !found.is_file() => return Err(refusal("not a regular file")),
             _ => {}
         }
         if are_one_file(rt, path, inittab)
             || are_one_file(rt, path, channel)
             || are_one_file(rt, path, self.spared.as_str())
         {
-            return Err(refusal("it is another file of this run"));
+            return Err(refusal("this run uses that file for something else"));
         }
         Ok(())
     }
 
-    /// Writes the text beside the path and puts it there whole; then reads what is there.
-    pub fn carry<R: Files<File = File> + Tells, B: Allocator>(
+    /// Writes the text to the path beside the state file, renames it to the path of the state file, and returns what it
+    /// reads back from there.
+    pub fn carry<R: Files<File = File> + MessageSink, B: Allocator>(
         &mut self,
         rt: &R,
         alloc: B,
@@ -104,8 +106,8 @@ fn refusal(reason: &'static str) -> Error {
     Error::new(ErrorKind::InvalidInput, reason)
 }
 
-/// Writes a file anew that has the text, and waits until it is on the disk. What stood at the path is taken away first,
-/// so that nothing is written through it.
+/// Writes a new file with this text, and waits until it is on the disk. An existing file is removed first, so that
+/// nothing is written through a link.
 fn write_whole<R: Files<File = File>>(rt: &R, path: &str, text: &[u8]) -> io::Result<()> {
     match fs::remove_file(rt, path) {
         Err(error) if error.kind() != ErrorKind::NotFound => return Err(error),

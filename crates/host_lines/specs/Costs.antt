@@ -1,4 +1,4 @@
--- Why a reading of the inittab costs a child.
+-- Why a child is stopped after inittab was read again.
 use Rattle.std.specs.Prelude.{Bool, true, false, Option, Some, None, if◌then◌else◌}
 use Rattle.init_words.specs.declared.entries.Entry.{Entry}
 use Rattle.init_words.specs.declared.stages.Stage.{Stage}
@@ -8,17 +8,19 @@ use Rattle.init_words.specs.Entries.{lives_of}
 use Rattle.host_lines.specs.declared.costs.ChildLine.{ChildLine}
 use Rattle.host_lines.specs.declared.costs.ChildLine.TheVariants as line
 
+-- the action is `off`
 abbrev pub is_off : Act → Bool
 is_off act.Off = true
 is_off _ = false
 
--- what a table has for a child, by the entry of its id, in a stage
+-- what a table has for a child in a stage, given the entry of its id
 abbrev pub line_of : Option Entry → Stage → ChildLine
 line_of None stage = line.Gone
 line_of (Some entry) stage =
-    if is_off entry.act then line.Off else if lives_of entry stage then line.StopsChild else line.OtherAction
+    if is_off entry.act then line.Off else if lives_of entry stage then line.ActionChanged else line.NotInLevel
 
--- a line that is gone or off costs the child; any other costs it where the stage is that of the reading
+-- the reading is the reason: always if the line is gone or off, otherwise only if the stage is still that of the
+-- reading
 abbrev pub stops_child : ChildLine → Bool → Bool
 stops_child line.Gone same = true
 stops_child line.Off same = true

@@ -1,4 +1,4 @@
-//! What a host says of a child.
+//! What a host reports about a child.
 
 use crate::costs::ChildLine;
 use init_words::{ChildNumber, SignalKind};
@@ -7,49 +7,51 @@ use std::io::Error;
 /// How a child ended.
 #[derive(Clone, Copy)]
 pub enum ChildEnd {
-    /// With this status.
+    /// It exited with this status.
     Code(u32),
-    /// The signal of this number killed it.
+    /// It was killed by the signal with this number.
     Signal(u32),
-    /// The system says neither.
+    /// The system reports neither.
     Unknown,
 }
 
-/// What a child did, was sent, or what went wrong with it.
+/// What a child did, what was sent to it, or what went wrong with it.
 #[derive(Clone, Copy)]
 pub enum ChildMessage<'a> {
-    /// It was started, as this one of its id, the first being 1; None: nobody knows.
+    /// It was started. `start` counts the starts of its id from 1; it is `None` if that is not known.
     Started {
         number: ChildNumber,
         start: Option<u64>,
     },
+    /// It was started, and waits for this number of seconds before it executes its program.
+    Delayed(u16),
     Ended(ChildEnd),
     Sent(SignalKind),
-    /// It was to execute this program, and was not born.
+    /// It was to execute this program, and could not be started.
     NotBorn {
         program: &'a [u8],
         error: &'a Error,
     },
-    /// It can't be waited for: where the system has none of its number, no look asks the system again.
+    /// It cannot be waited for. If the system has no child with its number, looks do not ask the system again.
     Unwaited {
         number: ChildNumber,
         error: &'a Error,
     },
     /// It can be waited for again.
     Waited(ChildNumber),
-    /// It can't be sent KILL, and is waited for until it ends by itself.
+    /// It cannot be sent KILL, and is waited for until it ends by itself.
     Unkilled {
         number: ChildNumber,
         error: &'a Error,
     },
-    /// The last one of an id that is started too often ended so.
+    /// How the last child of an id that is started too often ended.
     LastEnd(ChildEnd),
-    /// It is stopped since an inittab that was read again has this for it.
+    /// It is stopped because the inittab that was read again has this line for it.
     Stopped {
         number: ChildNumber,
         line: ChildLine,
     },
-    /// It left so many processes, of these numbers, with a blank in front of each.
+    /// It left this many processes behind. `numbers` has their numbers, each preceded by a blank.
     Left {
         count: u32,
         numbers: &'a str,

@@ -1,37 +1,38 @@
-//! What a reading of the inittab costs a child.
+//! Why a child is stopped after inittab was read again.
 
 ghost use Rattle.std.specs.Prelude.{◌≡◌, option_copied};
 ghost use Rattle.host_lines.specs.Costs.{stops_child, line_of};
 
 use init_words::{Act, Entry, Stage, lives};
 
-/// What an inittab that was read again has for a child, at the stage of its reading.
+/// What an inittab that was read again has for a child, in the stage in which it was read.
 #[derive(Clone, Copy, PartialEq)]
 pub enum ChildLine {
-    /// There is no line of its id.
+    /// The table has no line with its id.
     Gone,
-    /// Its line is off.
+    /// Its line has the action `off`.
     Off,
-    /// Its line runs, in the stage.
-    StopsChild,
-    /// Its line runs, and not in the stage.
-    OtherAction,
+    /// Its line may run in the stage, so the child is stopped only if the line has another action now.
+    ActionChanged,
+    /// Its line may not run in the stage.
+    NotInLevel,
 }
 
 impl ChildLine {
-    /// What a table has for a child, by the entry of its id, where there is one.
+    /// Returns what a table has for a child, given the entry of its id, if there is one.
     pub fn of(entry: Option<&Entry>, stage: Stage) -> ChildLine
         ensures { result ≡ line_of (option_copied entry.entry) stage }
     {
         match entry {
             None => ChildLine::Gone,
             Some(entry) if matches!(entry.act, Act::Off) => ChildLine::Off,
-            Some(entry) if lives(entry, stage) => ChildLine::StopsChild,
-            Some(_) => ChildLine::OtherAction,
+            Some(entry) if lives(entry, stage) => ChildLine::ActionChanged,
+            Some(_) => ChildLine::NotInLevel,
         }
     }
 
-    /// It costs a child that is stopped: a change of the stage since the reading does not.
+    /// Returns whether a child that is stopped is stopped because of this reading of inittab, and not because the stage
+    /// has changed since.
     pub fn stops_child(self, is_same_stage: bool) -> bool
         ensures { result ≡ stops_child self is_same_stage }
     {

@@ -1,5 +1,6 @@
-//! What a host says, as values: which line, and what it is of. No word stands here. Who words and prints them is given
-//! to the host by what is above (`host_messages`), so that a change of a word proves no host again.
+//! The lines that a host reports, as values: which line it is, and its parameters. The wording is not part of this
+//! crate. The host is given whoever words and prints the lines from above (`host_messages`), so no host has to be
+//! proved again when the wording changes.
 #![tactic(auto)]
 
 mod child_lines;
@@ -13,5 +14,5 @@ pub use child_lines::{ChildEnd, ChildMessage};
 pub use costs::ChildLine;
 pub use lines::{Doing, HostLine, Power};
 pub use runtimes::TellingRuntime;
-pub use tellers::Tells;
+pub use tellers::MessageSink;
 pub use troubles::Trouble;

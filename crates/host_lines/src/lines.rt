@@ -1,65 +1,69 @@
-//! The lines that a host says.
+//! The lines that a host reports.
 
 use crate::child_lines::ChildMessage;
 use init_words::Id;
 use initctl_frame::Cause;
 use std::io::Error;
 
-/// What fails until it is done again.
+/// An operation that may fail, and then work again.
 #[derive(Clone, Copy, PartialEq)]
 pub enum Doing {
-    /// A bell is heard.
+    /// Listening to a bell.
     Hear,
+    /// Reading a file or the clock.
     Read,
+    /// Writing output.
     Write,
-    /// The text of init's state is written and read back.
+    /// Writing the text of init's state and reading it back.
     Carry,
-    /// A child is sent TERM.
+    /// Sending TERM to a child.
     SendTerm,
+    /// Watching the children.
+    Watch,
 }
 
-/// What whoever writes a file can do to init.
+/// What a user who can write to a file can make init do.
 #[derive(Clone, Copy)]
 pub enum Power {
-    /// He asks for levels, by the channel.
+    /// Go to another level, by a request in the channel.
     Ask,
-    /// He ends pauses, by the bell.
+    /// End its pause, by the bell.
     Wake,
 }
 
-/// A line of a host, without the name of the program that says it.
+/// A line that a host reports, without the name of the program in front.
 #[derive(Clone, Copy)]
 pub enum HostLine<'a> {
-    /// What of this name can't be done to, and why.
+    /// This operation failed on the thing of this name, for this reason.
     Fails {
         doing: Doing,
         what: &'a str,
         error: &'a Error,
     },
-    /// It is over.
+    /// This operation works again.
     WorksAgain {
         doing: Doing,
         what: &'a str,
     },
-    /// Of the id's child.
+    /// A message about the id's child.
     OfChild {
         id: Id,
         message: ChildMessage<'a>,
     },
-    /// The starts of further ids are not counted, for want of memory.
+    /// The starts of further ids are not counted, because memory allocation failed.
     Uncounted,
-    /// No child can be sent TERM, or, where each is to be in a session of its own, started so.
+    /// No child can be sent TERM. With `groups`, no child can be started in a session of its own either.
     Unsendable {
         groups: bool,
         error: &'a Error,
     },
-    /// An id's child is started without its log.
+    /// The id's child is started without its log.
     NoLog {
         id: Id,
         log: &'a str,
         error: &'a Error,
     },
-    /// The log of an id that is no name of a file is this one.
+    /// The id cannot be used as a file name, and its log is this file instead.
     Log {
         id: Id,
         log: &'a str,
@@ -69,47 +73,47 @@ pub enum HostLine<'a> {
         path: &'a str,
         error: &'a Error,
     },
-    /// So many bytes stand in a channel before its first reading, which passes them over, or not.
+    /// The channel has this many bytes before it is first read. With `fresh` they are skipped.
     Old {
         path: &'a str,
         length: u64,
         fresh: bool,
     },
-    /// The channel is another file than before, or shorter than what was read.
+    /// The channel is another file than before, or shorter than what was read of it.
     MadeAnew {
         path: &'a str,
     },
-    /// The channel, or its bell, is this user's, and was that one's before, or is to be init's.
+    /// The channel, or its bell, belongs to another user than before, or than init.
     OtherOwner {
         path: &'a str,
         before: u32,
         owner: u32,
         power: Power,
     },
-    /// The channel was written to, and has no byte more.
+    /// The channel was written to without growing.
     WrittenOver {
         path: &'a str,
     },
-    /// The channel ends with so many bytes that are no whole request.
+    /// The channel ends with this many bytes that are not a whole request.
     Torn {
         path: &'a str,
         over: u64,
     },
-    /// The channel, of which that was told, ends with a whole request again.
+    /// The channel ends with a whole request again, after it was reported that it did not.
     Whole {
         path: &'a str,
     },
-    /// The channel's request of this number, the first being 1, is passed over.
+    /// The channel's request of this number, counted from 1, is ignored.
     PassedOver {
         path: &'a str,
         number: u64,
         cause: Cause,
     },
-    /// So are more, which are not told any more.
+    /// Further requests are ignored, which is not reported any more.
     MorePassedOver {
         path: &'a str,
     },
-    /// A file of the inittab's folder is passed over for its name.
+    /// A file in the inittab's folder is ignored because of its name.
     PassedFile {
         folder: &'a str,
         name: &'a [u8],
@@ -118,16 +122,16 @@ pub enum HostLine<'a> {
     TooLong {
         path: &'a str,
     },
-    /// The inittab and its folder are more files than a table can have.
+    /// The inittab and its folder have more files than a table can have.
     TooMany {
         path: &'a str,
     },
-    /// The inittab has faulty lines, and is not taken for that.
+    /// The inittab has faulty lines, and is rejected for that.
     Refused {
         path: &'a str,
     },
-    /// The text of init's state came back cut, so many bytes long.
+    /// The text of init's state came back cut, with this length in bytes.
     HandedCut(u64),
-    /// The text of init's state came back of another generation.
+    /// The text of init's state that came back is that of this other generation.
     HandedOlder(u64),
 }

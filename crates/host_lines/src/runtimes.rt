@@ -1,7 +1,7 @@
-//! A runtime with what tells.
+//! A runtime combined with a reporter.
 
 use crate::lines::HostLine;
-use crate::tellers::Tells;
+use crate::tellers::MessageSink;
 use init_words::Part;
 use inittab_text::PartFault;
 use std::alloc::Allocator;
@@ -13,7 +13,7 @@ use std::rt::{Clock, Files};
 use std::time::Duration;
 use trace_events::HappeningIn;
 
-/// The files and the clock of a runtime, and what tells and prints.
+/// The files and the clock of a runtime, combined with something that reports and prints.
 #[derive(Drop)]
 pub struct TellingRuntime<R, T> {
     rt: R,
@@ -21,13 +21,13 @@ pub struct TellingRuntime<R, T> {
 }
 
 impl<R, T> TellingRuntime<R, T> {
-    /// These two as one.
+    /// Combines the two.
     pub fn new(rt: R, teller: T) -> TellingRuntime<R, T> {
         TellingRuntime { rt, teller }
     }
 }
 
-impl<R, T: Tells> Tells for TellingRuntime<R, T> {
+impl<R, T: MessageSink> MessageSink for TellingRuntime<R, T> {
     fn tell(&self, line: &HostLine<'_>) {
         self.teller.tell(line);
     }

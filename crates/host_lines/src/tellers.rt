@@ -1,4 +1,4 @@
-//! Who says the lines of a host.
+//! The trait of what reports the lines of a host.
 
 use crate::lines::HostLine;
 use init_words::Part;
@@ -7,21 +7,21 @@ use std::alloc::Allocator;
 use std::io;
 use trace_events::HappeningIn;
 
-/// What words what a host says, and prints it.
-pub trait Tells {
-    /// Says a line on standard error.
+/// A reporter, which words and prints what a host reports.
+pub trait MessageSink {
+    /// Reports a line on standard error.
     fn tell(&self, line: &HostLine<'_>);
 
-    /// Prints on standard output what init says of a happening, where it says something, at once. Gives how many bytes
-    /// that has.
+    /// Prints on standard output, at once, what init announces of a happening, if anything. Returns the length in
+    /// bytes.
     fn announce<A: Allocator, B: Allocator>(
         &self,
         alloc: A,
         happening: &HappeningIn<B>,
     ) -> io::Result<usize>;
 
-    /// Prints on standard output the faults of the lines of an inittab's parts, and tells of byte order marks. Gives
-    /// how many bytes the faults have.
+    /// Prints the faulty lines of an inittab's parts on standard output, and reports byte order marks. Returns the
+    /// length in bytes of the lines about faults.
     fn print_faults<A: Allocator + Copy, B: Allocator>(
         &self,
         alloc: A,

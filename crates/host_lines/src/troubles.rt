@@ -1,23 +1,23 @@
-//! Faults that are said once until they are over, or others.
+//! Faults that are reported once, until they are over or change.
 
 use crate::lines::{Doing, HostLine};
-use crate::tellers::Tells;
+use crate::tellers::MessageSink;
 use std::hash::{FoldHasher, Hasher};
 use std::io;
 use std::io::{Error, ErrorKind};
 
-/// The fault that was told, and isn't over.
+/// The fault of an operation that was reported and is not over.
 #[derive(Drop)]
 pub struct Trouble {
-    /// What can't be done.
+    /// The operation.
     doing: Doing,
     told: Option<Fault>,
 }
 
-/// A fault by what tells it from another: whose it is, and why.
+/// A fault, by the properties in which it can differ from another one: what it concerns, and why.
 #[derive(Clone, Copy, PartialEq)]
 struct Fault {
-    /// The hash of what it is of, which may be a long path.
+    /// The hash of the name of what it concerns, which may be a long path.
     what: u64,
     kind: ErrorKind,
     code: Option<i32>,
@@ -36,20 +36,27 @@ impl Fault {
 }
 
 impl Trouble {
-    /// Nothing failed yet.
+    /// Creates the state in which nothing has failed yet.
     pub fn new(doing: Doing) -> Trouble {
         Trouble { doing, told: None }
     }
 
-    /// Says on standard error that it failed, where it didn't fail so the last time, and that it is over, where it did.
-    pub fn tell<'a, T>(&mut self, rt: &impl Tells, what: &'a str, outcome: &'a io::Result<T>) {
+    /// Reports that the operation failed, unless the same fault was reported last, and that it works again, if a fault
+    /// was.
+    pub fn tell<'a, T>(
+        &mut self,
+        rt: &impl MessageSink,
+        what: &'a str,
+        outcome: &'a io::Result<T>,
+    ) {
         match outcome {
             Ok(_) => self.tell_over(rt, what),
             Err(error) => self.tell_begun(rt, what, error),
         }
     }
 
-    pub fn tell_begun<'a>(&mut self, rt: &impl Tells, what: &'a str, error: &'a Error) {
+    /// Reports that the operation failed, unless the same fault was reported last.
+    pub fn tell_begun<'a>(&mut self, rt: &impl MessageSink, what: &'a str, error: &'a Error) {
         let fault = Fault::of(what, error);
         if self.told != Some(fault) {
             rt.tell(&HostLine::Fails {
@@ -61,7 +68,8 @@ impl Trouble {
         self.told = Some(fault);
     }
 
-    pub fn tell_over(&mut self, rt: &impl Tells, what: &str) {
+    /// Reports that the operation works again, if a fault was reported.
+    pub fn tell_over(&mut self, rt: &impl MessageSink, what: &str) {
         if self.told.is_some() {
             rt.tell(&HostLine::WorksAgain {
                 doing: self.doing,

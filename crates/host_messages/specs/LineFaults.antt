@@ -1,4 +1,4 @@
--- What is printed of the lines of an inittab's files that were left out.
+-- What is printed about the faulty lines of an inittab's files.
 use Rattle.std.specs.Prelude.{ℕ, if◌then◌else◌, ◌==◌, List, [], ◌++◌, flat_map, codes, decimal, Option, Some, None}
 use Rattle.std.specs.Prelude.{slice_get}
 use Rattle.init_words.specs.Parts.{NamedText}
@@ -6,22 +6,24 @@ use Rattle.inittab_text.specs.declared.faults.LineKind.{LineKind}
 use Rattle.inittab_text.specs.declared.faults.PartFault.{PartFault}
 use Rattle.inittab_text.specs.Faults.{kind_text}
 
--- the name of a file, and a blank
+-- the name of a file, and a blank; nothing if there is no such file
 abbrev pub name_text : Option NamedText → List ℕ
 name_text None = []
 name_text (Some part) = part.name ++ codes " "
 
--- which file a fault is in, by its number: nothing for the first
+-- the file of a fault, given by its number; nothing for the first file
 abbrev pub place_text : List NamedText → ℕ → List ℕ
 place_text parts number = if number == 0 then [] else name_text (slice_get parts number)
 
--- a line of a file, and the check that it fails
+-- the number of a line, and the check that it fails
 abbrev pub line_text : ℕ → LineKind → List ℕ
 line_text line kind = codes "line " ++ decimal line ++ codes ": " ++ kind_text kind ++ codes "\n"
 
+-- the line about one fault
 abbrev pub fault_line : List NamedText → PartFault → List ℕ
 fault_line parts fault =
     codes "initd: inittab " ++ place_text parts fault.part ++ line_text fault.line fault.kind
 
+-- the lines about all faults
 abbrev pub faults_text : List NamedText → List PartFault → List ℕ
 faults_text parts faults = flat_map (fault_line parts) faults

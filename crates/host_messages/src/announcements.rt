@@ -1,4 +1,4 @@
-//! What init says of what it did.
+//! What init announces about what it did.
 
 ghost use Rattle.std.specs.Prelude.{◌≡◌, ◌++◌, IfOk};
 ghost use Rattle.host_messages.specs.Announced.{announcement};
@@ -7,7 +7,7 @@ use init_words::{Memory, Stage};
 use std::alloc::Allocator;
 use trace_events::{Handed, Happening, HappeningIn};
 
-/// The line that init says of a happening, with its newline. It is empty where init says nothing of it.
+/// Returns the line that init announces for a happening, with its newline. It is empty if init announces nothing.
 pub fn announcement_text<A: Allocator, B: Allocator>(
     alloc: A,
     happening: &HappeningIn<B>,
@@ -40,7 +40,7 @@ pub fn announcement_text<A: Allocator, B: Allocator>(
     }
 }
 
-/// Three texts as one.
+/// Joins three texts.
 fn joined<A: Allocator>(
     alloc: A,
     front: &[u8],

@@ -1,41 +1,41 @@
-//! What is said of the channel of requests.
+//! Messages about the channel of requests.
 
 use host_lines::Power;
 use initctl_frame::Cause;
 use program_io::REQUEST;
 
-/// Says what becomes of the bytes that stand in a channel before its first reading.
+/// Reports what happens to the bytes that the channel has before it is first read.
 pub(crate) fn tell_old(rt: &impl Eprint, path: &str, length: u64, fresh: bool) {
     let requests = length / REQUEST as u64;
     let over = length % REQUEST as u64;
     let (s, they) = match requests {
-        1 => ("", "it is"),
-        _ => ("s", "they are"),
+        1 => ("", "is"),
+        _ => ("s", "are"),
     };
     let fate = if fresh {
-        "passed over, as --fresh says"
+        "skipped because of --fresh"
     } else {
-        "carried out; remove it, or give --fresh, to begin without"
+        "carried out; use --fresh to skip old requests"
     };
     let _ = match (requests, over) {
         (0, _) => eprintln!(rt;
-            "initd: {path} has {over} bytes of a request from before: the next request begins with them; remove it to begin without"
+            "initd: {path} already holds {over} bytes of an incomplete request, which the next request would continue; remove the file to start without them"
         ),
         (_, 0) => eprintln!(rt;
-            "initd: {path} has {requests} request{s} from before: {they} {fate}"
+            "initd: {path} already holds {requests} request{s}, which {they} {fate}"
         ),
         _ => eprintln!(rt;
-            "initd: {path} has {requests} request{s} and {over} bytes of another from before: {they} {fate}"
+            "initd: {path} already holds {requests} request{s} (and {over} bytes of another), which {they} {fate}"
         ),
     };
 }
 
-/// Says that the channel is another file than before, or shorter than what was read.
+/// Reports that the channel is another file than before, or shorter than what was read of it.
 pub(crate) fn tell_made_anew(rt: &impl Eprint, path: &str) {
-    let _ = eprintln!(rt; "initd: {path} was made anew: read from its beginning");
+    let _ = eprintln!(rt; "initd: {path} was replaced or truncated; reading it from the start");
 }
 
-/// Says of the channel, or its bell, that it is another user's than before, or than init's, and what that lets him do.
+/// Reports that the channel, or its bell, belongs to another user than before, or than init, and what that user can do.
 pub(crate) fn tell_other_owner(
     rt: &impl Eprint,
     path: &str,
@@ -44,50 +44,50 @@ pub(crate) fn tell_other_owner(
     power: Power,
 ) {
     let power = match power {
-        Power::Ask => "asks init for levels",
-        Power::Wake => "wakes init",
+        Power::Ask => "request runlevels",
+        Power::Wake => "wake init",
     };
     let _ = eprintln!(rt;
-        "initd: {path} is of user {owner}, not {before}: whoever writes it {power}; where that is wrong, remove it"
+        "initd: {path} belongs to user {owner}, not {before}, so whoever writes it can {power}; if that is wrong, remove it"
     );
 }
 
-/// Says that the channel was written to, and has no byte more.
+/// Reports that the channel was written to without growing.
 pub(crate) fn tell_written_over(rt: &impl Eprint, path: &str) {
     let _ = eprintln!(rt;
-        "initd: {path} was written to in place: what was written is not heard; a request is appended, as telinit does it"
+        "initd: {path} was overwritten in place, and what was written is not read; requests must be appended, as telinit does"
     );
 }
 
-/// Says that the channel ends with so many bytes that are no whole request.
+/// Reports that the channel ends with this many bytes that are not a whole request.
 pub(crate) fn tell_torn(rt: &impl Eprint, path: &str, over: u64) {
     let _ = eprintln!(rt;
-        "initd: {path} has {over} bytes that are no whole request: every later request is out of step; truncate -s /384 {path}, or remove it"
+        "initd: {path} ends with {over} bytes of an incomplete request, so later requests will be misread; run truncate -s /384 {path}, or remove it"
     );
 }
 
-/// Says that the channel, of which that was told, ends with a whole request again.
+/// Reports that the channel ends with a whole request again, after it was reported that it did not.
 pub(crate) fn tell_whole(rt: &impl Eprint, path: &str) {
-    let _ = eprintln!(rt; "initd: {path} ends with a whole request again");
+    let _ = eprintln!(rt; "initd: {path} ends with a complete request again");
 }
 
-/// Says why init passes over the channel's request of this number, the first being 1.
+/// Reports why init ignores the channel's request of this number, counted from 1.
 pub(crate) fn tell_passed_over(rt: &impl Eprint, path: &str, number: u64, cause: Cause) {
     let why = cause_text(cause);
-    let _ = eprintln!(rt; "initd: {path}: request {number} {why}: passed over");
+    let _ = eprintln!(rt; "initd: {path}: request {number} {why}: skipped");
 }
 
-/// Says that further ones are not told.
+/// Reports that further ignored requests will not be reported.
 pub(crate) fn tell_more_passed_over(rt: &impl Eprint, path: &str) {
-    let _ = eprintln!(rt; "initd: {path}: and more: not told any more");
+    let _ = eprintln!(rt; "initd: {path}: further bad requests are not reported");
 }
 
-/// What a request has for which it is passed over (initreq.h).
+/// Returns the reason why a request is ignored (initreq.h).
 fn cause_text(cause: Cause) -> &'static str {
     match cause {
         Cause::Magic => "has no magic number",
         Cause::Unknown => "has an unknown command",
-        Cause::LeftOut => "has a command that init leaves out",
-        Cause::Character => "has no character of telinit",
+        Cause::LeftOut => "has a command that init does not support",
+        Cause::Character => "has an invalid runlevel character",
     }
 }

@@ -1,4 +1,4 @@
-//! What is said of children: each line has the name of the program that says it and the id in front.
+//! Messages about children. Each line begins with the name of the program and the id.
 
 use crate::names::escape;
 use host_lines::{ChildEnd, ChildLine, ChildMessage};
@@ -7,10 +7,10 @@ use program_io::Reason;
 use std::fmt;
 use std::io::{Error, ErrorKind};
 
-/// The error of waitpid(2) for a child that is none, or none any more (ECHILD).
+/// The error number with which waitpid(2) reports that there is no such child, or no longer (ECHILD).
 const NO_CHILD: i32 = 10;
 
-/// Says what an id's child did, was sent, or what went wrong with it.
+/// Reports what the id's child did, what was sent to it, or what went wrong with it.
 pub(crate) fn tell_of_child(
     rt: &impl Eprint,
     program: &'static str,
@@ -23,14 +23,14 @@ pub(crate) fn tell_of_child(
         ChildMessage::Unwaited { number, error } if error.raw_os_error() == Some(NO_CHILD) => {
             let number = number.0;
             let _ = eprintln!(rt;
-                "{program}: {id} (pid {number}): no look and no KILL is tried any more: if each child is so, start {program} by env --default-signal=CHLD"
+                "{program}: {id} (pid {number}): it is no longer looked at or sent KILL; if this happens to every child, start {program} with env --default-signal=CHLD"
             );
         }
         _ => {}
     }
 }
 
-/// What stands behind the id.
+/// The text after the id.
 #[derive(Clone, Copy)]
 struct Words<'a> {
     program: &'a str,
@@ -45,6 +45,7 @@ impl fmt::Display for Words<'_> {
                 start: Some(start),
             } if *start > 1 => write!(f, ": started, {} (start {start})", number.0),
             ChildMessage::Started { number, .. } => write!(f, ": started, {}", number.0),
+            ChildMessage::Delayed(seconds) => write!(f, ": waits {seconds} s before it runs"),
             ChildMessage::Ended(end) => write!(f, ": {}", EndWords(*end)),
             ChildMessage::Sent(SignalKind::Term) => f.write_str(": TERM sent"),
             ChildMessage::Sent(SignalKind::Kill) => f.write_str(": KILL sent"),
@@ -52,29 +53,36 @@ impl fmt::Display for Words<'_> {
             ChildMessage::Unwaited { number, error } => {
                 add_unwaited(f, self.program, *number, error)
             }
-            ChildMessage::Waited(number) => write!(f, " (pid {}): waited for again", number.0),
+            ChildMessage::Waited(number) => write!(
+                f,
+                " (pid {}): can be waited for again",
+                number.0
+            ),
             ChildMessage::Unkilled { number, error } => write!(
                 f,
-                " (pid {}) cannot be sent KILL: {}: it is waited for until it ends by itself",
+                " (pid {}): cannot send KILL: {}; waiting until it exits by itself",
                 number.0,
                 Reason(error)
             ),
-            ChildMessage::LastEnd(end) => write!(f, ": its last end: {}", LastEndWords(*end)),
+            ChildMessage::LastEnd(end) => write!(f, ": last run: {}", LastEndWords(*end)),
             ChildMessage::Stopped { number, line } => write!(
                 f,
-                ": {}: its child {} is stopped",
+                ": {}; stopping its child {}",
                 line_words(*line),
                 number.0
             ),
-            ChildMessage::Left { count: 1, numbers } => write!(f, " left a process:{numbers}"),
+            ChildMessage::Left { count: 1, numbers } => write!(
+                f,
+                " left a process behind:{numbers}"
+            ),
             ChildMessage::Left { count, numbers } => {
-                write!(f, " left {count} processes:{numbers}")
+                write!(f, " left {count} processes behind:{numbers}")
             }
         }
     }
 }
 
-/// Adds why a child that was to execute this program was not born.
+/// Writes why a child that was to execute this program could not be started.
 fn add_not_born<W: fmt::Write>(
     f: &mut fmt::Formatter<W>,
     program: &[u8],
@@ -87,7 +95,7 @@ fn add_not_born<W: fmt::Write>(
     }
 }
 
-/// Adds why a child can't be waited for, and what that means.
+/// Writes why a child cannot be waited for, and what that means.
 fn add_unwaited<W: fmt::Write>(
     f: &mut fmt::Formatter<W>,
     program: &str,
@@ -96,27 +104,27 @@ fn add_unwaited<W: fmt::Write>(
 ) -> fmt::Result {
     write!(
         f,
-        " (pid {}) cannot be waited for: {}: {program} no longer knows when it ends",
+        " (pid {}): cannot wait for it: {}; {program} will not notice when it exits",
         number.0,
         Reason(error)
     )
 }
 
-/// How a child ended.
+/// How a child ended, as text.
 #[derive(Clone, Copy)]
 struct EndWords(ChildEnd);
 
 impl fmt::Display for EndWords {
     fn fmt<W: fmt::Write>(&self, f: &mut fmt::Formatter<W>) -> fmt::Result {
         match self.0 {
-            ChildEnd::Code(code) => write!(f, "ended with {code}"),
+            ChildEnd::Code(code) => write!(f, "exited with status {code}"),
             ChildEnd::Signal(signal) => write!(f, "killed by signal {signal}"),
             ChildEnd::Unknown => f.write_str("ended"),
         }
     }
 }
 
-/// How the last child of an id ended that is started too often, and what that mostly means.
+/// How the last child of an id that is started too often ended, and what that usually means, as text.
 #[derive(Clone, Copy)]
 struct LastEndWords(ChildEnd);
 
@@ -124,7 +132,7 @@ impl fmt::Display for LastEndWords {
     fn fmt<W: fmt::Write>(&self, f: &mut fmt::Formatter<W>) -> fmt::Result {
         match self.0 {
             ChildEnd::Code(0) => f.write_str(
-                "exit 0: a process that puts itself in the background has ended for init",
+                "exit 0: a program that puts itself in the background counts as ended",
             ),
             ChildEnd::Code(126) => f.write_str("exit 126: its program could not be executed"),
             ChildEnd::Code(127) => f.write_str("exit 127: its program was not found"),
@@ -134,12 +142,12 @@ impl fmt::Display for LastEndWords {
     }
 }
 
-/// What an inittab has for a child that is stopped for it.
+/// Returns what an inittab has for a child that is stopped because of it.
 fn line_words(line: ChildLine) -> &'static str {
     match line {
-        ChildLine::Gone => "no line any more",
-        ChildLine::Off => "its line is off",
-        ChildLine::StopsChild => "its line has another action",
-        ChildLine::OtherAction => "its line does not run in this level",
+        ChildLine::Gone => "its line was removed",
+        ChildLine::Off => "its line is now off",
+        ChildLine::ActionChanged => "its action changed",
+        ChildLine::NotInLevel => "its line does not name this runlevel",
     }
 }

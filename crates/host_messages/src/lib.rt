@@ -1,9 +1,10 @@
-//! The words of what a host says on standard error and output, who prints them, and the time in front of a line.
+//! The wording of what a host prints on standard error and standard output, the printers, and the time in front of a
+//! line.
 //!
-//! A host knows its lines as values (`host_lines`); so what stands here is proved again with the programs alone, and no
-//! host is. Texts that a clause pins have their definition in `specs/`; the others are compared with initd(8) by
-//! `tools/pages`, and run by its scenes `messages`, `channel`, `edges` and `logs`. A line may be changed here with its
-//! definition and that page alone.
+//! A host knows its lines as values (`host_lines`), so a change here affects the proofs of the programs, but not those
+//! of any host. Texts that a contract fixes are defined in `specs/`; `tools/pages` compares the others with initd(8),
+//! and its scenes `messages`, `channel`, `edges` and `logs` run them. A line may be changed here together with its
+//! definition and that page.
 #![tactic(auto)]
 
 mod announcements;

@@ -1,4 +1,4 @@
-//! What is said of lines of the inittab that are left out.
+//! Messages about faulty lines of inittab.
 
 ghost use Rattle.std.specs.Prelude.{◌≡◌, ◌++◌, string_bytes, IfOk, OnOk};
 ghost use Rattle.host_messages.specs.LineFaults.{fault_line, faults_text, line_text, place_text};
@@ -7,8 +7,8 @@ use init_words::Part;
 use inittab_text::{LineKind, PartFault};
 use std::alloc::{AllocError, Allocator};
 
-/// The lines that tell of the lines of an inittab's parts that were left out: a fault each, with the name of its part,
-/// but for the first part.
+/// Returns the lines that report the faulty lines of an inittab's parts, one per fault. The name of the part is given,
+/// except for the first part.
 pub fn faults_text<A: Allocator + Copy, B: Allocator>(
     alloc: A,
     parts: &[Part<B>],
@@ -38,7 +38,7 @@ fn add_fault<A: Allocator + Copy, B: Allocator>(
     Ok(())
 }
 
-/// A line's number, and the check that it fails.
+/// Returns the number of a line and the check that it fails.
 fn line_text<A: Allocator + Copy>(
     alloc: A,
     line: u32,
@@ -49,7 +49,7 @@ fn line_text<A: Allocator + Copy>(
     format!(in alloc; "line {line}: {kind}\n")
 }
 
-/// Adds the name of the part of a number, and a blank; nothing for the first part.
+/// Appends the name of the part with this number, and a blank; nothing for the first part.
 fn add_place<A: Allocator, B: Allocator>(
     text: &mut Vec<u8, A>,
     parts: &[Part<B>],
@@ -67,32 +67,35 @@ fn add_place<A: Allocator, B: Allocator>(
     Ok(())
 }
 
-/// Says of each part that begins with a byte order mark what to do: the line of its fault doesn't show it.
+/// Reports what to do about each part that begins with a byte order mark, which the line about its fault does not show.
 pub(crate) fn tell_marked<B: Allocator>(rt: &impl Eprint, parts: &[Part<B>]) {
     for part in parts {
         if part.bytes.starts_with(b"\xef\xbb\xbf") {
             let name = part.name.as_str();
             let _ = eprintln!(rt;
-                "initd: {name} line 1 begins with a byte order mark: save the file without it"
+                "initd: {name} line 1 begins with a byte order mark; save the file without it"
             );
         }
     }
 }
 
+/// Reports that the inittab is longer than a table can be.
 pub(crate) fn tell_too_long(rt: &impl Eprint, path: &str) {
     let _ = eprintln!(rt;
-        "initd: {path} is longer than 1048576 bytes: shorten it, and give telinit q"
+        "initd: {path} is longer than 1048576 bytes; shorten it and run telinit q"
     );
 }
 
+/// Reports that the inittab and its folder have more files than a table can have.
 pub(crate) fn tell_too_many(rt: &impl Eprint, path: &str) {
     let _ = eprintln!(rt;
-        "initd: {path} and its folder are more than 256 files: put some together, and give telinit q"
+        "initd: {path} and its folder have more than 256 files; merge some and run telinit q"
     );
 }
 
+/// Reports that the inittab has faulty lines and is rejected for that.
 pub(crate) fn tell_refused(rt: &impl Eprint, path: &str) {
     let _ = eprintln!(rt;
-        "initd: {path} has faulty lines: the one before stays, as --strict says: mend them, and give telinit q"
+        "initd: {path} has faulty lines, so the previous table stays in force (--strict); fix them and run telinit q"
     );
 }

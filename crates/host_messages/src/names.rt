@@ -1,12 +1,13 @@
-//! Names of files and programs, as they are shown.
+//! Names of files and programs as they are displayed.
 
 use std::{fmt, str};
 
-/// A name of a file or a program as it is shown: a control character, which a terminal is not to obey, as `\xNN`.
+/// A name of a file or a program as it is displayed: a control character, which a terminal might act on, is shown as
+/// `\xNN`.
 #[derive(Clone, Copy)]
 pub(crate) struct Escaped<'a>(&'a str);
 
-/// The name, where it is UTF-8.
+/// Returns the name for display, or `?` if it is not UTF-8.
 pub(crate) fn escape(name: &[u8]) -> Escaped<'_> {
     Escaped(str::from_utf8(name).unwrap_or("?"))
 }

@@ -1,4 +1,4 @@
-//! What prints the lines of init, with the time in front.
+//! A printer that puts the time in front of init's lines.
 
 use jiff::Timestamp;
 use program_io::StandardOutput;
@@ -9,14 +9,17 @@ use std::io::ErrorKind;
 use std::rt::{Clock, Files};
 use std::{fmt, io};
 
-/// How many bytes the time has in front of a line, with the blank behind it, and the line's end.
+/// The number of bytes that are added to a line: the time with the blank after it, and the newline.
 const STAMP: usize = 22;
 
-/// What prints as a runtime does, but never waits for whoever reads it: a line for which standard output or error has
-/// no room is left out, which is an error, and the next one that is printed there tells on standard error how many
-/// were. It puts the time of the system in front of each line that it prints, where that is asked for:
-/// `2026-01-31T07:15:00Z `, the Coordinated Universal Time to the second. Where the system tells no time, or there is
-/// no memory for the line, the line is printed without it.
+/// A printer that prints through a runtime, but never waits for a reader.
+///
+/// If standard output or standard error has no room for a line, the line is dropped, which is an error. The next line
+/// that can be printed there is preceded by a message on standard error that says how many lines were dropped.
+///
+/// If requested, each line begins with the system time, in Coordinated Universal Time to the second:
+/// `2026-01-31T07:15:00Z `. If the system has no time, or there is no memory for the longer line, the line is printed
+/// without it.
 #[derive(Clone, Drop)]
 pub struct StampedPrinter<R: Clone + Drop> {
     runtime: R,
@@ -27,7 +30,7 @@ pub struct StampedPrinter<R: Clone + Drop> {
 }
 
 impl<R: Clone + Drop> StampedPrinter<R> {
-    /// What prints by this runtime, and whether lines have the time in front.
+    /// Creates a printer that prints through this runtime. `is_stamped` says whether lines begin with the time.
     pub fn new(runtime: R, alloc: Global, is_stamped: bool) -> StampedPrinter<R> {
         StampedPrinter {
             runtime,
@@ -39,7 +42,7 @@ impl<R: Clone + Drop> StampedPrinter<R> {
     }
 }
 
-/// How many lines were left out of an output since the last one that was printed there, and why the last was.
+/// The number of lines dropped from an output since the last one that was printed there, and the reason for the last.
 #[derive(Clone, Drop)]
 struct LeftOut {
     lines: Cell<u64>,
@@ -47,7 +50,7 @@ struct LeftOut {
 }
 
 impl LeftOut {
-    /// None was.
+    /// Creates the state in which no line was dropped.
     fn none() -> LeftOut {
         LeftOut {
             lines: Cell::new(0),
@@ -55,14 +58,15 @@ impl LeftOut {
         }
     }
 
-    /// One more was.
+    /// Counts one more dropped line.
     fn note(&self, error: &io::Error) {
         self.lines.set(self.lines.get().saturating_add(1));
         self.is_too_large
             .set(error.kind() == ErrorKind::FileTooLarge);
     }
 
-    /// What is told of them, of an output of this name; nothing where none was. They are told once.
+    /// Returns the message about the dropped lines of the output of this name, or `None` if there are none, and resets
+    /// their number.
     fn told(&self, name: &'static str) -> Option<LeftOutLine> {
         match self.lines.replace(0) {
             0 => None,
@@ -75,7 +79,7 @@ impl LeftOut {
     }
 }
 
-/// The line that tells how many lines were left out of an output.
+/// The message about the dropped lines of an output.
 #[derive(Clone, Copy)]
 struct LeftOutLine {
     lines: u64,
@@ -88,15 +92,15 @@ impl Display for LeftOutLine {
         let (lines, name) = (self.lines, self.name);
         let were = if lines == 1 { " was" } else { "s were" };
         let why = if self.is_too_large {
-            "ulimit -f had no room in"
+            "ulimit -f left no room in"
         } else {
             "nobody read"
         };
-        write!(f, "initd: {lines} line{were} left out: {why} {name}")
+        write!(f, "initd: {lines} line{were} dropped: {why} {name}")
     }
 }
 
-/// A line, and the time in front of it, as RFC 3339 writes it, to the second.
+/// A line preceded by the time in the form of RFC 3339, to the second.
 #[derive(Drop)]
 struct TimedLine<D: Display + Drop> {
     time: Timestamp,
@@ -109,7 +113,7 @@ impl<D: Display + Drop> Display for TimedLine<D> {
     }
 }
 
-/// How many bytes a text has.
+/// The length of a text in bytes.
 #[derive(Drop)]
 struct Length(usize);
 
@@ -120,14 +124,14 @@ impl fmt::Write for Length {
     }
 }
 
-/// How many bytes a line has at most, with the time in front of it and its end.
+/// Returns the maximum length of a line in bytes, including the time in front of it and its newline.
 fn line_length<D: Display>(line: &D) -> usize {
     let mut length = Length(STAMP);
     let _ = write!(length, "{line}");
     length.0
 }
 
-/// A text with the time in front of each of its lines.
+/// Puts the time in front of each line of a text.
 fn timed(alloc: Global, time: Timestamp, text: &[u8]) -> Result<Vec<u8>, AllocError> {
     let stamp = format!(in alloc; "{time} ")?;
     let mut timed = Vec::new(alloc);
@@ -139,7 +143,7 @@ fn timed(alloc: Global, time: Timestamp, text: &[u8]) -> Result<Vec<u8>, AllocEr
 }
 
 impl<R: Clock + Clone + Drop> StampedPrinter<R> {
-    /// The time that is put in front of a line now, where there is one.
+    /// Returns the time to put in front of a line now, if any.
     fn stamp(&self) -> Option<Timestamp> {
         if !self.is_stamped {
             return None;
@@ -159,8 +163,8 @@ impl<R: Eprint + Files + Clock + Clone + Drop> StampedPrinter<R> {
         }
     }
 
-    /// Refuses a line of so many bytes where standard error has no room for it, which is noted. Where it has, the lines
-    /// that were left out of it are told.
+    /// Returns an error, and counts a dropped line, if standard error has no room for this many bytes. If it has, the
+    /// lines dropped before are reported.
     fn make_error_room(&self, length: usize) -> io::Result<()> {
         if let Err(error) = StandardOutput::Error.refuse_waiting(&self.runtime, length) {
             self.errors.note(&error);
@@ -172,7 +176,7 @@ impl<R: Eprint + Files + Clock + Clone + Drop> StampedPrinter<R> {
         }
     }
 
-    /// The same of standard output. The lines that were left out of it are told on standard error.
+    /// Does the same for standard output. The lines dropped before are reported on standard error.
     fn make_output_room(&self, length: usize) -> io::Result<()> {
         if let Err(error) = StandardOutput::Output.refuse_waiting(&self.runtime, length) {
             self.output.note(&error);

@@ -1,4 +1,4 @@
-//! Each line of a host in its words.
+//! The wording of each line of a host.
 
 use crate::announcements::announcement_text;
 use crate::channel_lines::{
@@ -11,7 +11,7 @@ use crate::line_faults::{faults_text, tell_marked, tell_refused, tell_too_long, 
 use crate::troubles::{
     tell_cut, tell_failure, tell_older, tell_over, tell_uncounted, tell_unsendable,
 };
-use host_lines::{HostLine, Tells};
+use host_lines::{HostLine, MessageSink};
 use init_words::Part;
 use inittab_text::PartFault;
 use std::alloc::Allocator;
@@ -19,22 +19,22 @@ use std::io;
 use std::io::ErrorKind;
 use trace_events::HappeningIn;
 
-/// What says the lines of a host in their words, and prints them so.
+/// A reporter that words the lines of a host, and prints them.
 #[derive(Drop)]
 pub struct Worded<P: Print + Eprint> {
-    /// The name of the program, which stands in front.
+    /// The name of the program, which each line begins with.
     program: &'static str,
     printer: P,
 }
 
 impl<P: Print + Eprint> Worded<P> {
-    /// What says them for a program of this name, and prints them by this.
+    /// Creates a reporter for the program of this name, which prints through this printer.
     pub fn new(program: &'static str, printer: P) -> Worded<P> {
         Worded { program, printer }
     }
 }
 
-impl<P: Print + Eprint> Tells for Worded<P> {
+impl<P: Print + Eprint> MessageSink for Worded<P> {
     fn tell(&self, line: &HostLine<'_>) {
         tell_line(&self.printer, self.program, line);
     }
@@ -58,7 +58,7 @@ impl<P: Print + Eprint> Tells for Worded<P> {
     }
 }
 
-/// Prints a text on standard output, and gives its length.
+/// Prints a text on standard output, and returns its length.
 fn printed<R: Print, A: Allocator, E: Drop>(
     rt: &R,
     text: Result<Vec<u8, A>, E>,

@@ -1,10 +1,10 @@
-//! What is said of what fails until it is over.
+//! Messages about operations that fail and later work again.
 
 use host_lines::Doing;
 use program_io::Reason;
 use std::io::{Error, ErrorKind};
 
-/// Says that what has this name can't be done to, and why.
+/// Reports that the operation failed on the thing of this name, and why.
 pub(crate) fn tell_failure(
     rt: &impl Eprint,
     program: &'static str,
@@ -13,28 +13,30 @@ pub(crate) fn tell_failure(
     error: &Error,
 ) {
     let to_do = match doing {
-        Doing::Hear => "hear",
+        Doing::Hear => "listen to",
         Doing::Read => "read",
         Doing::Write => "write",
         Doing::Carry => "write and read back",
         Doing::SendTerm => "send TERM to",
+        Doing::Watch => "watch",
     };
     let _ = eprintln!(rt; "{program}: cannot {to_do} {what}: {}", Reason(error));
 }
 
-/// Says that it is done again.
+/// Reports that the operation works again.
 pub(crate) fn tell_over(rt: &impl Eprint, program: &'static str, doing: Doing, what: &str) {
     let done = match doing {
-        Doing::Hear => "heard",
+        Doing::Hear => "listened to",
         Doing::Read => "read",
         Doing::Write => "written",
         Doing::Carry => "written and read back",
-        Doing::SendTerm => "TERM was sent",
+        Doing::SendTerm => "sent TERM",
+        Doing::Watch => "watched",
     };
-    let _ = eprintln!(rt; "{program}: {what}: {done} again");
+    let _ = eprintln!(rt; "{program}: {what}: can be {done} again");
 }
 
-/// Says why no child can be sent TERM, and what to do where a program is missing.
+/// Reports why no child can be sent TERM, and what to do if a program is missing.
 pub(crate) fn tell_unsendable(
     rt: &impl Eprint,
     program: &'static str,
@@ -45,27 +47,27 @@ pub(crate) fn tell_unsendable(
     let reason = Reason(error);
     let _ = match error.kind() {
         ErrorKind::NotFound => eprintln!(rt;
-            "{program}: no child can be sent TERM: {reason}: start it with a PATH that has sh{setsid} and kill"
+            "{program}: no child can be sent TERM: {reason}; use a PATH that contains sh{setsid} and kill"
         ),
         _ => eprintln!(rt; "{program}: no child can be sent TERM: {reason}"),
     };
 }
 
-/// Says that further ids' starts are not counted.
+/// Reports that the starts of further ids are not counted.
 pub(crate) fn tell_uncounted(rt: &impl Eprint, program: &'static str) {
-    let _ = eprintln!(rt; "{program}: out of memory: further ids' starts are not counted");
+    let _ = eprintln!(rt; "{program}: out of memory: the starts of further ids are not counted");
 }
 
-/// Says that the text of init's state came back cut.
+/// Reports that the text of init's state came back cut.
 pub(crate) fn tell_cut(rt: &impl Eprint, length: u64) {
     let _ = eprintln!(rt;
-        "initd: the text of init's state came back cut, {length} bytes long: init goes on as it was"
+        "initd: the saved state was read back incomplete, {length} bytes long; init continues with its current state"
     );
 }
 
-/// Says that it came back of another generation.
+/// Reports that the text of init's state that came back is that of another generation.
 pub(crate) fn tell_older(rt: &impl Eprint, generation: u64) {
     let _ = eprintln!(rt;
-        "initd: the text of init's state came back of generation {generation}: give each init a --state of its own"
+        "initd: the saved state that was read back has generation {generation}; give each init its own --state file"
     );
 }

@@ -1,4 +1,4 @@
--- What a scripted host has in store and tells, and what its calls take of it.
+-- The answers that a scripted host still has, its record, and how its calls change them.
 use Rattle.std.specs.Prelude.{◌≡◌, ℕ, Bool, true, false, if◌then◌else◌, nat_lt, Option, Some, None, Result, Ok, Err}
 use Rattle.std.specs.Prelude.{List, [], ◌∷◌, ◌++◌, length, take, drop, reverse}
 use Rattle.init_words.specs.declared.orders.Answer.{Answer}
@@ -6,7 +6,7 @@ use Rattle.host_calls.specs.declared.calls.HostFault.{HostFault}
 use Rattle.host_calls.specs.declared.calls.Reply.{Reply}
 use Rattle.host_calls.specs.Calls.{HostCall, PartsRead, TextRead}
 
--- a queue of answers for each call that answers, the record as it is told, and the count of faults
+-- a queue of answers for each call that answers, the record of calls, and the number of faults
 pub record Script : Type 0 where
   pub starts : List Reply
   pub looks : List Reply
@@ -19,30 +19,30 @@ pub record Script : Type 0 where
   pub told : Option (List HostCall)
   pub faults : ℕ
 
--- the first of a queue
+-- the first item of a queue
 abbrev pub first : {T : Type 0} → List T → Option T
 first [] = None
 first (item ∷ items) = Some item
 
--- the script as expected but for its record
+-- the script is as expected, except for its record
 abbrev pub Becomes : Script → Script → Type 0
 Becomes new expected = new ≡ record expected { told = new.told }
 
--- the calls that were kept, the oldest first, as they are told: the newest first, or none once one was not kept
+-- the record of the calls, given oldest first: the calls newest first, or none once a call could not be recorded
 abbrev pub tale : Bool → List HostCall → Option (List HostCall)
 tale true calls = Some (reverse calls)
 tale false calls = None
 
--- what stays of a piece of bytes after the room that there is for it
+-- the rest of a piece of bytes, after as many as there is room for
 abbrev pub left_of : ℕ → TextRead → List TextRead
 left_of room (Ok bytes) = if nat_lt room (length bytes) then Ok (drop room bytes) ∷ [] else []
 left_of room (Err fault) = []
 
--- what a call with so much room takes of a piece
+-- what a call with this much room takes of a piece
 abbrev pub taken_of : ℕ → TextRead → TextRead
 taken_of room (Ok bytes) = Ok (take room bytes)
 taken_of room (Err fault) = Err fault
 
--- pieces of which the first has been taken up to a place
+-- the pieces, of which the first was taken up to a position
 abbrev pub pieces_from : ℕ → List ℕ → List TextRead → List TextRead
 pieces_from position under_way pieces = left_of position (Ok under_way) ++ pieces

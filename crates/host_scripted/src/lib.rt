@@ -1,4 +1,4 @@
-//! A host that answers from a script and tells what it was asked.
+//! A host that answers from a script and records the calls that it receives.
 #![tactic(auto)]
 
 mod queues;

@@ -10,7 +10,7 @@ use std::alloc::Allocator;
 use std::collections::VecDeque;
 use std::marker::Model;
 
-/// Adds an item at the end.
+/// Appends an item.
 pub(crate) fn give<T: Drop, A: Allocator>(queue: &mut VecDeque<T, A>, item: T) -> Result<(), Memory>
     ensures ok { OnOk result (queue.new.items ≡ queue.old.items ++ item ∷ []) }
     ensures err { OnErr result (queue.new.items ≡ queue.old.items) }
@@ -19,7 +19,7 @@ pub(crate) fn give<T: Drop, A: Allocator>(queue: &mut VecDeque<T, A>, item: T) -
     Ok(())
 }
 
-/// Takes the first item; the given one where there is none.
+/// Removes and returns the first item, or returns `empty` if there is none.
 pub(crate) fn next_or<T: Drop, A: Allocator>(queue: &mut VecDeque<T, A>, empty: T) -> T
     ensures item { result ≡ unwrap_or (first queue.old.items) empty }
     ensures rest { queue.new.items ≡ drop 1 queue.old.items }
@@ -30,7 +30,7 @@ pub(crate) fn next_or<T: Drop, A: Allocator>(queue: &mut VecDeque<T, A>, empty: 
     }
 }
 
-/// Copies as much of the text as there is room for to the front of the buffer, and gives how many bytes.
+/// Copies as much of the text to the front of the buffer as there is room for. Returns the number of bytes.
 fn copy_front(text: &[u8], buffer: &mut [u8]) -> usize
     ensures count { result ≡ min (length text.now) (length buffer.old) }
     ensures copied { take result buffer.new ≡ take (length buffer.old) text.now }
@@ -40,7 +40,8 @@ fn copy_front(text: &[u8], buffer: &mut [u8]) -> usize
     count
 }
 
-/// Takes of a text, of which some bytes are taken, what the buffer has room for, and gives how many bytes.
+/// Copies as much of the text to the buffer as there is room for, after the bytes taken before. Returns the number of
+/// bytes.
 fn take_from(text: &[u8], taken: &mut usize, buffer: &mut [u8]) -> usize
     requires { taken.old ≤ length text.now }
     ensures within { result ≤ length buffer.old }
@@ -54,7 +55,7 @@ fn take_from(text: &[u8], taken: &mut usize, buffer: &mut [u8]) -> usize
     count
 }
 
-/// Pieces of bytes, and faults between them. Of the piece under way some bytes are taken.
+/// Pieces of bytes, with faults between them. The first piece may have been taken in part.
 #[derive(Drop)]
 pub(crate) struct Pieces<A: Allocator> {
     under_way: Bytes<A>,
@@ -75,7 +76,7 @@ impl<A: Allocator> Model for Pieces<A> {
 }
 
 impl<A: Allocator + Copy> Pieces<A> {
-    /// No pieces. It takes no memory.
+    /// Creates an empty queue. This does not allocate.
     pub(crate) fn new(alloc: A) -> Pieces<A>
         ensures { result ≡ [] }
     {
@@ -88,7 +89,7 @@ impl<A: Allocator + Copy> Pieces<A> {
 }
 
 impl<A: Allocator> Pieces<A> {
-    /// Adds a piece at the end.
+    /// Appends a piece.
     pub(crate) fn give(&mut self, piece: Result<Bytes<A>, HostFault>) -> Result<(), Memory>
         ensures ok { OnOk result (self.new ≡ self.old ++ piece ∷ []) }
         ensures err { OnErr result (self.new ≡ self.old) }
@@ -98,7 +99,7 @@ impl<A: Allocator> Pieces<A> {
 }
 
 impl<A: Allocator + Copy> Pieces<A> {
-    /// Takes of the first piece what the buffer has room for; what is left of it stays the first piece.
+    /// Takes as much of the first piece as the buffer has room for. The rest stays the first piece.
     pub(crate) fn take(&mut self, buffer: &mut [u8]) -> Result<usize, HostFault>
         ensures within { IfOk result (λ count. count ≤ length buffer.old) }
         ensures taken { front_read result buffer.new

@@ -1,4 +1,4 @@
-//! The record of the calls that were made of a scripted host.
+//! The record of the calls that a scripted host received.
 
 ghost use Rattle.std.specs.Prelude.{◌≡◌, ◌≤◌, length, IfOk};
 ghost use Rattle.host_calls.specs.Calls.{HostCall, AddsCall, text_read, parts_read, front_read};
@@ -9,7 +9,8 @@ use init_words::{Id, Memory, Part};
 use std::alloc::Allocator;
 use trace_events::{HappeningIn, happening_copy};
 
-/// Keeps a call, where all calls before it were kept and there is room for it; else calls are not told from here on.
+/// Records a call, if all calls before it were recorded and there is memory for it. Otherwise the record is unknown
+/// from now on.
 pub(crate) fn record<A: Allocator>(
     calls: &mut Vec<CallIn<A>, A>,
     tells: &mut bool,
@@ -24,7 +25,7 @@ pub(crate) fn record<A: Allocator>(
     };
 }
 
-/// The call that started a child.
+/// Returns the call that started a child.
 pub(crate) fn start_call<A: Allocator>(
     alloc: A,
     id: Id,
@@ -36,7 +37,7 @@ pub(crate) fn start_call<A: Allocator>(
     Ok(Call::Start(id, Bytes::copy_of(alloc, command)?, *reply))
 }
 
-/// The call that read the files of the inittab.
+/// Returns the call that read the files of the inittab.
 pub(crate) fn tables_call<A: Allocator + Copy, B: Allocator>(
     alloc: A,
     parts: &Result<Vec<Part<B>, B>, HostFault>,
@@ -53,7 +54,7 @@ pub(crate) fn tables_call<A: Allocator + Copy, B: Allocator>(
     }
 }
 
-/// The call that carried a text.
+/// Returns the call that carried a text.
 pub(crate) fn carry_call<A: Allocator + Copy, B: Allocator>(
     alloc: A,
     text: &[u8],
@@ -69,7 +70,7 @@ pub(crate) fn carry_call<A: Allocator + Copy, B: Allocator>(
     }
 }
 
-/// The call that took bytes.
+/// Returns the call that took bytes.
 pub(crate) fn bytes_call<A: Allocator>(
     alloc: A,
     buffer: &[u8],
@@ -88,7 +89,7 @@ pub(crate) fn bytes_call<A: Allocator>(
     }
 }
 
-/// The call that announced a happening.
+/// Returns the call that announced a happening.
 pub(crate) fn announce_call<A: Allocator + Copy, B: Allocator>(
     alloc: A,
     happening: &HappeningIn<B>,

@@ -14,11 +14,11 @@ use std::collections::VecDeque;
 use std::marker::Model;
 use trace_events::HappeningIn;
 
-/// A host that answers from a script, and tells its calls until one that it has no room to keep.
+/// A host that answers from a script, and records its calls until there is no memory for one.
 ///
-/// Each call that answers has a queue of answers and takes its first; bytes that don't fit stay for the next call.
-/// Where a queue is empty no child is born, none has ended, each signal is sent, no answer comes late, the clock reads
-/// 0, there are no bytes, the inittab has no files, and a text is carried whole.
+/// Each call that answers has a queue of answers, and takes the first one; bytes for which there is no room stay for
+/// the next call. With an empty queue, no child is born, none has ended, each signal is sent, no answer comes late, the
+/// clock reads 0, there are no bytes, the inittab has no files, and a text is carried whole.
 #[derive(Drop)]
 pub struct MemoryHost<A: Allocator = Global> {
     starts: VecDeque<Reply, A>,
@@ -56,7 +56,7 @@ impl<A: Allocator> Model for MemoryHost<A> {
 impl<A: Allocator + Copy> MemoryHost<A> {
     ghost use Rattle.std.specs.Prelude.{Some};
 
-    /// A host with nothing in its queues, whose record is empty. It takes no memory.
+    /// Creates a host with empty queues and an empty record. This does not allocate.
     pub fn new(alloc: A) -> MemoryHost<A>
         ensures { result ≡ record {
           starts = [];
@@ -91,7 +91,7 @@ impl<A: Allocator> MemoryHost<A> {
     ghost use Rattle.std.specs.Prelude.{reverse};
     ghost use Rattle.std.specs.Option.{option_map};
 
-    /// The calls so far with their answers, the oldest first; None where one of them could not be kept.
+    /// Returns the calls so far with their answers, oldest first, or `None` if one of them could not be recorded.
     pub fn calls(&self) -> Option<&[CallIn<A>]>
         ensures { option_map (λ calls. reverse calls.now) result ≡ self.now.told }
     {
@@ -102,7 +102,7 @@ impl<A: Allocator> MemoryHost<A> {
         }
     }
 
-    /// Adds a reply to a start.
+    /// Appends a reply to a start.
     pub fn give_start(&mut self, reply: Reply) -> Result<(), Memory>
         ensures ok { OnOk result (self.new
             ≡ record self.old { starts = self.old.starts ++ reply ∷ [] }) }
@@ -111,7 +111,7 @@ impl<A: Allocator> MemoryHost<A> {
         give(&mut self.starts, reply)
     }
 
-    /// Adds a reply to a look.
+    /// Appends a reply to a look.
     pub fn give_look(&mut self, reply: Reply) -> Result<(), Memory>
         ensures ok { OnOk result (self.new
             ≡ record self.old { looks = self.old.looks ++ reply ∷ [] }) }
@@ -120,7 +120,7 @@ impl<A: Allocator> MemoryHost<A> {
         give(&mut self.looks, reply)
     }
 
-    /// Adds a reply to a signal.
+    /// Appends a reply to a signal.
     pub fn give_signal(&mut self, reply: Reply) -> Result<(), Memory>
         ensures ok { OnOk result (self.new
             ≡ record self.old { signals = self.old.signals ++ reply ∷ [] }) }
@@ -129,7 +129,7 @@ impl<A: Allocator> MemoryHost<A> {
         give(&mut self.signals, reply)
     }
 
-    /// Adds an answer that comes late; a None ends those of a round.
+    /// Appends an answer that comes late. `None` ends the late answers of a turn.
     pub fn give_late(&mut self, late: Option<(Id, Answer)>) -> Result<(), Memory>
         ensures ok { OnOk result (self.new
             ≡ record self.old { lates = self.old.lates ++ late ∷ [] }) }
@@ -138,7 +138,7 @@ impl<A: Allocator> MemoryHost<A> {
         give(&mut self.lates, late)
     }
 
-    /// Adds a reading of the clock, in seconds.
+    /// Appends a reading of the clock, in seconds.
     pub fn give_clock(&mut self, reading: Result<u64, HostFault>) -> Result<(), Memory>
         ensures ok { OnOk result (self.new
             ≡ record self.old { clocks = self.old.clocks ++ reading ∷ [] }) }
@@ -147,7 +147,7 @@ impl<A: Allocator> MemoryHost<A> {
         give(&mut self.clocks, reading)
     }
 
-    /// Adds a piece of bytes.
+    /// Appends a piece of bytes.
     pub fn give_bytes(&mut self, piece: Result<Bytes<A>, HostFault>) -> Result<(), Memory>
         ensures ok { OnOk result (self.new
             ≡ record self.old { pieces = self.old.pieces ++ piece ∷ [] }) }
@@ -156,7 +156,7 @@ impl<A: Allocator> MemoryHost<A> {
         self.pieces.give(piece)
     }
 
-    /// Adds the files of the inittab, as one reading gives them.
+    /// Appends the files of the inittab as one reading returns them.
     pub fn give_table(&mut self, parts: Result<PartList<A>, HostFault>) -> Result<(), Memory>
         ensures ok { OnOk result (self.new
             ≡ record self.old { tables = self.old.tables ++ parts ∷ [] }) }
@@ -165,7 +165,7 @@ impl<A: Allocator> MemoryHost<A> {
         give(&mut self.tables, parts)
     }
 
-    /// Adds what is read back where a text is carried.
+    /// Appends what is read back when a text is carried.
     pub fn give_carry(&mut self, back: Result<Bytes<A>, HostFault>) -> Result<(), Memory>
         ensures ok { OnOk result (self.new
             ≡ record self.old { carries = self.old.carries ++ back ∷ [] }) }
@@ -176,23 +176,23 @@ impl<A: Allocator> MemoryHost<A> {
 }
 
 impl<A: Allocator> MemoryHost<A> {
-    ghost use Rattle.host_calls.specs.Calls.{HostCall, AddsCall, HasCause, counted};
+    ghost use Rattle.host_calls.specs.Calls.{HostCall, AddsCall, FaultIsCounted, counted};
     ghost use Rattle.host_scripted.specs.Script.{Becomes};
 
-    /// Counts the fault of a call that failed, and keeps the call.
+    /// Counts a fault if the call failed, and records the call.
     fn note(&mut self, failed: bool, call: Result<CallIn<A>, Memory>)
         ensures state { Becomes self.new
             (record self.old { faults = counted failed self.old.faults }) }
         ensures adds { (made : HostCall) → IfOk call (λ value. value ≡ made)
             → AddsCall self.old.told self.new.told made }
-        ensures cause { HasCause self.old.faults self.new.faults failed }
+        ensures cause { FaultIsCounted self.old.faults self.new.faults failed }
     {
         self.faults = counted(self.faults, failed);
         record(&mut self.calls, &mut self.tells, call);
     }
 }
 
-/// A copy of a text in memory of the allocator.
+/// Copies a text.
 fn copied<A: Allocator>(alloc: A, text: &[u8]) -> Result<Vec<u8, A>, HostFault>
     ensures ok { IfOk result (λ copy. copy.items ≡ text.now) }
     ensures err { IfErr result (λ fault. fault ≡ HostFault.Memory) }
@@ -200,7 +200,7 @@ fn copied<A: Allocator>(alloc: A, text: &[u8]) -> Result<Vec<u8, A>, HostFault>
     Vec::from_slice(alloc, text).map_err(|_| HostFault::Memory)
 }
 
-/// A copy of an item, or why there is none.
+/// Copies an item, or returns its fault.
 fn item_copied<A: Allocator, B: Allocator>(
     alloc: B,
     item: &Result<Bytes<A>, HostFault>,
@@ -214,7 +214,7 @@ fn item_copied<A: Allocator, B: Allocator>(
     }
 }
 
-/// A copy of the files of an item, or why there are none.
+/// Copies the files of an item, or returns its fault.
 fn parts_copied<A: Allocator, B: Allocator + Copy>(
     alloc: B,
     item: &Result<PartList<A>, HostFault>,
@@ -230,7 +230,7 @@ fn parts_copied<A: Allocator, B: Allocator + Copy>(
 
 impl<A: Allocator + Copy> Host for MemoryHost<A> {
     ghost use Rattle.std.specs.Prelude.{◌≤◌, false, drop, length, unwrap_or, is_err, None};
-    ghost use Rattle.host_calls.specs.Calls.{AddsCall, HasCause, counted};
+    ghost use Rattle.host_calls.specs.Calls.{AddsCall, FaultIsCounted, counted};
     ghost use Rattle.host_calls.specs.Calls.{is_failed_reply, is_failed_late, text_read, parts_read, front_read};
     ghost use Rattle.host_scripted.specs.Script.{Script, Becomes, first, taken_of, left_of};
 
@@ -249,7 +249,7 @@ impl<A: Allocator + Copy> Host for MemoryHost<A> {
           faults = counted (is_failed_reply result) self.old.faults;
         }) }
         ensures adds { AddsCall self.old.told self.new.told (Call.Start id command.now result) }
-        ensures cause { HasCause self.old.faults self.new.faults (is_failed_reply result) }
+        ensures cause { FaultIsCounted self.old.faults self.new.faults (is_failed_reply result) }
     {
         let reply = next_or(&mut self.starts, Reply::Now(Answer::NotBorn));
         let call = start_call(*self.calls.allocator(), id, command, &reply);
@@ -264,7 +264,7 @@ impl<A: Allocator + Copy> Host for MemoryHost<A> {
           faults = counted (is_failed_reply result) self.old.faults;
         }) }
         ensures adds { AddsCall self.old.told self.new.told (Call.Look id result) }
-        ensures cause { HasCause self.old.faults self.new.faults (is_failed_reply result) }
+        ensures cause { FaultIsCounted self.old.faults self.new.faults (is_failed_reply result) }
     {
         let reply = next_or(&mut self.looks, Reply::Now(Answer::Alive));
         let again = &reply;
@@ -279,7 +279,7 @@ impl<A: Allocator + Copy> Host for MemoryHost<A> {
           faults = counted (is_failed_reply result) self.old.faults;
         }) }
         ensures adds { AddsCall self.old.told self.new.told (Call.Signal id signal result) }
-        ensures cause { HasCause self.old.faults self.new.faults (is_failed_reply result) }
+        ensures cause { FaultIsCounted self.old.faults self.new.faults (is_failed_reply result) }
     {
         let reply = next_or(&mut self.signals, Reply::Now(Answer::Hit));
         let again = &reply;
@@ -294,7 +294,7 @@ impl<A: Allocator + Copy> Host for MemoryHost<A> {
           faults = counted (is_failed_late result) self.old.faults;
         }) }
         ensures adds { AddsCall self.old.told self.new.told (Call.Late result) }
-        ensures cause { HasCause self.old.faults self.new.faults (is_failed_late result) }
+        ensures cause { FaultIsCounted self.old.faults self.new.faults (is_failed_late result) }
     {
         let late = next_or(&mut self.lates, None);
         let again = &late;
@@ -309,7 +309,7 @@ impl<A: Allocator + Copy> Host for MemoryHost<A> {
           faults = counted (is_err result) self.old.faults;
         }) }
         ensures adds { AddsCall self.old.told self.new.told (Call.Clock result) }
-        ensures cause { HasCause self.old.faults self.new.faults (is_err result) }
+        ensures cause { FaultIsCounted self.old.faults self.new.faults (is_err result) }
     {
         let reading = next_or(&mut self.clocks, Ok(0));
         let again = &reading;
@@ -322,7 +322,7 @@ impl<A: Allocator + Copy> Host for MemoryHost<A> {
         ensures taken { front_read result buffer.new
             ≡ taken_of (length buffer.old) (unwrap_or (first self.old.pieces) (Ok [])) }
 
-        // What there is no room for stays the first of the queue.
+        // The part for which there is no room stays at the front of the queue.
         ensures state { Becomes self.new (record self.old {
           pieces = left_of (length buffer.old) (unwrap_or (first self.old.pieces) (Ok []))
               ++ drop 1 self.old.pieces;
@@ -330,7 +330,7 @@ impl<A: Allocator + Copy> Host for MemoryHost<A> {
         }) }
         ensures adds { AddsCall self.old.told self.new.told
             (Call.TakeBytes (length buffer.old) (front_read result buffer.new)) }
-        ensures cause { HasCause self.old.faults self.new.faults (is_err result) }
+        ensures cause { FaultIsCounted self.old.faults self.new.faults (is_err result) }
     {
         let taken = self.pieces.take(buffer);
         let call = bytes_call(*self.calls.allocator(), buffer, &taken);
@@ -349,7 +349,7 @@ impl<A: Allocator + Copy> Host for MemoryHost<A> {
         }) }
         ensures adds { AddsCall self.old.told self.new.told
             (Call.ReadTables (parts_read (λ parts. parts.items) result)) }
-        ensures cause { HasCause self.old.faults self.new.faults (is_err result) }
+        ensures cause { FaultIsCounted self.old.faults self.new.faults (is_err result) }
     {
         let own = *self.calls.allocator();
         let item = next_or(&mut self.tables, Ok(PartList::new(own)));
@@ -370,7 +370,7 @@ impl<A: Allocator + Copy> Host for MemoryHost<A> {
         }) }
         ensures adds { AddsCall self.old.told self.new.told
             (Call.Carry text.now (text_read (λ back. back.items) result)) }
-        ensures cause { HasCause self.old.faults self.new.faults (is_err result) }
+        ensures cause { FaultIsCounted self.old.faults self.new.faults (is_err result) }
     {
         let back = match self.carries.pop_front() {
             Some(item) => item_copied(alloc, &item),
@@ -384,7 +384,7 @@ impl<A: Allocator + Copy> Host for MemoryHost<A> {
     fn announce<B: Allocator>(&mut self, happening: &HappeningIn<B>)
         ensures state { Becomes self.new self.old }
         ensures adds { AddsCall self.old.told self.new.told (Call.Announce happening.now) }
-        ensures cause { HasCause self.old.faults self.new.faults false }
+        ensures cause { FaultIsCounted self.old.faults self.new.faults false }
     {
         let call = announce_call(*self.calls.allocator(), happening);
         self.note(false, call);
@@ -393,7 +393,7 @@ impl<A: Allocator + Copy> Host for MemoryHost<A> {
     fn pause(&mut self)
         ensures state { Becomes self.new self.old }
         ensures adds { AddsCall self.old.told self.new.told Call.Pause }
-        ensures cause { HasCause self.old.faults self.new.faults false }
+        ensures cause { FaultIsCounted self.old.faults self.new.faults false }
     {
         self.note(false, Ok(Call::Pause));
     }

@@ -1,4 +1,5 @@
--- What a host asks of the system for a call, and how it answers by that: for each one call at most, and no other.
+-- What a host asks of the system for each of its calls, and how its answer follows from that. It makes at most one call
+-- to the system for each of its own.
 use Rattle.std.specs.Prelude.{◌≡◌, ◌⊎◌, ℕ, Bool, false, List, [], ◌∷◌, ◌++◌, map, Option, Some, None}
 use Rattle.std.specs.Prelude.{◌/◌, Result, Ok, IfOk, IsErr}
 use Rattle.std.specs.Map.{lookup}
@@ -11,94 +12,106 @@ use Rattle.host_calls.specs.declared.calls.HostFault.{HostFault}
 use Rattle.host_calls.specs.declared.calls.Reply.{Reply}
 use Rattle.host_calls.specs.declared.calls.Reply.TheVariants.{Now, Later}
 use Rattle.host_calls.specs.Calls.{HostCall, PartsRead}
-use Rattle.host_calls.specs.Held.{HeldChildren, KeepsHeld}
+use Rattle.host_calls.specs.Held.{HeldChildren, CallChangesHeld}
 use Rattle.host_calls.specs.Settings.{HostSettings}
 use Rattle.host_files.specs.Folders.{IsOwnFirst}
-use Rattle.host_system.specs.Commands.{in_session, words_logged, words_run}
+use Rattle.host_system.specs.Commands.{launched, words_logged, words_run}
+use Rattle.host_system.specs.Delays.{start_delay}
 use Rattle.host_system.specs.Logs.{log_path}
 use Rattle.host_system.specs.Systems.{SystemCall, Waited, look_answer, sent, signal_answer}
 use Rattle.host_system.specs.Systems.SystemCall.{read_clock, read_file, run, spawn, try_wait}
 
--- the words start the process text of the id: where there is a folder of logs, with its output in the id's log there,
--- or, where that can't be opened, as without; and in a session of its own, where children have groups
-abbrev pub AreStarted : Option (List ℕ) → Bool → List ℕ → List ℕ → List (List ℕ) → Type 0
-AreStarted None groups id text words = words ≡ in_session groups (words_run text)
-AreStarted (Some folder) groups id text words =
-    (words ≡ in_session groups (words_logged (log_path folder id) text))
-    ⊎ (words ≡ in_session groups (words_run text))
+-- The arguments start the process text of the id after a delay in seconds. If there is a folder of logs, the output
+-- goes to the id's log there, or the process is started as without logs, as the host does if it cannot open the log. If
+-- children have groups, the process is started in a session of its own.
+abbrev pub AreStarted : Option (List ℕ) → Bool → ℕ → List ℕ → List ℕ → List (List ℕ) → Type 0
+AreStarted None groups delay id text words = words ≡ launched groups delay (words_run text)
+AreStarted (Some folder) groups delay id text words =
+    (words ≡ launched groups delay (words_logged (log_path folder id) text))
+    ⊎ (words ≡ launched groups delay (words_run text))
 
--- a child is born just where its process was started, and has that number; else none was, or could be
-abbrev pub AsksSpawn : List (List ℕ) → Answer → List SystemCall → List SystemCall → Type 0
-AsksSpawn words (Born number) old new = new ≡ spawn words (Some number) ∷ old
-AsksSpawn words _ old new = (new ≡ old) ⊎ (new ≡ spawn words None ∷ old)
+-- If the answer is `Born`, a process was started with these arguments and has that number. After any other answer,
+-- either nothing was asked, or the process could not be started.
+abbrev pub SpawnRequests : List (List ℕ) → Answer → List SystemCall → List SystemCall → Type 0
+SpawnRequests words (Born number) old new = new ≡ spawn words (Some number) ∷ old
+SpawnRequests words _ old new = (new ≡ old) ⊎ (new ≡ spawn words None ∷ old)
 
--- A start of this process text of the id.
-abbrev pub AsksStart : Option (List ℕ) → Bool → List ℕ → List ℕ → Answer → List SystemCall → List SystemCall → Type 0
-AsksStart logs groups id text answer old new =
-    (words : List (List ℕ)) × AreStarted logs groups id text words × AsksSpawn words answer old new
+-- A start of the id's process text after a delay: a process is started at most once, with arguments that start this
+-- text, and the answer says whether it was started.
+abbrev pub StartRequests : Option (List ℕ) → Bool → ℕ → List ℕ → List ℕ → Answer → List SystemCall → List SystemCall
+    → Type 0
+StartRequests logs groups delay id text answer old new =
+    (words : List (List ℕ)) × AreStarted logs groups delay id text words × SpawnRequests words answer old new
 
--- the number of the id's child, where it has one
+-- the number of the id's child, if it has one
 abbrev pub number_of : List ℕ → HeldChildren → Option ℕ
 number_of id held = lookup (same_id id) held
 
--- the process of the number was waited for, once, and that was said; where there is no number nothing was asked
-abbrev pub AsksWait : Option ℕ → Waited → List SystemCall → List SystemCall → Type 0
-AsksWait (Some number) outcome old new = new ≡ try_wait number outcome ∷ old
-AsksWait None outcome old new = (new ≡ old) × (outcome ≡ None)
+-- the process with the number was waited for once, with this outcome; if there is no number, nothing was asked, and the
+-- wait counts as failed
+abbrev pub WaitRequest : Option ℕ → Waited → List SystemCall → List SystemCall → Type 0
+WaitRequest (Some number) outcome old new = new ≡ try_wait number outcome ∷ old
+WaitRequest None outcome old new = (new ≡ old) × (outcome ≡ None)
 
--- A look at the child of the number: what the wait said is answered.
-abbrev pub AsksLook : Option ℕ → Answer → List SystemCall → List SystemCall → Type 0
-AsksLook child answer old new = (outcome : Waited) × AsksWait child outcome old new × (answer ≡ look_answer outcome)
+-- A look at the child with the number: the answer is the outcome of the wait.
+abbrev pub LookRequest : Option ℕ → Answer → List SystemCall → List SystemCall → Type 0
+LookRequest child answer old new = (outcome : Waited) × WaitRequest child outcome old new
+    × (answer ≡ look_answer outcome)
 
--- the process of the number, or its group, was sent the signal, once, and was reached or not
-abbrev pub AsksSend : Bool → Option ℕ → SignalKind → Bool → List SystemCall → List SystemCall → Type 0
-AsksSend groups (Some number) signal reached old new = new ≡ sent groups signal number reached ∷ old
-AsksSend groups None signal reached old new = (new ≡ old) × (reached ≡ false)
+-- the process with the number, or its group, was sent the signal once, and was reached or not; if there is no number,
+-- nothing was asked, and it was not reached
+abbrev pub SendRequest : Bool → Option ℕ → SignalKind → Bool → List SystemCall → List SystemCall → Type 0
+SendRequest groups (Some number) signal reached old new = new ≡ sent groups signal number reached ∷ old
+SendRequest groups None signal reached old new = (new ≡ old) × (reached ≡ false)
 
--- A signal to it: whether it was reached is answered.
-abbrev pub AsksSignal : Bool → Option ℕ → SignalKind → Answer → List SystemCall → List SystemCall → Type 0
-AsksSignal groups child signal answer old new =
-    (reached : Bool) × AsksSend groups child signal reached old new × (answer ≡ signal_answer reached)
+-- A signal to the child with the number: the answer says whether it was reached.
+abbrev pub SignalRequest : Bool → Option ℕ → SignalKind → Answer → List SystemCall → List SystemCall → Type 0
+SignalRequest groups child signal answer old new =
+    (reached : Bool) × SendRequest groups child signal reached old new × (answer ≡ signal_answer reached)
 
--- the answer came at once, and is so
-abbrev pub OnNow : Reply → (Answer → Type 0) → Type 0
-OnNow (Now answer) P = P answer
-OnNow Later P = ⊥
+-- the answer came at once, and the property holds for it
+abbrev pub AnsweredNow : Reply → (Answer → Type 0) → Type 0
+AnsweredNow (Now answer) P = P answer
+AnsweredNow Later P = ⊥
 
--- helpers of the host's own were run to their ends: none is the child of an id
-abbrev pub AsksHelpers : List SystemCall → List SystemCall → Type 0
-AsksHelpers old new = (helpers : List (List (List ℕ))) × (new ≡ map run helpers ++ old)
+-- Some helper programs of the host were run to their end, and nothing else was asked. No helper is the child of an id.
+abbrev pub RunsHelpers : List SystemCall → List SystemCall → Type 0
+RunsHelpers old new = (helpers : List (List (List ℕ))) × (new ≡ map run helpers ++ old)
 
--- whole seconds of the time are answered, or a fault where the clock failed
+-- the answer is the time in whole seconds, or a fault if the clock could not be read
 abbrev pub AreSecondsOf : Option ℕ → Result ℕ HostFault → Type 0
 AreSecondsOf (Some time) seconds = seconds ≡ Ok (time / 1_000_000_000)
 AreSecondsOf None seconds = IsErr seconds
 
--- A reading of the clock: it was read once.
-abbrev pub AsksClock : Result ℕ HostFault → List SystemCall → List SystemCall → Type 0
-AsksClock seconds old new = (time : Option ℕ) × (new ≡ read_clock time ∷ old) × AreSecondsOf time seconds
+-- A reading of the clock: the system's clock was read once, and the answer follows from that.
+abbrev pub ClockRequest : Result ℕ HostFault → List SystemCall → List SystemCall → Type 0
+ClockRequest seconds old new = (time : Option ℕ) × (new ≡ read_clock time ∷ old) × AreSecondsOf time seconds
 
--- A reading of the inittab at the path: that file was read once, and is the first part.
-abbrev pub AsksTables : List ℕ → PartsRead → List SystemCall → List SystemCall → Type 0
-AsksTables path parts old new =
+-- A reading of the inittab at the path: that file was read once, and, unless the answer is a fault, it was read
+-- successfully and is the first part.
+abbrev pub TablesRequest : List ℕ → PartsRead → List SystemCall → List SystemCall → Type 0
+TablesRequest path parts old new =
     (text : Option (List ℕ)) × (new ≡ read_file path text ∷ old) × IfOk parts (IsOwnFirst path text)
 
--- a call of a host of these settings that holds these children asked this of the system, and no more
-abbrev pub KeepsAsked : HostSettings → HostCall → HeldChildren → List SystemCall → List SystemCall → Type 0
-KeepsAsked settings (Start id command reply) held old new =
-    OnNow reply (λ answer. AsksStart settings.logs settings.groups id command answer old new)
-KeepsAsked settings (Look id reply) held old new =
-    OnNow reply (λ answer. AsksLook (number_of id held) answer old new)
-KeepsAsked settings (Signal id signal reply) held old new =
-    OnNow reply (λ answer. AsksSignal settings.groups (number_of id held) signal answer old new)
-KeepsAsked settings (Clock seconds) held old new = AsksClock seconds old new
-KeepsAsked settings (ReadTables parts) held old new = AsksTables settings.inittab parts old new
-KeepsAsked settings _ held old new = new ≡ old
+-- what a call asked of the system, for a host with these settings that had these calls, newest first, and held these
+-- children before the call: exactly this, and nothing else
+abbrev pub SystemCallsForCall : HostSettings → HostCall → List HostCall → HeldChildren → List SystemCall
+    → List SystemCall → Type 0
+SystemCallsForCall settings (Start id text reply) calls held old new = AnsweredNow reply (λ answer. StartRequests
+    settings.logs settings.groups (start_delay settings.respawn_delay id calls) id text answer old new)
+SystemCallsForCall settings (Look id reply) calls held old new =
+    AnsweredNow reply (λ answer. LookRequest (number_of id held) answer old new)
+SystemCallsForCall settings (Signal id signal reply) calls held old new =
+    AnsweredNow reply (λ answer. SignalRequest settings.groups (number_of id held) signal answer old new)
+SystemCallsForCall settings (Clock seconds) calls held old new = ClockRequest seconds old new
+SystemCallsForCall settings (ReadTables parts) calls held old new = TablesRequest settings.inittab parts old new
+SystemCallsForCall settings _ calls held old new = new ≡ old
 
--- The calls, THE NEWEST FIRST, are those of a host of these settings that held no child before them, and holds these
--- behind them; and for them, in their order, behind helpers alone, the system was asked just this.
-abbrev pub AreAsked : HostSettings → List HostCall → HeldChildren → List SystemCall → Type 0
-AreAsked settings [] held asked = (held ≡ []) × AsksHelpers [] asked
-AreAsked settings (call ∷ calls) held asked =
-    (before : HeldChildren) × (between : List SystemCall) × AreAsked settings calls before between
-    × KeepsHeld call before held × KeepsAsked settings call before between asked
+-- The calls, newest first, are those of a host with these settings that held no child before them, and holds these
+-- children after them. For these calls, in their order, the system was asked exactly this, after helpers that were run
+-- before the first call.
+abbrev pub AreSystemCallsFor : HostSettings → List HostCall → HeldChildren → List SystemCall → Type 0
+AreSystemCallsFor settings [] held asked = (held ≡ []) × RunsHelpers [] asked
+AreSystemCallsFor settings (call ∷ calls) held asked =
+    (before : HeldChildren) × (between : List SystemCall) × AreSystemCallsFor settings calls before between
+    × CallChangesHeld call before held × SystemCallsForCall settings call calls before between asked

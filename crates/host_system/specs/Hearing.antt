@@ -1,16 +1,18 @@
--- What a host hears of its channel.
+-- What a host reads from its channel.
 use Rattle.std.specs.Prelude.{ℕ, List, [], ◌∷◌, ◌++◌, Ok}
 use Rattle.host_calls.specs.declared.calls.Call.TheVariants.{TakeBytes}
 use Rattle.host_calls.specs.Calls.{HostCall}
-use Rattle.host_files.specs.Channels.{ChannelState, HasHanded, IsReadOn}
+use Rattle.host_files.specs.Channels.{ChannelState, HandedBytes, ReadsConsecutively}
 
--- the bytes that calls took, THE NEWEST CALL FIRST
+-- the bytes that the calls returned, oldest first; the calls are given newest first
 abbrev pub bytes_taken : List HostCall → List ℕ
 bytes_taken [] = []
 bytes_taken (TakeBytes room (Ok bytes) ∷ calls) = bytes_taken calls ++ bytes
 bytes_taken (_ ∷ calls) = bytes_taken calls
 
--- The calls took the bytes that were read of the channel's file, each once and in order, but for those of the last
--- request that are still to come; and each request was read whole, where the one before it ended.
-abbrev pub IsHeard : List HostCall → ChannelState → Type 0
-IsHeard calls channel = HasHanded channel (bytes_taken calls) × IsReadOn channel.fresh channel.told
+-- The calls returned the bytes that were read from the channel's file, each once and in order, except the rest of the
+-- last request, which is returned next. Each request was read whole, from where the one before it ended, unless the
+-- channel was begun or created anew in between.
+abbrev pub AreBytesOfChannel : List HostCall → ChannelState → Type 0
+AreBytesOfChannel calls channel = HandedBytes channel (bytes_taken calls)
+    × ReadsConsecutively channel.fresh channel.told

@@ -1,4 +1,4 @@
--- What is known of a host over the operating system.
+-- The state of a host over the operating system.
 use Rattle.std.specs.Prelude.{ℕ, Bool, true, false, List, Option}
 use Rattle.init_words.specs.declared.orders.Answer.{Answer}
 use Rattle.init_words.specs.declared.orders.Answer.TheVariants.{Born, NotBorn, Ended, Alive, NoLook, Hit, Miss}
@@ -8,12 +8,21 @@ use Rattle.host_calls.specs.Calls.{HostCall}
 use Rattle.host_calls.specs.Held.{HeldChildren}
 use Rattle.host_calls.specs.Settings.{HostSettings}
 use Rattle.host_files.specs.Channels.{ChannelState}
+use Rattle.host_system.specs.Delays.{DelayState}
 use Rattle.host_system.specs.Systems.{SystemCall}
 
--- how many of its calls failed; whether its init takes no inittab with a faulty line; whether it tells what children
--- do; the path of its inittab; the folder of the children's output, where that goes to logs; whether each child is in
--- a session of its own, and signals go to its group; its channel; the children that it holds; its calls, and those
--- that the system was asked, the newest first
+-- The state of a host:
+-- - `faults`: how many of its calls failed
+-- - `strict`: init rejects an inittab with a faulty line
+-- - `verbose`: the host reports what children do
+-- - `inittab`: the path of its inittab
+-- - `logs`: the folder of the children's output, if that goes to logs
+-- - `groups`: each child has a session of its own, and signals go to its process group
+-- - `delays`: what the delays of starts depend on
+-- - `channel`: the request channel
+-- - `held`: the children that it holds
+-- - `calls`: its calls, newest first
+-- - `asked`: the calls that it made to the system, newest first
 pub record HostState : Type 0 where
   pub faults : ℕ
   pub strict : Bool
@@ -21,38 +30,42 @@ pub record HostState : Type 0 where
   pub inittab : List ℕ
   pub logs : Option (List ℕ)
   pub groups : Bool
+  pub delays : DelayState
   pub channel : ChannelState
   pub held : HeldChildren
   pub calls : List HostCall
   pub asked : List SystemCall
 
--- what of it no call changes
+-- the part of the state that no call changes
 abbrev pub settings_of : HostState → HostSettings
 settings_of host = record {
   inittab = host.inittab;
   logs = host.logs;
   groups = host.groups;
+  respawn_delay = host.delays.longest;
   fresh = host.channel.fresh;
 }
 
--- the answers that there are to a start, to a look and to a signal
+-- an answer that a start may have
 abbrev pub is_start_answer : Answer → Bool
 is_start_answer (Born number) = true
 is_start_answer NotBorn = true
 is_start_answer _ = false
 
+-- an answer that a look may have
 abbrev pub is_look_answer : Answer → Bool
 is_look_answer (Ended status) = true
 is_look_answer Alive = true
 is_look_answer NoLook = true
 is_look_answer _ = false
 
+-- an answer that a signal may have
 abbrev pub is_signal_answer : Answer → Bool
 is_signal_answer Hit = true
 is_signal_answer Miss = true
 is_signal_answer _ = false
 
--- it answers at once, by one of these
-abbrev pub answers_by : (Answer → Bool) → Reply → Bool
-answers_by kinds (Now answer) = kinds answer
-answers_by kinds Later = false
+-- the reply is an answer of this kind, which came at once
+abbrev pub answers_with : (Answer → Bool) → Reply → Bool
+answers_with kinds (Now answer) = kinds answer
+answers_with kinds Later = false

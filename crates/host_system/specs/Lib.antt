@@ -1,6 +1,9 @@
 pub mod Asking
 pub mod Commands
+pub mod Deadlines
+pub mod Delays
 pub mod Hearing
 pub mod Hosts
 pub mod Logs
 pub mod Systems
+pub mod Watching

@@ -1,26 +1,26 @@
-//! How the bell of a channel is made: by mkfifo(1).
+//! Creating the bell of a channel, by mkfifo(1).
 
-ghost use Rattle.host_system.specs.Asking.{AsksHelpers};
+ghost use Rattle.host_system.specs.Asking.{RunsHelpers};
 
 use crate::commands::{BoxedCommand, add_word, bare_command};
 use crate::host_options::HostOptions;
 use crate::systems::System;
 use host_files::{Channel, OsChannelFile};
-use host_lines::{HostLine, Tells};
+use host_lines::{HostLine, MessageSink};
 use std::alloc::{AllocError, Allocator};
 use std::io;
 use std::io::Error;
 use std::rt::Files;
 
-/// Makes the channel's bell, where the options want it and nothing stands at the bell's path. That it can't is told.
-pub(crate) fn make_bell<R: Files + Tells, S: System, A: Allocator + Copy>(
+/// Creates the channel's bell if the options ask for it and nothing exists at its path. A failure is reported.
+pub(crate) fn make_bell<R: Files + MessageSink, S: System, A: Allocator + Copy>(
     rt: &R,
     system: &mut S,
     alloc: A,
     channel: &Channel<OsChannelFile, A>,
     options: &HostOptions,
 )
-    ensures { AsksHelpers (S.told system.old) (S.told system.new) }
+    ensures { RunsHelpers (S.told system.old) (S.told system.new) }
 {
     if !options.bell {
         return;
@@ -36,9 +36,9 @@ pub(crate) fn make_bell<R: Files + Tells, S: System, A: Allocator + Copy>(
     }
 }
 
-/// Makes a FIFO at the path, which init's user alone may open.
+/// Creates a FIFO at the path, which only the user of initd may open.
 fn made_at<S: System, A: Allocator + Copy>(system: &mut S, alloc: A, path: &str) -> io::Result<()>
-    ensures { AsksHelpers (S.told system.old) (S.told system.new) }
+    ensures { RunsHelpers (S.told system.old) (S.told system.new) }
 {
     let mut command = making_command(alloc, path)?;
     if system.run(&mut command)?.success() {
@@ -48,7 +48,7 @@ fn made_at<S: System, A: Allocator + Copy>(system: &mut S, alloc: A, path: &str)
     }
 }
 
-/// The command that makes it.
+/// Returns the command that creates the FIFO.
 fn making_command<A: Allocator + Copy>(
     alloc: A,
     path: &str,

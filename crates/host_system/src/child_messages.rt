@@ -1,6 +1,6 @@
-//! What is told of the children of a host, and what is kept for it.
+//! What a host reports about its children, and what it remembers for that.
 
-use host_lines::{ChildEnd, ChildMessage, HostLine, Tells};
+use host_lines::{ChildEnd, ChildMessage, HostLine, MessageSink};
 use indexmap::IndexMap;
 use init_words::{ChildNumber, Id, SignalKind};
 use std::alloc::Allocator;
@@ -8,7 +8,7 @@ use std::hash::{BuildHasherDefault, FoldHasher};
 use std::os::unix::process::ExitStatusExt;
 use std::process::ExitStatus;
 
-/// How a child of this status ended: by its code where it has one, else by its signal.
+/// Returns how a child with this status ended: its exit code, if it has one, otherwise its signal.
 fn end_of(status: &ExitStatus) -> ChildEnd {
     match (status.code(), status.signal()) {
         (Some(code), _) => ChildEnd::Code(code.unsigned_abs()),
@@ -17,21 +17,22 @@ fn end_of(status: &ExitStatus) -> ChildEnd {
     }
 }
 
-/// What was told of the children of a host, on standard error.
+/// What was reported about the children of a host, on standard error.
 #[derive(Drop)]
 pub(crate) struct ChildMessages<A: Allocator> {
-    /// It is told what children do.
+    /// Whether starts, ends and signals are reported.
     verbose: bool,
-    /// How the last child of each id ended, as far as there was memory to keep it.
+    /// How the last child of each id ended, as far as memory allowed.
     ends: IndexMap<Id, ChildEnd, BuildHasherDefault<FoldHasher>, A>,
     /// How many children were born for each id.
     starts: IndexMap<Id, u64, BuildHasherDefault<FoldHasher>, A>,
-    /// An id was not counted for want of memory.
+    /// Whether an id was not counted because memory allocation failed.
     is_short: bool,
 }
 
 impl<A: Allocator + Copy> ChildMessages<A> {
-    /// Nothing was told; whether it is told what children do, or only why one is not born. It takes no memory.
+    /// Returns a value for which nothing was reported. If `verbose` is set, starts, ends and signals are reported;
+    /// otherwise only how the last child of an id ended. It allocates no memory.
     pub(crate) fn new(alloc: A, verbose: bool) -> ChildMessages<A> {
         ChildMessages {
             verbose,
@@ -41,8 +42,14 @@ impl<A: Allocator + Copy> ChildMessages<A> {
         }
     }
 
-    /// Tells that a child was started, where that is told.
-    pub(crate) fn tell_start(&mut self, rt: &impl Tells, id: &Id, number: ChildNumber) {
+    /// Reports that a child was started, and for how many seconds it waits before it runs, if `verbose` is set.
+    pub(crate) fn tell_start(
+        &mut self,
+        rt: &impl MessageSink,
+        id: &Id,
+        number: ChildNumber,
+        delay: u16,
+    ) {
         if !self.verbose {
             return;
         }
@@ -51,11 +58,19 @@ impl<A: Allocator + Copy> ChildMessages<A> {
             id: *id,
             message: ChildMessage::Started { number, start },
         });
+        if delay > 0 {
+            rt.tell(&HostLine::OfChild {
+                id: *id,
+                message: ChildMessage::Delayed(delay),
+            });
+        }
     }
 
-    /// Counts a birth, and gives which of its id it is. None where an id was not counted and this may be it. The first
-    /// time that there is no memory for an id is told on standard error.
-    fn count_start(&mut self, rt: &impl Tells, id: Id) -> Option<u64> {
+    /// Counts a birth, and returns how many children of the id were born so far, including this one.
+    ///
+    /// Returns `None` if ids were not counted for lack of memory and this may be one of them. The first time that there
+    /// is no memory for an id is reported on standard error.
+    fn count_start(&mut self, rt: &impl MessageSink, id: Id) -> Option<u64> {
         if let Some(count) = self.starts.get_mut(&id) {
             *count = count.saturating_add(1);
             return Some(*count);
@@ -71,8 +86,8 @@ impl<A: Allocator + Copy> ChildMessages<A> {
         None
     }
 
-    /// Keeps how the id's child ended, and tells it, where that is told.
-    pub(crate) fn note_end(&mut self, rt: &impl Tells, id: &Id, status: &ExitStatus) {
+    /// Remembers how the id's child ended, and reports it if `verbose` is set.
+    pub(crate) fn note_end(&mut self, rt: &impl MessageSink, id: &Id, status: &ExitStatus) {
         let end = end_of(status);
         if self.ends.insert(*id, end).is_err() {
             self.ends.shift_remove(id);
@@ -85,8 +100,8 @@ impl<A: Allocator + Copy> ChildMessages<A> {
         }
     }
 
-    /// Tells that a child was sent the signal, where that is told.
-    pub(crate) fn tell_sent(&self, rt: &impl Tells, id: &Id, signal: SignalKind) {
+    /// Reports that a child was sent the signal, if `verbose` is set.
+    pub(crate) fn tell_sent(&self, rt: &impl MessageSink, id: &Id, signal: SignalKind) {
         if self.verbose {
             rt.tell(&HostLine::OfChild {
                 id: *id,
@@ -95,8 +110,8 @@ impl<A: Allocator + Copy> ChildMessages<A> {
         }
     }
 
-    /// Says how the id's last child ended.
-    pub(crate) fn tell_last_end(&self, rt: &impl Tells, id: &Id) {
+    /// Reports how the id's last child ended.
+    pub(crate) fn tell_last_end(&self, rt: &impl MessageSink, id: &Id) {
         if let Some(end) = self.ends.get(id) {
             rt.tell(&HostLine::OfChild {
                 id: *id,

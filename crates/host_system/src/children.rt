@@ -1,23 +1,25 @@
-//! The children of a host: started, looked at, signalled.
+//! The children of a host: starting them, looking at them, sending them signals.
 
 ghost use Rattle.std.specs.Prelude.{◌≡◌, ◌++◌, ◌∷◌, [], IsTrue, IfOk, OnOk, OnErr, true, false, option_map, string_bytes};
 ghost use Rattle.host_calls.specs.declared.calls.Reply.TheVariants.{Now};
-ghost use Rattle.host_calls.specs.Held.{Looks, Signals, holds_child, without_child};
-ghost use Rattle.host_system.specs.Asking.{AsksHelpers, AsksLook, AsksSignal, AsksSpawn, AsksStart, AsksWait, number_of};
+ghost use Rattle.host_calls.specs.Held.{LookChangesHeld, SignalChangesHeld, holds_child, without_child};
+ghost use Rattle.host_system.specs.Asking.{RunsHelpers, LookRequest, SignalRequest, SpawnRequests, StartRequests, WaitRequest, number_of};
 ghost use Rattle.host_system.specs.Commands.{words_in};
 ghost use Rattle.host_system.specs.Hosts.{is_look_answer, is_signal_answer};
 ghost use Rattle.host_system.specs.Systems.{start_answer, status_of, waited};
 
 use crate::child_messages::ChildMessages;
-use crate::commands::needs_shell;
+use crate::commands::{add_word, needs_shell};
 use crate::held::HeldChild;
 use crate::host_options::HostOptions;
+use crate::launches::Launch;
 use crate::left::LeftProcesses;
 use crate::logs::Logs;
 use crate::systems::System;
 use crate::terms::check_sending;
+use crate::watchers::watch_command;
 use host_files::boxed;
-use host_lines::{ChildLine, ChildMessage, HostLine, Tells};
+use host_lines::{ChildLine, ChildMessage, HostLine, MessageSink};
 use indexmap::IndexMap;
 use init_words::{Answer, ChildNumber, Id, Memory, SignalKind, Stage, Status};
 use inittab_text::Table;
@@ -30,17 +32,17 @@ use std::process::{Command, ExitStatus};
 use std::rt::{Clock, Files};
 use text_lines::next_word;
 
-/// The children of a host, each under its id.
+/// The children of a host, by their ids.
 #[derive(Drop)]
 pub(crate) struct Children<S: System, A: Allocator> {
     alloc: A,
     handles: IndexMap<Id, HeldChild<S>, BuildHasherDefault<FoldHasher>, A>,
-    /// The stage, and that in which an inittab was read again last.
+    /// The current stage, and the stage in which an inittab was last read again.
     stage: Option<Stage>,
     read_in: Option<Stage>,
-    /// That stage isn't waited for.
+    /// Whether the level is announced settled; also `true` before the first stage.
     is_settled: bool,
-    /// What is told of them.
+    /// What is reported about the children.
     messages: ChildMessages<A>,
     left: LeftProcesses<A>,
 }
@@ -54,7 +56,7 @@ impl<S: System, A: Allocator> Model for Children<S, A> {
 }
 
 impl<S: System, A: Allocator + Copy> Children<S, A> {
-    /// No children. The options say what is told of them.
+    /// Returns a value without children. The options determine what is reported about the children.
     pub(crate) fn new(alloc: A, options: &HostOptions) -> Result<Box<Children<S, A>, A>, Memory>
         ensures { IfOk result (λ children. children.value ≡ []) }
     {
@@ -70,9 +72,14 @@ impl<S: System, A: Allocator + Copy> Children<S, A> {
         Ok(boxed(alloc, children)?)
     }
 
-    /// Says on standard error where none can be sent TERM, where the options want it.
-    pub(crate) fn tell_unsendable<R: Tells>(&self, rt: &R, system: &mut S, options: &HostOptions)
-        ensures { AsksHelpers (S.told system.old) (S.told system.new) }
+    /// Reports on standard error that no child can be sent TERM, if the options ask for that check.
+    pub(crate) fn tell_unsendable<R: MessageSink>(
+        &self,
+        rt: &R,
+        system: &mut S,
+        options: &HostOptions,
+    )
+        ensures { RunsHelpers (S.told system.old) (S.told system.new) }
     {
         if !options.sends_term {
             return;
@@ -85,14 +92,16 @@ impl<S: System, A: Allocator + Copy> Children<S, A> {
         }
     }
 
-    /// Starts a child for an id that has none, with its output in the logs where there are any, and gives its number.
-    pub(crate) fn start<R: Files + Tells, B: Allocator + Copy>(
+    /// Starts a child for an id that has none, with its output in the logs, if there are any, and returns its number.
+    /// It executes the process text after the delay, in seconds.
+    pub(crate) fn start<R: Files + MessageSink, B: Allocator + Copy>(
         &mut self,
         rt: &R,
         system: &mut S,
         logs: &mut Logs<A>,
         alloc: B,
         id: Id,
+        delay: u16,
         text: &[u8],
     ) -> io::Result<ChildNumber>
         ensures unheld { OnOk result (holds_child id self.old ≡ false) }
@@ -100,31 +109,43 @@ impl<S: System, A: Allocator + Copy> Children<S, A> {
         ensures not_born { OnErr result (self.new ≡ self.old) }
         ensures logs { logs.new.folder ≡ logs.old.folder }
         ensures groups { logs.new.groups ≡ logs.old.groups }
-        ensures asked { AsksStart (option_map string_bytes logs.old.folder) logs.old.groups id
-            text.now (start_answer result) (S.told system.old) (S.told system.new) }
+        ensures asked { StartRequests (option_map string_bytes logs.old.folder) logs.old.groups
+            delay id text.now (start_answer result) (S.told system.old) (S.told system.new) }
     {
         if self.holds(&id) {
             return Err(io::Error::from(ErrorKind::AlreadyExists));
         }
-        let mut command = logs.command(rt, alloc, &id, text)?;
+        let mut command = logs.command(rt, alloc, &id, delay, text)?;
         let number = self.spawn(system, id, &mut command)?;
-        self.messages.tell_start(rt, &id, number);
+        self.messages.tell_start(rt, &id, number, delay);
         Ok(number)
     }
 
-    /// How many children there are.
+    /// Returns the number of children.
     pub(crate) fn count(&self) -> usize {
         self.handles.len()
     }
 
-    /// The id has a child.
+    /// Starts the helper of a system that watches them.
+    pub(crate) fn watch(&self, system: &mut S) -> io::Result<()>
+        ensures { S.told system.new ≡ S.told system.old }
+    {
+        let mut command = watch_command(self.alloc)?;
+        for held in self.handles.values() {
+            let number = format!(in self.alloc; "{}", held.number().0)?;
+            add_word(&mut command, number.as_str())?;
+        }
+        system.watch(&mut command)
+    }
+
+    /// Returns whether the id has a child.
     fn holds(&self, id: &Id) -> bool
         ensures { result ≡ holds_child id.now self.now }
     {
         self.handles.contains_key(id)
     }
 
-    /// Starts a child by the command, and gives its number. There is room for its handle before it is born.
+    /// Starts a child by the command, and returns its number. Room for its handle is reserved before the child is born.
     fn spawn<B: Allocator + Copy>(
         &mut self,
         system: &mut S,
@@ -134,7 +155,7 @@ impl<S: System, A: Allocator + Copy> Children<S, A> {
         requires { holds_child id self.old ≡ false }
         ensures born { IfOk result (λ number. self.new ≡ self.old ++ (id, number) ∷ []) }
         ensures not_born { OnErr result (self.new ≡ self.old) }
-        ensures asked { AsksSpawn (words_in command.old) (start_answer result)
+        ensures asked { SpawnRequests (words_in command.old) (start_answer result)
             (S.told system.old) (S.told system.new) }
     {
         self.handles.reserve(1)?;
@@ -148,15 +169,15 @@ impl<S: System, A: Allocator + Copy> Children<S, A> {
     }
 
     /// Reaps the id's child if it has ended.
-    pub(crate) fn look<R: Files + Tells + Clock>(
+    pub(crate) fn look<R: Files + MessageSink + Clock>(
         &mut self,
         rt: &R,
         system: &mut S,
         id: &Id,
     ) -> Answer
         ensures kind { IsTrue (is_look_answer result) }
-        ensures held { Looks self.old self.new id.now (Now result) }
-        ensures asked { AsksLook (number_of id.now self.old) result
+        ensures held { LookChangesHeld self.old self.new id.now (Now result) }
+        ensures asked { LookRequest (number_of id.now self.old) result
             (S.told system.old) (S.told system.new) }
     {
         match self.try_wait(rt, system, id) {
@@ -173,8 +194,8 @@ impl<S: System, A: Allocator + Copy> Children<S, A> {
         }
     }
 
-    /// How the id's child ended, where it has. An id without child has none to wait for.
-    fn try_wait<R: Tells + Clock>(
+    /// Returns how the id's child ended, if it has. If the id has no child, the error is `NotFound`.
+    fn try_wait<R: MessageSink + Clock>(
         &mut self,
         rt: &R,
         system: &mut S,
@@ -182,7 +203,7 @@ impl<S: System, A: Allocator + Copy> Children<S, A> {
     ) -> io::Result<Option<ExitStatus>>
         ensures held { OnOk result (IsTrue (holds_child id.now self.old)) }
         ensures same { self.new ≡ self.old }
-        ensures asked { AsksWait (number_of id.now self.old) (waited result)
+        ensures asked { WaitRequest (number_of id.now self.old) (waited result)
             (S.told system.old) (S.told system.new) }
     {
         let Some(held) = self.handles.get_mut(id) else {
@@ -191,19 +212,19 @@ impl<S: System, A: Allocator + Copy> Children<S, A> {
         held.try_wait(system, rt, id, self.is_settled)
     }
 
-    /// Holds the id's child no longer.
+    /// Removes the id's child from the held children.
     fn release(&mut self, id: &Id)
         ensures { self.new ≡ without_child id.now self.old }
     {
         self.handles.shift_remove(id);
     }
 
-    /// Says on standard error how the id's last child ended, and what that mostly means.
-    pub(crate) fn tell_last_end(&self, rt: &impl Tells, id: &Id) {
+    /// Reports on standard error how the id's last child ended, and what that usually means.
+    pub(crate) fn tell_last_end(&self, rt: &impl MessageSink, id: &Id) {
         self.messages.tell_last_end(rt, id);
     }
 
-    /// The stage was entered.
+    /// Notes that the stage was entered.
     pub(crate) fn enter(&mut self, stage: Stage)
         ensures { self.new ≡ self.old }
     {
@@ -211,8 +232,8 @@ impl<S: System, A: Allocator + Copy> Children<S, A> {
         self.is_settled = false;
     }
 
-    /// The level is settled.
-    pub(crate) fn settle<R: Files + Tells>(&mut self, rt: &R)
+    /// Notes that the level is settled.
+    pub(crate) fn settle<R: Files + MessageSink>(&mut self, rt: &R)
         ensures { self.new ≡ self.old }
     {
         self.is_settled = true;
@@ -227,7 +248,8 @@ impl<S: System, A: Allocator + Copy> Children<S, A> {
             return;
         };
         self.read_in = Some(stage);
-        // All are kept: `retain` says what is written to each, as `iter_mut` doesn't.
+        // `retain` keeps all children. It is used because its contract says what is written to each, which that of
+        // `iter_mut` does not.
         self.handles.retain(
             |id: &Id, held: &mut HeldChild<S>| -> bool
                 ensures { (result ≡ true) × (held.new ≡ held.old) }
@@ -238,8 +260,8 @@ impl<S: System, A: Allocator + Copy> Children<S, A> {
         );
     }
 
-    /// Sends the id's child the signal, or its group where children have groups.
-    pub(crate) fn signal<R: Files + Tells>(
+    /// Sends the signal to the id's child, or, if children have groups, to its process group.
+    pub(crate) fn signal<R: Files + MessageSink>(
         &mut self,
         rt: &R,
         system: &mut S,
@@ -248,8 +270,8 @@ impl<S: System, A: Allocator + Copy> Children<S, A> {
         signal: SignalKind,
     ) -> Answer
         ensures kind { IsTrue (is_signal_answer result) }
-        ensures held { Signals self.old self.new id.now (Now result) }
-        ensures asked { AsksSignal groups (number_of id.now self.old) signal result
+        ensures held { SignalChangesHeld self.old self.new id.now (Now result) }
+        ensures asked { SignalRequest groups (number_of id.now self.old) signal result
             (S.told system.old) (S.told system.new) }
     {
         let is_same_stage = self.stage == self.read_in;
@@ -266,7 +288,7 @@ impl<S: System, A: Allocator + Copy> Children<S, A> {
     }
 }
 
-/// How a child ended that has this status.
+/// Returns how a child with this status ended.
 fn status_of(status: &ExitStatus) -> Status
     ensures { result ≡ status_of status.now }
 {
@@ -276,27 +298,27 @@ fn status_of(status: &ExitStatus) -> Status
     }
 }
 
-/// Says why the id's child, which this process text was to start, was not born.
+/// Reports why the id's child, which was to execute this process text, was not born.
 pub(crate) fn tell_not_born<'a>(
-    rt: &impl Tells,
-    groups: bool,
+    rt: &impl MessageSink,
+    launch: Launch,
     id: Id,
     text: &'a [u8],
     error: &'a io::Error,
 ) {
-    let program = program_of(groups, text);
+    let program = program_of(launch, text);
     rt.tell(&HostLine::OfChild {
         id,
         message: ChildMessage::NotBorn { program, error },
     });
 }
 
-/// The program that starts a process text.
-fn program_of(groups: bool, text: &[u8]) -> &[u8] {
+/// Returns the program that starts a process text.
+fn program_of(launch: Launch, text: &[u8]) -> &[u8] {
     match next_word(text) {
         None => b"",
-        Some(_) if groups => b"setsid",
-        Some(_) if needs_shell(text) => b"sh",
+        Some(_) if launch.groups => b"setsid",
+        Some(_) if launch.delay > 0 || needs_shell(text) => b"sh",
         Some((program, _)) => program,
     }
 }

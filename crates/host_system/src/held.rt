@@ -5,7 +5,7 @@ ghost use Rattle.host_system.specs.Systems.{sent, waited};
 ghost use Rattle.host_system.specs.Systems.SystemCall.{try_wait};
 
 use crate::systems::System;
-use host_lines::{ChildLine, ChildMessage, Doing, HostLine, Tells, Trouble};
+use host_lines::{ChildLine, ChildMessage, Doing, HostLine, MessageSink, Trouble};
 use init_words::{ChildNumber, Id, SignalKind};
 use std::alloc::Allocator;
 use std::io;
@@ -14,21 +14,21 @@ use std::process::ExitStatus;
 use std::rt::Clock;
 use std::time::{Duration, Instant};
 
-/// After how many seconds it is told again that a child can't be waited for.
+/// After how many seconds it is reported again that a child cannot be waited for.
 const AGAIN: u64 = 60;
 
-/// A child with the number that it was born with, and whether signals could be sent to it.
+/// A child with the number that it was born with, and what was reported about it.
 #[derive(Drop)]
 pub(crate) struct HeldChild<S: System> {
     number: ChildNumber,
     process: S::Started,
     stopping: Trouble,
-    /// It was told that it can't be sent KILL.
+    /// Whether it was reported that the child cannot be sent KILL.
     is_unkilled: bool,
-    /// It is told that it can't be waited for, and when that was.
+    /// Whether it is reported that the child cannot be waited for, and when it was last reported.
     is_unwaited: bool,
     told: Option<Instant>,
-    /// What an inittab that was read since its birth has for it.
+    /// What an inittab that was read since the child's birth has for it.
     line: Option<ChildLine>,
 }
 
@@ -43,7 +43,7 @@ impl<S: System> Model for HeldChild<S> {
 }
 
 impl<S: System> HeldChild<S> {
-    /// A child that was just started.
+    /// Returns a child that has just been started.
     pub(crate) fn new(system: &S, process: S::Started) -> HeldChild<S>
         ensures { result ≡ S.number process }
     {
@@ -58,16 +58,18 @@ impl<S: System> HeldChild<S> {
         }
     }
 
-    /// Its number.
+    /// Returns the child's number.
     pub(crate) fn number(&self) -> ChildNumber
         ensures { result ≡ self.now }
     {
         self.number
     }
 
-    /// How it ended, where it has (waitpid(2) with WNOHANG). That it can't be waited for is told, and again from time to
-    /// time while the stage waits; and that it can be again.
-    pub(crate) fn try_wait<R: Tells + Clock>(
+    /// Returns how the child ended, if it has (waitpid(2) with WNOHANG).
+    ///
+    /// If the child cannot be waited for, that is reported, and again each minute while the stage is not settled. It is
+    /// also reported when the child can be waited for again.
+    pub(crate) fn try_wait<R: MessageSink + Clock>(
         &mut self,
         system: &mut S,
         rt: &R,
@@ -86,7 +88,7 @@ impl<S: System> HeldChild<S> {
         outcome
     }
 
-    fn tell_waited(&mut self, rt: &impl Tells, id: &Id)
+    fn tell_waited(&mut self, rt: &impl MessageSink, id: &Id)
         ensures { self.new ≡ self.old }
     {
         if self.is_unwaited {
@@ -98,7 +100,7 @@ impl<S: System> HeldChild<S> {
         }
     }
 
-    fn tell_unwaited<R: Tells + Clock>(
+    fn tell_unwaited<R: MessageSink + Clock>(
         &mut self,
         rt: &R,
         id: &Id,
@@ -121,9 +123,9 @@ impl<S: System> HeldChild<S> {
         });
     }
 
-    /// Sends it the signal, or its group where children have groups, and gives whether that was done. It is told what
-    /// fails.
-    pub(crate) fn send<R: Tells, A: Allocator + Copy>(
+    /// Sends the signal to the child, or to its process group if children have groups, and returns whether it was sent.
+    /// Failures are reported.
+    pub(crate) fn send<R: MessageSink, A: Allocator + Copy>(
         &mut self,
         system: &mut S,
         rt: &R,
@@ -149,7 +151,7 @@ impl<S: System> HeldChild<S> {
         sent.is_ok()
     }
 
-    fn tell_unkilled(&mut self, rt: &impl Tells, id: &Id, error: &io::Error)
+    fn tell_unkilled(&mut self, rt: &impl MessageSink, id: &Id, error: &io::Error)
         ensures { self.new ≡ self.old }
     {
         if !self.is_unkilled {
@@ -164,16 +166,16 @@ impl<S: System> HeldChild<S> {
         }
     }
 
-    /// An inittab that was read has this for it.
+    /// Notes what an inittab that was read has for the child.
     pub(crate) fn note(&mut self, line: ChildLine)
         ensures { self.new ≡ self.old }
     {
         self.line = Some(line);
     }
 
-    /// Says on standard error, once, that the child, which is sent a signal, is the cost of an inittab that was read
-    /// again, where it is.
-    pub(crate) fn tell_cost(&mut self, rt: &impl Tells, id: &Id, is_same_stage: bool)
+    /// Reports on standard error, once, that the child, which is being sent a signal, is stopped because of an inittab
+    /// that was read again, if that is so.
+    pub(crate) fn tell_cost(&mut self, rt: &impl MessageSink, id: &Id, is_same_stage: bool)
         ensures { self.new ≡ self.old }
     {
         match self.line.take() {
@@ -189,7 +191,7 @@ impl<S: System> HeldChild<S> {
     }
 }
 
-/// It was told long enough ago to tell it again.
+/// Returns whether the last report is long enough ago to report again.
 fn is_past(rt: &impl Clock, told: Option<Instant>) -> bool {
     let Some(told) = told else {
         return false;

@@ -1,63 +1,76 @@
-//! What a host over the operating system stands on, and what it does beside its calls.
+//! The options of a host over the operating system: its paths, and what it does in addition to its calls.
 
 ghost use Rattle.std.specs.Prelude.{◌≡◌, false};
 
-/// How long the pauses of a host are.
+/// How long a host pauses.
 #[derive(Clone, Copy)]
 pub enum Pace {
-    /// A second each.
+    /// One second each.
     Second,
-    /// A tenth of the time since the child that is waited for was born or sent a signal, a ten-thousandth of a second to a
-    /// second.
+    /// A tenth of the sum of the pauses since something last happened, between 100 microseconds and a second. Something
+    /// happened if a child was born or had ended, a signal was sent, or bytes were read from the channel.
     Tenth,
-    /// At most so many hundredths of a second. Since the last pause a child may have been born or reaped, a signal sent or
-    /// bytes taken: then the next one lasts a thousandth of that, or less where there are few children: two millionths of
-    /// a second a child, and at least a hundred. Else it lasts twice as long as the last, but no longer than the longest;
-    /// where there are children and pauses go by cost, no longer than two thousand times what the last turn took either,
-    /// and that is taken for a tenth of a second at least.
+    /// At most this many hundredths of a second.
+    ///
+    /// If something happened since the last pause, as for `Tenth`, the next one lasts a thousandth of the maximum. It
+    /// is shorter if there are few children: 2 microseconds for each child, but at least 100 microseconds. Otherwise a
+    /// pause lasts twice as long as the last one, up to the maximum. With `by_cost`, and if there are children, it also
+    /// lasts no longer than 2,000 times the length of the last turn, or a tenth of a second if that is longer. A pause
+    /// ends when a child is due to be sent KILL, or an entry is no longer held.
     UpTo { hundredths: u64, by_cost: bool },
 }
 
-/// The paths of a host, and what it does besides.
+/// The paths of a host, and what it does in addition to its calls.
 #[derive(Clone, Copy)]
 pub struct HostOptions<'a> {
-    /// The path of the inittab, and of the folder of its further files, which `with_folder` reads.
+    /// The path of the inittab, and the path of the folder with its further files, which `with_folder` reads.
     pub inittab: &'a str,
     pub folder: Option<&'a str>,
-    /// The path of the channel of requests.
+    /// The path of the request channel.
     pub channel: &'a str,
-    /// The path of the text of init's state. A text is written to the path with `.new` after it before it is put in its
-    /// place; where something else than a plain file stands at one of the two it is refused.
+    /// The path of the state file. A text is first written to this path followed by `.new`, and then renamed. If
+    /// anything but a plain file exists at one of the two paths, the text is rejected.
     pub state: &'a str,
-    /// No text of the state is put over the file at this path, as over no other of its own; and it is told on standard
-    /// error where no text could be put at the state's path as things stand.
+    /// The path of a further file that the state must not replace; the host's own other files are never replaced. If it
+    /// is given, it is also reported on standard error, at the start, if the state could not be written as things are.
     pub spared: Option<&'a str>,
-    /// The folder where what each child prints is appended to `ID.log`, or to `_.log` where the id begins with a point or
-    /// has a slash, which is told. Its children have no input. Each is started by `sh`, which becomes the process, or says
-    /// in the log that there is none and ends with a status. Where a log can't be opened that is told, and the child is
-    /// started as without logs.
+    /// The folder in which the output of each child is appended to `ID.log`. If the id begins with a dot or has a
+    /// slash, the file is `_.log`, which is reported.
+    ///
+    /// With logs, children have no input. Each is started by `sh`, which becomes the process, or, if the program is
+    /// missing, writes that to the log and exits with a status. If a log cannot be opened, that is reported, and the
+    /// child is started as without logs.
     pub logs: Option<&'a str>,
-    /// Each child is started in a session of its own, by setsid(1), which becomes the program; and a signal goes to the
-    /// child's process group, or where it has none yet to the child.
+    /// Whether each child is started in a session of its own, by setsid(1), which becomes the program. A signal then
+    /// goes to the child's process group, or to the child if it has no group of its own yet.
     pub groups: bool,
+    /// The longest delay of a start in seconds, if starts are delayed. A child is then started by `sh`, which waits and
+    /// becomes the program, if its id was started before and, since that child began to run, less than this time has
+    /// passed. The delay is one second, and then twice the last one, up to the longest. It begins anew after a signal
+    /// to the child, and in each stage.
+    pub respawn_delay: Option<u16>,
     pub pace: Pace,
-    /// It makes its bell first, by mkfifo(1), where nothing stands at the bell's path. One that can't be made is told,
-    /// and gone on without.
+    /// Whether the bell is created at the start, by mkfifo(1), if nothing exists at its path. A failure is reported,
+    /// and the host works without a bell.
     pub bell: bool,
-    /// It passes over the requests that stand in the channel at its first reading: that begins at the end of the last
-    /// whole one. A channel that isn't there then has none.
+    /// Whether the children are watched while nothing happens, by a helper that exits when one of them ends: waitpid(1),
+    /// or, if there is none, perl(1). The end of a child then ends a pause. While the helper works, pauses do not depend
+    /// on the cost of a turn; while it does not, which is reported, they last at most a second.
+    pub watch: bool,
+    /// Whether requests that are in the channel when it is first read are skipped: reading then begins after the last
+    /// whole one. If the channel does not exist at that time, nothing is skipped.
     pub fresh: bool,
-    /// It tells on standard error of each birth, each end and each signal of a child, and once of each file that comes to
-    /// stand in the inittab's folder and is passed over; those that stand there at first are taken for told.
+    /// Whether each birth, each end and each signal of a child is reported on standard error; and each ignored file in
+    /// the inittab's folder, once, except those that are there at the start.
     pub verbose: bool,
-    /// It takes no inittab of which a line is faulty: it says so.
+    /// Whether init rejects an inittab that has a faulty line, which the host then reports.
     pub strict: bool,
-    /// It tells on standard error where it can send no child TERM, before it starts one.
+    /// Whether it is reported on standard error, before the first start, that no child can be sent TERM, if that is so.
     pub sends_term: bool,
 }
 
 impl HostOptions<'_> {
-    /// No paths, and nothing besides.
+    /// Returns options with empty paths and everything else turned off.
     pub fn none() -> HostOptions<'static>
         ensures strict { result.strict ≡ false }
         ensures verbose { result.verbose ≡ false }
@@ -71,8 +84,10 @@ impl HostOptions<'_> {
             spared: None,
             logs: None,
             groups: false,
+            respawn_delay: None,
             pace: Pace::Second,
             bell: false,
+            watch: false,
             fresh: false,
             verbose: false,
             strict: false,

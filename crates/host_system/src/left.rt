@@ -1,14 +1,14 @@
-//! What a stopped entry left: processes that its child had started, that its signals don't reach, and that run on when it
-//! has ended.
+//! Processes that a stopped entry left running: its child had started them, the signals to the child do not reach them,
+//! and they are still running after it has ended.
 
-use host_lines::{ChildMessage, HostLine, Tells};
+use host_lines::{ChildMessage, HostLine, MessageSink};
 use init_words::{ChildNumber, Id};
 use program_io::read_file;
 use std::alloc::{AllocError, Allocator};
 use std::rt::Files;
 use std::str;
 
-/// How many processes of one child are looked for, at most.
+/// The maximum number of processes of one child that are examined.
 const LIMIT: usize = 1_000;
 
 /// A process that a child had started.
@@ -16,12 +16,12 @@ const LIMIT: usize = 1_000;
 struct Process {
     id: Id,
     number: u32,
-    /// When it began, in clock ticks since the system did: two processes of one number differ in it.
+    /// When it started, in clock ticks since the system booted. It distinguishes processes with the same number.
     began: u64,
 }
 
-/// The processes that children had started when they were sent a signal, and that this didn't reach, those of one child
-/// together.
+/// The processes that children had started when they were sent a signal, and that the signal did not reach, grouped by
+/// child.
 #[derive(Drop)]
 pub(crate) struct LeftProcesses<A: Allocator> {
     alloc: A,
@@ -29,7 +29,7 @@ pub(crate) struct LeftProcesses<A: Allocator> {
 }
 
 impl<A: Allocator + Copy> LeftProcesses<A> {
-    /// None.
+    /// Returns a value without processes.
     pub(crate) fn new(alloc: A) -> LeftProcesses<A> {
         LeftProcesses {
             alloc,
@@ -37,14 +37,14 @@ impl<A: Allocator + Copy> LeftProcesses<A> {
         }
     }
 
-    /// The id's child, or its group, is to be sent a signal: what it had started besides is found anew, as far as /proc and
-    /// memory go.
+    /// Notes that a signal is about to be sent to the id's child, or to its group: finds anew the processes that the
+    /// child had started and the signal does not reach, as far as /proc and memory allow.
     pub(crate) fn note<R: Files>(&mut self, rt: &R, groups: bool, id: &Id, child: ChildNumber) {
         self.found.retain(|process| process.id != *id);
         let _ = self.find(rt, groups, id, child.0);
     }
 
-    /// Finds what a process had started, and what that had, and so on.
+    /// Finds the processes that a process had started, those that these had started, and so on.
     fn find<R: Files>(
         &mut self,
         rt: &R,
@@ -79,15 +79,15 @@ impl<A: Allocator + Copy> LeftProcesses<A> {
         Ok(())
     }
 
-    /// The id's child has ended: what it left is told, and no more after that.
-    pub(crate) fn tell<R: Files + Tells>(&mut self, rt: &R, id: &Id) {
+    /// Reports what the id's child, which has ended, left running, and then forgets it.
+    pub(crate) fn tell<R: Files + MessageSink>(&mut self, rt: &R, id: &Id) {
         self.pass_ended(rt);
         let _ = self.print(rt, id);
         self.found.retain(|process| process.id != *id);
     }
 
-    /// The level is settled: what each child left is told, and no more after that.
-    pub(crate) fn tell_all<R: Files + Tells>(&mut self, rt: &R) {
+    /// Reports what each child left running, because the level is settled, and then forgets all of it.
+    pub(crate) fn tell_all<R: Files + MessageSink>(&mut self, rt: &R) {
         self.pass_ended(rt);
         let mut told = None;
         for process in &self.found {
@@ -99,7 +99,7 @@ impl<A: Allocator + Copy> LeftProcesses<A> {
         self.found.clear();
     }
 
-    /// Passes over those that live no more.
+    /// Removes the processes that are no longer running.
     fn pass_ended<R: Files>(&mut self, rt: &R) {
         let alloc = self.alloc;
         self.found.retain(|process| {
@@ -107,8 +107,8 @@ impl<A: Allocator + Copy> LeftProcesses<A> {
         });
     }
 
-    /// Says on standard error which processes the id's child left, where it did.
-    fn print<R: Tells>(&self, rt: &R, id: &Id) -> Result<(), AllocError> {
+    /// Reports on standard error which processes the id's child left running, if any.
+    fn print<R: MessageSink>(&self, rt: &R, id: &Id) -> Result<(), AllocError> {
         let mut numbers = String::new(self.alloc);
         let mut count = 0u32;
         for process in &self.found {
@@ -131,7 +131,7 @@ impl<A: Allocator + Copy> LeftProcesses<A> {
     }
 }
 
-/// The numbers of the processes that a process started, with blanks between (proc(5), `children`).
+/// Returns the numbers of the processes that a process started, separated by blanks (`children` in proc(5)).
 fn children_of<R: Files, A: Allocator + Copy>(rt: &R, alloc: A, number: u32) -> Vec<u8, A> {
     match format!(in alloc; "/proc/{number}/task/{number}/children") {
         Ok(path) => read_file(rt, alloc, path.as_str()).unwrap_or(Vec::new(alloc)),
@@ -139,16 +139,16 @@ fn children_of<R: Files, A: Allocator + Copy>(rt: &R, alloc: A, number: u32) -> 
     }
 }
 
-/// The process group of the process of a number, and when it began, where it lives (proc_pid_stat(5)).
+/// Returns the process group of the process with this number, and when it started, if it is running (proc_pid_stat(5)).
 fn standing_of<R: Files, A: Allocator + Copy>(rt: &R, alloc: A, number: u32) -> Option<(u32, u64)> {
     let path = format!(in alloc; "/proc/{number}/stat").ok()?;
     let stat = read_file(rt, alloc, path.as_str()).ok()?;
     standing_in(&stat)
 }
 
-/// The same of its line: the name is in parentheses and may have any byte, the state is behind it, the group the second
-/// word after that, and the beginning the seventeenth after the group. One that has ended and isn't waited for yet lives
-/// no more.
+/// Reads both from the line of `stat`. The name is in parentheses and may have any byte. The state follows it, the
+/// group is the second word after that, and the start is the seventeenth after the group. A process that has ended and
+/// was not waited for yet counts as not running.
 fn standing_in(stat: &[u8]) -> Option<(u32, u64)> {
     let end = stat.iter().rposition(|byte| *byte == b')')?;
     let mut words = str::from_utf8(stat.get(end + 1..)?)

@@ -1,15 +1,21 @@
-//! A host that asks the operating system: real children, the channel of requests, the files of the inittab, the text
-//! of init's state. What it says it gives as values (`host_lines`) to what
-//! words them (`host_messages`).
+//! A host that asks the operating system: real children, the request channel, the files of the inittab, and the state
+//! file. It reports values (`host_lines`) to a crate that words them (`host_messages`).
+//!
+//! `adding` keeps, for proofs alone, the list of calls that were made of the host, with its answers. The list has no
+//! bytes, and nothing is done for it when a program runs.
 #![tactic(auto)]
 
+mod adding;
 mod bell_making;
 mod child_messages;
 mod children;
 mod commands;
+mod deadlines;
+mod delays;
 mod held;
 mod host_options;
 mod inherited;
+mod launches;
 mod laws;
 mod left;
 mod logs;
@@ -20,7 +26,10 @@ mod pauses;
 mod steady_clocks;
 mod systems;
 mod terms;
+mod watchers;
+mod watching;
 
+pub use adding::{CallList, no_calls};
 pub use host_options::{HostOptions, Pace};
 pub use inherited::{ignored_signals, ignores_children};
 pub use laws::law_of_asked_calls;

@@ -1,4 +1,4 @@
-//! Files for the output of the children.
+//! The files for the output of the children.
 
 ghost use Rattle.std.specs.List.{list_all};
 ghost use Rattle.std.specs.Prelude.{◌≡◌, IfOk, option_map, string_bytes};
@@ -7,8 +7,9 @@ ghost use Rattle.host_system.specs.Commands.{words_at, words_in};
 ghost use Rattle.host_system.specs.Logs.{is_log_byte, is_log_name, log_name, log_path};
 
 use crate::commands::{BoxedCommand, command_of, logged_command};
+use crate::launches::Launch;
 use host_files::is_hidden;
-use host_lines::{HostLine, Tells};
+use host_lines::{HostLine, MessageSink};
 use indexmap::IndexSet;
 use init_words::{Id, Memory};
 use program_io::refuse_special;
@@ -21,21 +22,21 @@ use std::process::{Command, Stdio};
 use std::rt::Files;
 use std::{io, str};
 
-/// The mode of a log that is made: others than its group don't read it.
+/// The mode of a new log: only its owner and its group can read it.
 const MODE: u32 = 0o640;
 
-/// The folder of the files that have the output of the children, where it goes to logs; and whether each child is in a
-/// session of its own.
+/// The folder of the files for the output of the children, if that goes to logs; and whether each child has a session
+/// of its own.
 #[derive(Drop)]
 pub(crate) struct Logs<A: Allocator> {
     pub(crate) folder: Option<String<A>>,
     pub(crate) groups: bool,
-    /// The ids of which it was told that they are no names of files.
+    /// The ids for which it was reported that they cannot be file names.
     told: IndexSet<Id, BuildHasherDefault<FoldHasher>, A>,
 }
 
 impl<A: Allocator + Copy> Logs<A> {
-    /// The logs in this folder, or none, of children that are in sessions of their own, or not.
+    /// Returns the logs in this folder, or without one, of children that have sessions of their own, or do not.
     pub(crate) fn new(alloc: A, folder: Option<&str>, groups: bool) -> Result<Logs<A>, Memory>
         ensures folder { IfOk result (λ logs.
             option_map string_bytes logs.folder ≡ option_map (λ path. path.now) folder.entry) }
@@ -52,45 +53,51 @@ impl<A: Allocator + Copy> Logs<A> {
         })
     }
 
-    /// The command that starts a process text. There is none where it has no word, and where it isn't UTF-8.
-    pub(crate) fn command<R: Files + Tells, B: Allocator + Copy>(
+    /// Returns the command that starts a process text after this delay in seconds. If the text has no word, or is not
+    /// UTF-8, the error is `InvalidInput`.
+    pub(crate) fn command<R: Files + MessageSink, B: Allocator + Copy>(
         &mut self,
         rt: &R,
         alloc: B,
         id: &Id,
+        delay: u16,
         text: &[u8],
     ) -> io::Result<BoxedCommand<B>>
         ensures words { IfOk result (λ command. AreStarted (option_map string_bytes self.old.folder)
-            self.old.groups id.now text.now (words_in command.value)) }
+            self.old.groups delay id.now text.now (words_in command.value)) }
         ensures same { self.new.folder ≡ self.old.folder }
         ensures groups { self.new.groups ≡ self.old.groups }
     {
         let Ok(text) = str::from_utf8(text) else {
             return Err(io::Error::from(ErrorKind::InvalidInput));
         };
-        match self.logged(rt, alloc, id, text)? {
+        match self.logged(rt, alloc, id, delay, text)? {
             Some(command) => Ok(command),
             None => Err(io::Error::from(ErrorKind::InvalidInput)),
         }
     }
 
-    /// The command that starts a process text, with its output in the id's log and no input where there are logs; as it
-    /// is started without them, where the log can't be opened, which is told on standard error.
-    fn logged<R: Files + Tells, B: Allocator + Copy>(
+    /// Returns the command that starts a process text, with its output in the id's log and no input if there are logs.
+    /// If the log cannot be opened, that is reported on standard error, and the process is started as without logs.
+    fn logged<R: Files + MessageSink, B: Allocator + Copy>(
         &mut self,
         rt: &R,
         alloc: B,
         id: &Id,
+        delay: u16,
         text: &str,
     ) -> io::Result<Option<BoxedCommand<B>>>
         ensures words { IfOk result (λ command. AreStarted (option_map string_bytes self.old.folder)
-            self.old.groups id.now text.now (words_at command)) }
+            self.old.groups delay id.now text.now (words_at command)) }
         ensures same { self.new.folder ≡ self.old.folder }
         ensures groups { self.new.groups ≡ self.old.groups }
     {
-        let groups = self.groups;
+        let launch = Launch {
+            groups: self.groups,
+            delay,
+        };
         let Some(folder) = &self.folder else {
-            return Ok(command_of(alloc, groups, text)?);
+            return Ok(command_of(alloc, launch, text)?);
         };
         let log = log_path(alloc, folder.as_str(), id)?;
         self.tell(rt, id, log.as_str());
@@ -100,17 +107,17 @@ impl<A: Allocator + Copy> Logs<A> {
                 log: log.as_str(),
                 error: &error,
             });
-            return Ok(command_of(alloc, groups, text)?);
+            return Ok(command_of(alloc, launch, text)?);
         }
-        let Some(mut command) = logged_command(alloc, groups, log.as_str(), text)? else {
+        let Some(mut command) = logged_command(alloc, launch, log.as_str(), text)? else {
             return Ok(None);
         };
         close_input(&mut command);
         Ok(Some(command))
     }
 
-    /// Tells once that the id's log is this one, since the id is no name of a file.
-    fn tell(&mut self, rt: &impl Tells, id: &Id, log: &str)
+    /// Reports once that the id's log has this path, because the id cannot be a file name.
+    fn tell(&mut self, rt: &impl MessageSink, id: &Id, log: &str)
         ensures folder { self.new.folder ≡ self.old.folder }
         ensures groups { self.new.groups ≡ self.old.groups }
     {
@@ -120,7 +127,7 @@ impl<A: Allocator + Copy> Logs<A> {
     }
 }
 
-/// The path of the id's log in a folder.
+/// Returns the path of the id's log in a folder.
 fn log_path<A: Allocator + Copy>(alloc: A, folder: &str, id: &Id) -> Result<String<A>, AllocError>
     ensures { IfOk result (λ path. string_bytes path ≡ log_path folder.now id.now) }
 {
@@ -128,7 +135,7 @@ fn log_path<A: Allocator + Copy>(alloc: A, folder: &str, id: &Id) -> Result<Stri
     format!(in alloc; "{folder}/{name}.log")
 }
 
-/// The name of the id's log, without `.log`.
+/// Returns the name of the id's log, without `.log`.
 fn log_name(id: &Id) -> &str
     ensures { result.now ≡ log_name id.now }
 {
@@ -139,14 +146,14 @@ fn log_name(id: &Id) -> &str
     }
 }
 
-/// Starts the command with no input.
+/// Makes the command start with no input.
 fn close_input<A: Allocator + Copy>(command: &mut Command<A>)
     ensures { words_in command.new ≡ words_in command.old }
 {
     command.stdin(Stdio::null());
 }
 
-/// Makes the file, where it isn't there, and finds whether it can be appended to.
+/// Creates the file if it does not exist, and checks that it can be appended to.
 fn made_ready<R: Files>(rt: &R, path: &str) -> io::Result<()> {
     refuse_special(rt, path)?;
     OpenOptions::new()
@@ -157,7 +164,7 @@ fn made_ready<R: Files>(rt: &R, path: &str) -> io::Result<()> {
     Ok(())
 }
 
-/// The id with `.log` behind it is the name of a file in its folder, and none that is hidden.
+/// Returns whether the id followed by `.log` can be the name of a file in the folder, and not of a hidden one.
 fn is_log_name(id: &[u8]) -> bool
     ensures { result ≡ is_log_name id.now }
 {

@@ -1,4 +1,5 @@
-//! A record of the system's calls that proofs alone can read, and a call more: one type for each kind of call.
+//! A record of the calls to the system, which only proofs can read, and the marks that add a call to it, one type for
+//! each kind of call.
 
 ghost use Rattle.std.specs.Prelude.{◌≡◌, []};
 
@@ -10,7 +11,7 @@ use std::marker::{Model, PhantomData};
 use std::process::{Command, ExitStatus};
 use std::time::Duration;
 
-/// A list of calls, the newest first. None is ever made: it is the type of what is noted.
+/// A list of calls, newest first. It is the type of a note, and no value of it is ever created.
 pub struct SystemCallList {
     marker: PhantomData<()>,
 }
@@ -24,7 +25,7 @@ impl Model for SystemCallList {
     ghost view = { λ _. [] };
 }
 
-/// How the record of no calls is read.
+/// Marks the note of no calls.
 struct Empty;
 
 impl Reads<(), SystemCallList> for Empty {
@@ -33,14 +34,14 @@ impl Reads<(), SystemCallList> for Empty {
     ghost value = { λ _. [] };
 }
 
-/// The record of no calls.
+/// Creates a record of no calls.
 pub fn nothing_asked() -> Noted<SystemCallList>
     ensures { result.value ≡ [] }
 {
     Noted::of::<(), Empty>(&())
 }
 
-/// The record of before with what is noted.
+/// Returns the earlier record with the call noted.
 pub(crate) fn noted<'a, X: Copy, M: Reads<(&'a Noted<SystemCallList>, X), SystemCallList>>(
     before: &'a Noted<SystemCallList>,
     call: X,
@@ -50,7 +51,7 @@ pub(crate) fn noted<'a, X: Copy, M: Reads<(&'a Noted<SystemCallList>, X), System
     Noted::of::<(&'a Noted<SystemCallList>, X), M>(&(before, call))
 }
 
-/// A program is to be started by a command: it could not be, so far.
+/// Marks a program that is to be started by a command. It is noted as not started, until it was.
 pub(crate) struct Spawned;
 
 impl<'a, A: Allocator> Reads<(&'a Noted<SystemCallList>, &'a Command<A>), SystemCallList>
@@ -62,7 +63,7 @@ impl<'a, A: Allocator> Reads<(&'a Noted<SystemCallList>, &'a Command<A>), System
     ghost value = { λ asked. spawn (words_in asked.1.now) None ∷ asked.0.now.value };
 }
 
-/// It was started, and is the process of this number.
+/// Marks that the program was started, as the process with this number.
 pub(crate) struct Started;
 
 impl<'a> Reads<(&'a Noted<SystemCallList>, u32), SystemCallList> for Started {
@@ -71,7 +72,7 @@ impl<'a> Reads<(&'a Noted<SystemCallList>, u32), SystemCallList> for Started {
     ghost value = { λ asked. born asked.1 asked.0.now.value };
 }
 
-/// The process of a number was waited for.
+/// Marks a wait for the process with a number.
 pub(crate) struct Waited;
 
 impl<'a> Reads<
@@ -88,7 +89,7 @@ impl<'a> Reads<
     ghost value = { λ asked. try_wait asked.1.0 (waited asked.1.1.now) ∷ asked.0.now.value };
 }
 
-/// It was sent KILL.
+/// Marks a KILL that was sent to it.
 pub(crate) struct Killed;
 
 impl<'a> Reads<(&'a Noted<SystemCallList>, (u32, &'a io::Result<()>)), SystemCallList> for Killed {
@@ -99,7 +100,7 @@ impl<'a> Reads<(&'a Noted<SystemCallList>, (u32, &'a io::Result<()>)), SystemCal
     ghost value = { λ asked. send Kill asked.1.0 (is_ok asked.1.1.now) ∷ asked.0.now.value };
 }
 
-/// It was sent TERM.
+/// Marks a TERM that was sent to it.
 pub(crate) struct Terminated;
 
 impl<'a> Reads<(&'a Noted<SystemCallList>, (u32, &'a io::Result<()>)), SystemCallList>
@@ -111,7 +112,7 @@ impl<'a> Reads<(&'a Noted<SystemCallList>, (u32, &'a io::Result<()>)), SystemCal
     ghost value = { λ asked. send Term asked.1.0 (is_ok asked.1.1.now) ∷ asked.0.now.value };
 }
 
-/// Its process group was sent a signal.
+/// Marks a signal that was sent to its process group.
 pub(crate) struct GroupSent;
 
 impl<'a> Reads<
@@ -128,7 +129,7 @@ impl<'a> Reads<
         send_group asked.1.0 asked.1.1 (is_ok asked.1.2.now) ∷ asked.0.now.value };
 }
 
-/// A program is run to its end by a command.
+/// Marks a program that is run to its end by a command.
 pub(crate) struct Ran;
 
 impl<'a, A: Allocator> Reads<(&'a Noted<SystemCallList>, &'a Command<A>), SystemCallList> for Ran {
@@ -139,7 +140,7 @@ impl<'a, A: Allocator> Reads<(&'a Noted<SystemCallList>, &'a Command<A>), System
     ghost value = { λ asked. run (words_in asked.1.now) ∷ asked.0.now.value };
 }
 
-/// The clock was read.
+/// Marks a reading of the clock.
 pub(crate) struct ClockRead;
 
 impl<'a> Reads<(&'a Noted<SystemCallList>, &'a io::Result<Duration>), SystemCallList>
@@ -153,7 +154,7 @@ impl<'a> Reads<(&'a Noted<SystemCallList>, &'a io::Result<Duration>), SystemCall
         read_clock (option_map as_nanos (result_ok asked.1.now)) ∷ asked.0.now.value };
 }
 
-/// The file at a path was read.
+/// Marks a reading of the file at a path.
 pub(crate) struct FileRead;
 
 impl<'a, A: Allocator> Reads<

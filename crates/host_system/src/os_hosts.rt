@@ -1,23 +1,35 @@
 //! The host over the operating system.
 
-ghost use Rattle.std.specs.Prelude.{◌≡◌, List, [], Ok, IfOk, OnErr, IsErr, true, false, option_map, string_bytes};
+ghost use Rattle.std.specs.Prelude.{◌≡◌, ◌++◌, ◌∷◌, List, [], Ok, IfOk, OnOk, OnErr, IsErr, IsTrue, true, false, option_map, string_bytes};
 ghost use Rattle.std.specs.Result.{result_ok};
 ghost use Rattle.std.specs.Duration.{as_nanos};
-ghost use Rattle.host_system.specs.Asking.{AreSecondsOf, AsksHelpers};
+ghost use Rattle.host_calls.specs.declared.calls.Call.TheVariants as call;
+ghost use Rattle.host_calls.specs.declared.calls.Reply.TheVariants.{Now};
+ghost use Rattle.host_calls.specs.Calls.{HostCall};
+ghost use Rattle.host_calls.specs.Held.{StartChangesHeld, holds_child};
+ghost use Rattle.init_words.specs.declared.orders.Answer.TheVariants.{Born};
+ghost use Rattle.host_system.specs.Asking.{AreSecondsOf, RunsHelpers, StartRequests};
+ghost use Rattle.host_system.specs.Delays.{AreDelaysAfter, start_delay};
+ghost use Rattle.host_system.specs.Hosts.{is_start_answer};
+ghost use Rattle.host_system.specs.Systems.{start_answer};
 
+use crate::adding::{self, CallList, no_calls};
 use crate::bell_making::make_bell;
 use crate::children::{Children, tell_not_born};
+use crate::deadlines::Deadlines;
+use crate::delays::Delays;
 use crate::host_options::HostOptions;
+use crate::launches::Launch;
 use crate::logs::Logs;
 use crate::noting::SystemCallList;
 use crate::outputs::Output;
 use crate::pauses::{Pauses, has_stirred};
 use crate::systems::System;
+use crate::watching::Watching;
 use host_calls::{Host, HostFault, Reply, counted, is_failed_reply};
 use host_files::{Channel, ChannelCallList, InittabFiles, OsChannelFile, StateFile, boxed};
-use host_lines::{Doing, HostLine, Tells, Trouble};
-use host_telling::{CallList, adding, no_calls};
-use init_words::{Answer, Id, Memory, Part, SignalKind};
+use host_lines::{Doing, HostLine, MessageSink, Trouble};
+use init_words::{Answer, ChildNumber, Id, Memory, Part, SignalKind};
 use inittab_text::read_parts;
 use program_io::{ChannelLock, Noted};
 use std::alloc::{Allocator, Global};
@@ -29,44 +41,57 @@ use std::rt::{Clock, Files};
 use std::time::Duration;
 use trace_events::{Handed, Happening, HappeningIn};
 
-/// A host that asks the operating system. It tells its calls, and those that it asked the system for them, which proofs
-/// alone can read, and answers each order at once.
+/// A host that asks the operating system. It answers each order at once. It records its calls, and those that it makes
+/// to the system for them; only proofs can read these records.
 ///
-/// A process text is executed by `sh` where it has a character that a shell reads; any other is split at blanks and
-/// tabs and started directly. A start for an id that has a child is refused. A child is looked at by waitpid(2)
-/// with WNOHANG; SIGTERM is sent by kill(1) in one `sh` for all of a turn, SIGKILL directly. A pause starts
-/// nothing, does not fail, and ends where a request comes: where a FIFO stands beside the channel, by the name of
-/// the channel with `.bell` after it, when it is rung, by a byte that is written to it, and else when the channel,
-/// which is looked at meanwhile, has grown. Requests are read from the channel file's first byte on, and anew where
-/// it is shorter than what was read, or another file stands at its path. The clock gives the seconds since the
-/// beginning of 1970 at its first reading, and goes on from there by the monotonic clock. What fails is told on
-/// standard error once when it begins and once when it is over; told too are requests that stand in the channel
-/// before its first reading, those that count for nothing, and that it ends within a request. The faults of the
-/// lines of an inittab's files are printed at each reading. Of a child that is stopped since an inittab that was
-/// read again has no line of it, or one that is off, does not run in the level or has another action, that is told
-/// on standard error.
+/// - Starts: a process text is executed by `sh` if it has a character that a shell interprets; any other text is split
+///   at blanks and tabs and started directly. A start for an id that has a child fails.
+/// - Looks: a child is looked at by waitpid(2) with WNOHANG.
+/// - Signals: SIGTERM is sent by kill(1), in one `sh` for all of a turn; SIGKILL is sent directly. With groups, both
+///   are sent by kill(1) to the child's process group.
+/// - Pauses: a pause starts nothing but the helper that watches the children, if they are watched, and does not fail. It
+///   ends early when a request comes. If there is a FIFO with the name of the channel followed by `.bell`, that is when a
+///   byte is written to it; otherwise the channel is looked at during the pause, and it ends when the channel has grown.
+///   It also ends when a watched child ends.
+/// - Requests: they are read from the first byte of the channel's file on. Reading begins anew if the file is shorter
+///   than what was read, or another file is at its path.
+/// - Clock: it returns the seconds since the beginning of 1970 at its first reading, and continues from there by the
+///   monotonic clock.
+///
+/// Failures are reported on standard error, once when they begin and once when they are over. The host also reports
+/// requests that are in the channel before its first reading, requests that are ignored, and a channel that ends within
+/// a request. At each reading of the inittab, the faults of its lines are printed. If a child is stopped because an
+/// inittab that was read again has no line for it, or has one that is `off`, does not run in the level or has another
+/// action, that is reported on standard error.
 #[derive(Drop)]
 pub struct OsHost<
-    R: Files<File = File> + Clock + Tells + Drop,
+    R: Files<File = File> + Clock + MessageSink + Drop,
     S: System + Drop,
     A: Allocator = Global,
 > {
     host: Box<OsHostParts<R, S, A>, A>,
 }
 
-/// What a host has, which is on the heap: so a host is one word to whoever owns it.
+/// The parts of a host, which are on the heap, so that a host is one word to its owner.
 #[derive(Drop)]
-struct OsHostParts<R: Files<File = File> + Clock + Tells + Drop, S: System + Drop, A: Allocator> {
+struct OsHostParts<
+    R: Files<File = File> + Clock + MessageSink + Drop,
+    S: System + Drop,
+    A: Allocator,
+> {
     rt: R,
     system: S,
     alloc: A,
     children: Box<Children<S, A>, A>,
     logs: Logs<A>,
+    delays: Delays<A>,
     channel: Box<Channel<OsChannelFile, A>, A>,
     inittab: Box<InittabFiles<A>, A>,
     state: Box<StateFile<A>, A>,
     output: Output<A>,
     pauses: Pauses,
+    deadlines: Deadlines,
+    watching: Watching,
     timing: Trouble,
     strict: bool,
     verbose: bool,
@@ -74,25 +99,28 @@ struct OsHostParts<R: Files<File = File> + Clock + Tells + Drop, S: System + Dro
     told: Noted<CallList>,
 }
 
-impl<R: Files<File = File> + Clock + Tells + Drop, S: System + Drop, A: Allocator> Model
+impl<R: Files<File = File> + Clock + MessageSink + Drop, S: System + Drop, A: Allocator> Model
     for OsHost<R, S, A> {
-    ghost use Rattle.host_system.specs.Asking.{AreAsked};
+    ghost use Rattle.host_system.specs.Asking.{AreSystemCallsFor};
+    ghost use Rattle.host_system.specs.Delays.{AreDelaysAfter};
     ghost use Rattle.host_system.specs.Hearing.{bytes_taken};
     ghost use Rattle.host_system.specs.Hosts.{HostState, settings_of};
-    ghost use Rattle.host_files.specs.Channels.{HasHanded};
+    ghost use Rattle.host_files.specs.Channels.{HandedBytes};
 
     ghost Value = { HostState };
 
     ghost view = { λ os. os.host.value };
 
     ghost invariant = { λ os. let host = os.host.value in
-        AreAsked (settings_of host) host.calls host.held host.asked
-        × HasHanded host.channel (bytes_taken host.calls) };
+        AreSystemCallsFor (settings_of host) host.calls host.held host.asked
+        × HandedBytes host.channel (bytes_taken host.calls)
+        × AreDelaysAfter host.delays host.calls };
 }
 
-impl<R: Files<File = File> + Clock + Tells + Drop, S: System + Drop, A: Allocator> Model
+impl<R: Files<File = File> + Clock + MessageSink + Drop, S: System + Drop, A: Allocator> Model
     for OsHostParts<R, S, A> {
     ghost use Rattle.std.specs.Prelude.{option_map, string_bytes};
+    ghost use Rattle.host_system.specs.Delays.{delay_state};
     ghost use Rattle.host_system.specs.Hosts.{HostState};
 
     ghost Value = { HostState };
@@ -104,6 +132,7 @@ impl<R: Files<File = File> + Clock + Tells + Drop, S: System + Drop, A: Allocato
       inittab = host.inittab.value;
       logs = option_map string_bytes host.logs.folder;
       groups = host.logs.groups;
+      delays = delay_state host.delays;
       channel = host.channel.value;
       held = host.children.value;
       calls = host.told.value;
@@ -111,23 +140,26 @@ impl<R: Files<File = File> + Clock + Tells + Drop, S: System + Drop, A: Allocato
     } };
 }
 
-impl<R: Files<File = File> + Clock + Tells + Drop, S: System + Drop, A: Allocator + Copy> OsHost<
-    R,
-    S,
-    A,
-> {
-    ghost use Rattle.host_system.specs.Asking.{AreAsked};
-    ghost use Rattle.host_system.specs.Hearing.{IsHeard};
+impl<
+    R: Files<File = File> + Clock + MessageSink + Drop,
+    S: System + Drop,
+    A: Allocator + Copy,
+> OsHost<R, S, A> {
+    ghost use Rattle.host_system.specs.Asking.{AreSystemCallsFor};
+    ghost use Rattle.host_system.specs.Hearing.{AreBytesOfChannel};
     ghost use Rattle.host_system.specs.Hosts.{settings_of};
 
-    /// A host without children, which has a system over the source to itself.
+    /// Returns a host without children, with a system of its own over the source.
     pub fn new(
         rt: R,
         source: S::Source,
         alloc: A,
         options: &HostOptions,
     ) -> Result<OsHost<R, S, A>, Memory>
-        ensures asked { IfOk result (λ host. AsksHelpers [] host.asked) }
+        // before the first call, the system was asked to run helpers, and nothing else
+        ensures asked { IfOk result (λ host. RunsHelpers [] host.asked) }
+        // the host has the settings of the options; it has no fault, no child and no calls, and has read nothing of its
+        // channel
         ensures value { IfOk result (λ host. host ≡ record {
           faults = 0;
           strict = options.now.strict;
@@ -135,6 +167,11 @@ impl<R: Files<File = File> + Clock + Tells + Drop, S: System + Drop, A: Allocato
           inittab = options.now.inittab.now;
           logs = option_map (λ path. path.now) options.now.logs;
           groups = options.now.groups;
+          delays = record {
+            longest = options.now.respawn_delay;
+            time = 0;
+            starts = [];
+          };
           channel = record { fresh = options.now.fresh; told = []; rest = [] };
           held = [];
           calls = [];
@@ -143,6 +180,7 @@ impl<R: Files<File = File> + Clock + Tells + Drop, S: System + Drop, A: Allocato
     {
         let children = Children::new(alloc, options)?;
         let logs = Logs::new(alloc, options.logs, options.groups)?;
+        let delays = Delays::new(alloc, options.respawn_delay);
         let (channel, inittab, state) = files_of(alloc, options)?;
         let parts = OsHostParts {
             rt,
@@ -150,11 +188,14 @@ impl<R: Files<File = File> + Clock + Tells + Drop, S: System + Drop, A: Allocato
             alloc,
             children,
             logs,
+            delays,
             channel,
             inittab,
             state,
             output: Output::new(alloc),
-            pauses: Pauses::of(options.pace),
+            pauses: Pauses::of(options.pace, options.watch),
+            deadlines: Deadlines::of(options.pace),
+            watching: Watching::new(options.watch),
             timing: Trouble::new(Doing::Read),
             strict: options.strict,
             verbose: options.verbose,
@@ -166,8 +207,8 @@ impl<R: Files<File = File> + Clock + Tells + Drop, S: System + Drop, A: Allocato
         Ok(OsHost { host })
     }
 
-    /// The host that holds this lock of its channel, and takes that of each other file that comes to stand at the
-    /// channel's path. Where another init has that one, it is told, and nothing is read.
+    /// Makes the host hold this lock of its channel, and take the lock of each other file that appears at the channel's
+    /// path. If another initd holds that lock, it is reported, and nothing is read.
     pub fn holding(mut self, lock: ChannelLock) -> OsHost<R, S, A>
         ensures { result ≡ self }
     {
@@ -176,17 +217,19 @@ impl<R: Files<File = File> + Clock + Tells + Drop, S: System + Drop, A: Allocato
         self
     }
 
-    /// The calls that were made of it.
+    /// Returns the record of the calls made to the host.
     pub fn calls(&self) -> Noted<CallList>
         ensures value { result.value ≡ self.now.calls }
-        ensures own { AreAsked (settings_of self.now) self.now.calls self.now.held
+        // the calls are those of a host that held no child before them; for them, in their order, the system was asked
+        // exactly what is recorded, after helpers that were run before the first call
+        ensures own { AreSystemCallsFor (settings_of self.now) self.now.calls self.now.held
             self.now.asked }
     {
         let host = &*self.host;
         host.told.again()
     }
 
-    /// What it asked the system.
+    /// Returns the record of the calls that the host made to the system.
     pub fn asked(&self) -> Noted<SystemCallList>
         ensures { result.value ≡ self.now.asked }
     {
@@ -194,23 +237,26 @@ impl<R: Files<File = File> + Clock + Tells + Drop, S: System + Drop, A: Allocato
         host.system.calls()
     }
 
-    /// What it read of its channel's file.
+    /// Returns the record of what the host read from its channel's file.
     pub fn heard(&self) -> Noted<ChannelCallList>
         ensures value { result.value ≡ self.now.channel.told }
-        ensures own { IsHeard self.now.calls self.now.channel }
+        // the calls returned the bytes that were read of the channel's file, each once and in order, except the rest of
+        // the last request; and each request was read whole, from where the one before it ended, unless the channel was
+        // begun or created anew in between
+        ensures own { AreBytesOfChannel self.now.calls self.now.channel }
     {
         let host = &*self.host;
         host.channel.told()
     }
 
-    /// All could be printed that it was to print: announcements, and faults of the inittab's lines.
+    /// Returns whether everything was printed that was to be printed: announcements, and faults of the inittab's lines.
     pub fn has_printed(&self) -> bool {
         let host = &*self.host;
         host.output.has_printed()
     }
 }
 
-/// What a host reads and writes files by.
+/// The parts of a host that read and write files.
 type HostFiles<A> = (
     Box<Channel<OsChannelFile, A>, A>,
     Box<InittabFiles<A>, A>,
@@ -230,14 +276,14 @@ fn files_of<A: Allocator + Copy>(alloc: A, options: &HostOptions) -> Result<Host
 }
 
 impl<
-    R: Files<File = File> + Clock + Tells + Drop,
+    R: Files<File = File> + Clock + MessageSink + Drop,
     S: System + Drop,
     A: Allocator + Copy,
 > OsHostParts<R, S, A> {
-    /// Does what is asked for before the first call.
+    /// Does what the options ask for before the first call.
     fn begin(&mut self, options: &HostOptions)
         ensures same { self.new ≡ record self.old { asked = self.new.asked } }
-        ensures asked { AsksHelpers self.old.asked self.new.asked }
+        ensures asked { RunsHelpers self.old.asked self.new.asked }
     {
         make_bell(
             &self.rt,
@@ -255,8 +301,113 @@ impl<
         }
     }
 
-    /// Tells of an inittab's files how they are read: the faults of the lines, or why there is no table; and notes which
-    /// children the table costs, where init takes it. Gives whether what is to be printed could be.
+    /// Pauses until the next deadline at most, or until a request comes or a watched child ends.
+    fn rest(&mut self)
+        ensures { self.new ≡ self.old }
+    {
+        self.watching.end_stale(&mut self.system);
+        let count = self.children.count();
+        let has_helper = self.system.watch_descriptor().is_some();
+        let is_complete = self.watching.is_complete(has_helper, count, self.faults);
+        let length = self.pauses.next(&self.rt, count, is_complete);
+        let length = self.deadlines.bounded(&self.rt, length);
+        self.watching
+            .renew(&self.rt, &mut self.system, &self.children, length);
+        let helper = self.system.watch_descriptor();
+        if self.channel.rest(&self.rt, length, helper) {
+            self.watching.join(&self.rt, &mut self.system);
+        }
+    }
+
+    /// Starts a child for an id that has none, after the delay that follows from the earlier calls, and answers whether
+    /// it was born. A failure is reported.
+    fn order_start<B: Allocator + Copy>(&mut self, alloc: B, id: Id, text: &[u8]) -> Answer
+        ensures kind { IsTrue (is_start_answer result) }
+        ensures held { StartChangesHeld self.old.held self.new.held id (Now result) }
+        ensures noted { (calls : List HostCall) → AreDelaysAfter self.old.delays calls
+            → AreDelaysAfter self.new.delays (call.Start id text.now (Now result) ∷ calls) }
+        ensures asked { (calls : List HostCall) → AreDelaysAfter self.old.delays calls
+            → StartRequests self.old.logs self.old.groups
+            (start_delay self.old.delays.longest id calls) id text.now result self.old.asked
+            self.new.asked }
+        ensures longest { self.new.delays.longest ≡ self.old.delays.longest }
+        ensures same { self.new ≡ record self.old {
+          delays = self.new.delays;
+          held = self.new.held;
+          asked = self.new.asked;
+        } }
+    {
+        let delay = self.delays.next(&id);
+        let number = match self.start_child(alloc, id, delay, text) {
+            Ok(number) => number,
+            Err(error) => {
+                let launch = Launch {
+                    groups: self.logs.groups,
+                    delay,
+                };
+                tell_not_born(&self.rt, launch, id, text, &error);
+                return Answer::NotBorn;
+            }
+        };
+        Answer::Born(number)
+    }
+
+    /// Starts a child for an id that has none, after this delay in seconds, and returns its number. Room for what is
+    /// noted of the start is reserved before the child is born.
+    fn start_child<B: Allocator + Copy>(
+        &mut self,
+        alloc: B,
+        id: Id,
+        delay: u16,
+        text: &[u8],
+    ) -> io::Result<ChildNumber>
+        ensures unheld { OnOk result (holds_child id self.old.held ≡ false) }
+        ensures born { IfOk result (λ number.
+            self.new.held ≡ self.old.held ++ (id, number) ∷ []) }
+        ensures noted { IfOk result (λ number. (calls : List HostCall)
+            → AreDelaysAfter self.old.delays calls
+            → delay ≡ start_delay self.old.delays.longest id calls
+            → AreDelaysAfter self.new.delays (call.Start id text.now (Now (Born number)) ∷ calls)) }
+        ensures not_born { OnErr result (self.new ≡ record self.old { asked = self.new.asked }) }
+        ensures asked { StartRequests self.old.logs self.old.groups delay id text.now
+            (start_answer result) self.old.asked self.new.asked }
+        ensures longest { self.new.delays.longest ≡ self.old.delays.longest }
+        ensures same { self.new ≡ record self.old {
+          delays = self.new.delays;
+          held = self.new.held;
+          asked = self.new.asked;
+        } }
+    {
+        self.delays.reserve()?;
+        let number = self.children.start(
+            &self.rt,
+            &mut self.system,
+            &mut self.logs,
+            alloc,
+            id,
+            delay,
+            text,
+        )?;
+        self.delays.note_start(id, delay);
+        Ok(number)
+    }
+
+    /// Notes the announced happening for what is reported about the children, and reports what belongs to it.
+    fn tell_after<B: Allocator>(&mut self, happening: &HappeningIn<B>)
+        ensures { self.new ≡ self.old }
+    {
+        match happening {
+            Happening::Enter(stage, _) => self.children.enter(*stage),
+            Happening::Settle(_) => self.children.settle(&self.rt),
+            Happening::Hold(id) => self.children.tell_last_end(&self.rt, id),
+            Happening::Handed(handed) => tell_handed(&self.rt, handed),
+            _ => {}
+        }
+    }
+
+    /// Reports how the files of an inittab are read: the faults of their lines, or why there is no table. If init
+    /// accepts the table, it notes what the table has for each child. Returns whether everything to be printed was
+    /// printed.
     fn tell_reading<B: Allocator + Copy>(&mut self, alloc: B, parts: &[Part<B>]) -> bool
         ensures { self.new ≡ self.old }
     {
@@ -280,8 +431,9 @@ impl<
     }
 }
 
-/// Tells, where the options spare a path, that no text of the state could be put in its place as things stand.
-fn tell_blocked<R: Files<File = File> + Tells, A: Allocator + Copy>(
+/// Reports, if the options name a file that the state must not replace, that the state could not be written as things
+/// are.
+fn tell_blocked<R: Files<File = File> + MessageSink, A: Allocator + Copy>(
     rt: &R,
     state: &mut StateFile<A>,
     paths: (&str, &str),
@@ -292,8 +444,8 @@ fn tell_blocked<R: Files<File = File> + Tells, A: Allocator + Copy>(
     }
 }
 
-/// Tells what came back of the text of init's state, where that was read and is another one.
-fn tell_handed(rt: &impl Tells, handed: &Handed) {
+/// Reports that the text of init's state came back cut, or as that of another generation.
+fn tell_handed(rt: &impl MessageSink, handed: &Handed) {
     match handed {
         Handed::Cut(length) => rt.tell(&HostLine::HandedCut(*length)),
         Handed::Older(generation) => rt.tell(&HostLine::HandedOlder(*generation)),
@@ -301,7 +453,7 @@ fn tell_handed(rt: &impl Tells, handed: &Handed) {
     }
 }
 
-/// What the system gave, or the fault that its error is.
+/// Returns the result of a system call, with an error converted into the fault that it is.
 fn host_result<T>(outcome: io::Result<T>) -> Result<T, HostFault>
     ensures ok { IfOk result (λ value. outcome ≡ Ok value) }
     ensures err { OnErr result (IsErr outcome) }
@@ -313,22 +465,21 @@ fn host_result<T>(outcome: io::Result<T>) -> Result<T, HostFault>
     }
 }
 
-/// Whole seconds of a time, or the fault that its error is.
+/// Returns the whole seconds of a time, or the fault that its error is.
 fn seconds_of(time: io::Result<Duration>) -> Result<u64, HostFault>
     ensures { AreSecondsOf (option_map as_nanos (result_ok time)) result }
 {
     Ok(host_result(time)?.as_secs())
 }
 
-impl<R: Files<File = File> + Clock + Tells + Drop, S: System + Drop, A: Allocator + Copy> Host
+impl<R: Files<File = File> + Clock + MessageSink + Drop, S: System + Drop, A: Allocator + Copy> Host
     for OsHost<R, S, A> {
-    ghost use Rattle.std.specs.Prelude.{◌≡◌, ◌≤◌, ◌∷◌, length, take, Some, None, IfOk, is_err, false, IsTrue};
+    ghost use Rattle.std.specs.Prelude.{◌≤◌, length, take, Some, None, is_err};
     ghost use Rattle.host_files.specs.Channels.{HandsOn};
-    ghost use Rattle.host_calls.specs.declared.calls.Call.TheVariants as call;
-    ghost use Rattle.host_calls.specs.Calls.{HasCause, front_read, is_failed_reply, parts_read, text_read};
-    ghost use Rattle.host_calls.specs.Held.{Starts, Looks, Signals};
-    ghost use Rattle.host_system.specs.Asking.{AsksClock, AsksLook, AsksSignal, AsksStart, AsksTables, OnNow, number_of};
-    ghost use Rattle.host_system.specs.Hosts.{HostState, settings_of, is_start_answer, is_look_answer, is_signal_answer, answers_by};
+    ghost use Rattle.host_calls.specs.Calls.{FaultIsCounted, front_read, is_failed_reply, parts_read, text_read};
+    ghost use Rattle.host_calls.specs.Held.{LookChangesHeld, SignalChangesHeld};
+    ghost use Rattle.host_system.specs.Asking.{ClockRequest, LookRequest, SignalRequest, StartRequests, TablesRequest, AnsweredNow, number_of};
+    ghost use Rattle.host_system.specs.Hosts.{HostState, settings_of, is_look_answer, is_signal_answer, answers_with};
 
     ghost told = { λ (host : HostState). Some host.calls };
 
@@ -339,35 +490,31 @@ impl<R: Files<File = File> + Clock + Tells + Drop, S: System + Drop, A: Allocato
     ghost settings = { λ (host : HostState). Some (settings_of host) };
 
     fn start<B: Allocator + Copy>(&mut self, alloc: B, id: Id, command: &[u8]) -> Reply
-        ensures cause { HasCause self.old.faults self.new.faults (is_failed_reply result) }
-        ensures kind { IsTrue (answers_by is_start_answer result) }
-        ensures held { Starts self.old.held self.new.held id result }
-        ensures asked { OnNow result (λ answer.
-            AsksStart self.old.logs self.old.groups id command.now answer self.old.asked
-            self.new.asked) }
+        // the count of faults never falls; the answer is a failure only if the count rises, or is at its maximum
+        ensures cause { FaultIsCounted self.old.faults self.new.faults (is_failed_reply result) }
+        // the reply is `Born` or `NotBorn`, at once
+        ensures kind { IsTrue (answers_with is_start_answer result) }
+        // a child that is born is held from then on, and the id had no child before; any other answer changes nothing
+        ensures held { StartChangesHeld self.old.held self.new.held id result }
+        // the system was asked at most once, to start a process with arguments that start this text, after the delay
+        // that follows from the earlier calls; the child is born exactly if the process was started, and has its number
+        ensures asked { AnsweredNow result (λ answer.
+            StartRequests self.old.logs self.old.groups
+            (start_delay self.old.delays.longest id self.old.calls) id command.now answer
+            self.old.asked self.new.asked) }
+        ensures longest { self.new.delays.longest ≡ self.old.delays.longest }
+        // nothing else changes, and the call is recorded
         ensures kept { self.new ≡ record self.old {
           faults = self.new.faults;
+          delays = self.new.delays;
           held = self.new.held;
           asked = self.new.asked;
           calls = call.Start id command.now result ∷ self.old.calls;
         } }
     {
         let host = &mut *self.host;
-        let started = host.children.start(
-            &host.rt,
-            &mut host.system,
-            &mut host.logs,
-            alloc,
-            id,
-            command,
-        );
-        let reply = match started {
-            Ok(number) => Reply::Now(Answer::Born(number)),
-            Err(error) => {
-                tell_not_born(&host.rt, host.logs.groups, id, command, &error);
-                Reply::Now(Answer::NotBorn)
-            }
-        };
+        let reply = Reply::Now(host.order_start(alloc, id, command));
+        host.watching.note(&reply);
         host.pauses.note(has_stirred(&reply));
         host.faults = counted(host.faults, is_failed_reply(&reply));
         host.told = adding::and_call::<_, adding::Start>(&host.told, (&id, command, &reply));
@@ -375,11 +522,17 @@ impl<R: Files<File = File> + Clock + Tells + Drop, S: System + Drop, A: Allocato
     }
 
     fn look(&mut self, id: Id) -> Reply
-        ensures cause { HasCause self.old.faults self.new.faults (is_failed_reply result) }
-        ensures kind { IsTrue (answers_by is_look_answer result) }
-        ensures held { Looks self.old.held self.new.held id result }
-        ensures asked { OnNow result (λ answer.
-            AsksLook (number_of id self.old.held) answer self.old.asked self.new.asked) }
+        // the count of faults never falls; the answer is a failure only if the count rises, or is at its maximum
+        ensures cause { FaultIsCounted self.old.faults self.new.faults (is_failed_reply result) }
+        // the reply is `Ended`, `Alive` or `NoLook`, at once
+        ensures kind { IsTrue (answers_with is_look_answer result) }
+        // a child that has ended was held, and no longer is; one that is alive is held; nothing else changes
+        ensures held { LookChangesHeld self.old.held self.new.held id result }
+        // the id's child, if there is one, was waited for once, without blocking, and the answer is the outcome;
+        // nothing else was asked
+        ensures asked { AnsweredNow result (λ answer.
+            LookRequest (number_of id self.old.held) answer self.old.asked self.new.asked) }
+        // nothing else changes, and the call is recorded
         ensures kept { self.new ≡ record self.old {
           faults = self.new.faults;
           held = self.new.held;
@@ -389,6 +542,7 @@ impl<R: Files<File = File> + Clock + Tells + Drop, S: System + Drop, A: Allocato
     {
         let host = &mut *self.host;
         let reply = Reply::Now(host.children.look(&host.rt, &mut host.system, &id));
+        host.watching.note(&reply);
         host.pauses.note(has_stirred(&reply));
         host.faults = counted(host.faults, is_failed_reply(&reply));
         host.told = adding::and_call::<_, adding::Look>(&host.told, (&id, &reply));
@@ -396,13 +550,21 @@ impl<R: Files<File = File> + Clock + Tells + Drop, S: System + Drop, A: Allocato
     }
 
     fn signal(&mut self, id: Id, signal: SignalKind) -> Reply
-        ensures cause { HasCause self.old.faults self.new.faults (is_failed_reply result) }
-        ensures kind { IsTrue (answers_by is_signal_answer result) }
-        ensures held { Signals self.old.held self.new.held id result }
-        ensures asked { OnNow result (λ answer. AsksSignal self.old.groups
+        // the count of faults never falls; the answer is a failure only if the count rises, or is at its maximum
+        ensures cause { FaultIsCounted self.old.faults self.new.faults (is_failed_reply result) }
+        // the reply is `Hit` or `Miss`, at once
+        ensures kind { IsTrue (answers_with is_signal_answer result) }
+        // only a held child is hit, and the held children do not change
+        ensures held { SignalChangesHeld self.old.held self.new.held id result }
+        // the signal was sent once to the id's child, if there is one, or to its process group, and the answer says
+        // whether it was reached; nothing else was asked
+        ensures asked { AnsweredNow result (λ answer. SignalRequest self.old.groups
             (number_of id self.old.held) signal answer self.old.asked self.new.asked) }
+        ensures longest { self.new.delays.longest ≡ self.old.delays.longest }
+        // nothing else changes, and the call is recorded
         ensures kept { self.new ≡ record self.old {
           faults = self.new.faults;
+          delays = self.new.delays;
           held = self.new.held;
           asked = self.new.asked;
           calls = call.Signal id signal result ∷ self.old.calls;
@@ -414,13 +576,15 @@ impl<R: Files<File = File> + Clock + Tells + Drop, S: System + Drop, A: Allocato
             .children
             .signal(&host.rt, &mut host.system, groups, &id, signal);
         let reply = Reply::Now(answer);
+        host.deadlines.note_signal(signal, &reply);
+        host.delays.note_signal(&id);
         host.pauses.note(has_stirred(&reply));
         host.faults = counted(host.faults, is_failed_reply(&reply));
         host.told = adding::and_call::<_, adding::Signal>(&host.told, (&id, signal, &reply));
         reply
     }
 
-    /// Nothing ever comes later.
+    /// Returns `None`: no answer ever comes later.
     fn late(&mut self) -> Option<(Id, Answer)>
         ensures never { result ≡ None }
         ensures kept { self.new
@@ -432,10 +596,13 @@ impl<R: Files<File = File> + Clock + Tells + Drop, S: System + Drop, A: Allocato
     }
 
     fn clock(&mut self) -> Result<u64, HostFault>
-        ensures cause { HasCause self.old.faults self.new.faults (is_err result) }
-        ensures asked { AsksClock result self.old.asked self.new.asked }
+        ensures cause { FaultIsCounted self.old.faults self.new.faults (is_err result) }
+        // the system's clock was read once, and the result is its time in whole seconds, or a fault if it failed
+        ensures asked { ClockRequest result self.old.asked self.new.asked }
+        ensures longest { self.new.delays.longest ≡ self.old.delays.longest }
         ensures kept { self.new ≡ record self.old {
           faults = self.new.faults;
+          delays = self.new.delays;
           asked = self.new.asked;
           calls = call.Clock result ∷ self.old.calls;
         } }
@@ -443,7 +610,9 @@ impl<R: Files<File = File> + Clock + Tells + Drop, S: System + Drop, A: Allocato
         let host = &mut *self.host;
         let time = host.system.clock();
         host.timing.tell(&host.rt, "the clock", &time);
+        host.deadlines.note_reading(&host.rt, &time);
         let reading = seconds_of(time);
+        host.delays.note_time(reading);
         host.faults = counted(host.faults, reading.is_err());
         host.told = adding::and_call::<_, adding::Clock>(&host.told, reading);
         reading
@@ -451,8 +620,9 @@ impl<R: Files<File = File> + Clock + Tells + Drop, S: System + Drop, A: Allocato
 
     fn take_bytes(&mut self, buffer: &mut [u8]) -> Result<usize, HostFault>
         ensures within { IfOk result (λ count. count ≤ length buffer.old) }
-        ensures cause { HasCause self.old.faults self.new.faults (is_err result) }
+        ensures cause { FaultIsCounted self.old.faults self.new.faults (is_err result) }
         ensures fresh { self.new.channel.fresh ≡ self.old.channel.fresh }
+        // these are the next bytes that were read of the channel's file, after all those returned before
         ensures handed { IfOk result (λ count.
             HandsOn self.old.channel self.new.channel (take count buffer.new)) }
         ensures kept { self.new ≡ record self.old {
@@ -471,8 +641,9 @@ impl<R: Files<File = File> + Clock + Tells + Drop, S: System + Drop, A: Allocato
     }
 
     fn read_tables<B: Allocator + Copy>(&mut self, alloc: B) -> Result<Vec<Part<B>, B>, HostFault>
-        ensures cause { HasCause self.old.faults self.new.faults (is_err result) }
-        ensures asked { AsksTables self.old.inittab (parts_read (λ parts. parts.items) result)
+        ensures cause { FaultIsCounted self.old.faults self.new.faults (is_err result) }
+        // the file at the path of the inittab was read once; unless the result is a fault, its text is the first part
+        ensures asked { TablesRequest self.old.inittab (parts_read (λ parts. parts.items) result)
             self.old.asked self.new.asked }
         ensures kept { self.new ≡ record self.old {
           faults = self.new.faults;
@@ -488,12 +659,14 @@ impl<R: Files<File = File> + Clock + Tells + Drop, S: System + Drop, A: Allocato
             Err(_) => false,
         };
         host.faults = counted(host.faults, !is_told);
+        host.deadlines.note_table();
         host.told = adding::and_call::<_, adding::ReadTables>(&host.told, &parts);
         parts
     }
 
     fn carry<B: Allocator + Copy>(&mut self, alloc: B, text: &[u8]) -> Result<Vec<u8, B>, HostFault>
-        ensures cause { HasCause self.old.faults self.new.faults (is_err result) }
+        ensures cause { FaultIsCounted self.old.faults self.new.faults (is_err result) }
+        // only the count of faults changes, and the call is recorded
         ensures kept { self.new ≡ record self.old {
           faults = self.new.faults;
           calls = call.Carry text.now (text_read (λ back. back.items) result) ∷ self.old.calls;
@@ -510,23 +683,21 @@ impl<R: Files<File = File> + Clock + Tells + Drop, S: System + Drop, A: Allocato
     }
 
     fn announce<B: Allocator>(&mut self, happening: &HappeningIn<B>)
-        ensures cause { HasCause self.old.faults self.new.faults false }
+        ensures cause { FaultIsCounted self.old.faults self.new.faults false }
+        ensures longest { self.new.delays.longest ≡ self.old.delays.longest }
         ensures kept { self.new ≡ record self.old {
           faults = self.new.faults;
+          delays = self.new.delays;
           calls = call.Announce happening.now ∷ self.old.calls;
         } }
     {
         let host = &mut *self.host;
         let is_printed = host.output.announce(&host.rt, happening);
+        host.delays.note_announced(happening);
         host.faults = counted(host.faults, !is_printed);
         host.told = adding::and_call::<_, adding::Announce>(&host.told, happening);
-        match happening {
-            Happening::Enter(stage, _) => host.children.enter(*stage),
-            Happening::Settle(_) => host.children.settle(&host.rt),
-            Happening::Hold(id) => host.children.tell_last_end(&host.rt, id),
-            Happening::Handed(handed) => tell_handed(&host.rt, handed),
-            _ => {}
-        }
+        host.deadlines.note_announcement(happening);
+        host.tell_after(happening);
     }
 
     fn pause(&mut self)
@@ -535,8 +706,7 @@ impl<R: Files<File = File> + Clock + Tells + Drop, S: System + Drop, A: Allocato
     {
         let host = &mut *self.host;
         host.system.end_turn();
-        let length = host.pauses.next(&host.rt, host.children.count());
-        host.channel.rest(&host.rt, length);
+        host.rest();
         host.pauses.begin_turn(&host.rt);
         host.told = adding::and_call::<_, adding::Pause>(&host.told, ());
     }

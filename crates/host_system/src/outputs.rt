@@ -1,6 +1,6 @@
 //! What a host prints on standard output: announcements, and the faults of the inittab's lines.
 
-use host_lines::{Doing, Tells, Trouble};
+use host_lines::{Doing, MessageSink, Trouble};
 use init_words::Part;
 use inittab_text::PartFault;
 use std::alloc::Allocator;
@@ -12,12 +12,12 @@ use trace_events::HappeningIn;
 pub(crate) struct Output<A: Allocator> {
     alloc: A,
     saying: Trouble,
-    /// Something could not be printed.
+    /// Whether something could not be printed.
     lost: bool,
 }
 
 impl<A: Allocator + Copy> Output<A> {
-    /// Nothing was printed, and nothing failed. It takes no memory.
+    /// Returns an output to which nothing was printed, and which has not failed. It allocates no memory.
     pub(crate) fn new(alloc: A) -> Output<A> {
         Output {
             alloc,
@@ -26,8 +26,9 @@ impl<A: Allocator + Copy> Output<A> {
         }
     }
 
-    /// Prints what init says of the happening, at once. Gives whether it could, which is told.
-    pub(crate) fn announce<R: Tells, B: Allocator>(
+    /// Prints init's announcement of the happening, if it has one, without delay. Returns whether that worked; a
+    /// failure is reported.
+    pub(crate) fn announce<R: MessageSink, B: Allocator>(
         &mut self,
         rt: &R,
         happening: &HappeningIn<B>,
@@ -36,8 +37,8 @@ impl<A: Allocator + Copy> Output<A> {
         self.note(rt, &printed)
     }
 
-    /// Prints the faults of the lines of an inittab's parts. Gives whether it could, which is told.
-    pub(crate) fn print_faults<R: Tells, B: Allocator>(
+    /// Prints the faults of the lines of an inittab's parts. Returns whether that worked; a failure is reported.
+    pub(crate) fn print_faults<R: MessageSink, B: Allocator>(
         &mut self,
         rt: &R,
         parts: &[Part<B>],
@@ -47,13 +48,13 @@ impl<A: Allocator + Copy> Output<A> {
         self.note(rt, &printed)
     }
 
-    /// All could be printed that was to be.
+    /// Returns whether everything was printed that was to be printed.
     pub(crate) fn has_printed(&self) -> bool {
         !self.lost
     }
 
-    /// Tells whether a text could be printed, where the text has a byte.
-    fn note<R: Tells>(&mut self, rt: &R, printed: &io::Result<usize>) -> bool {
+    /// Reports whether a text could be printed, unless the text is empty.
+    fn note<R: MessageSink>(&mut self, rt: &R, printed: &io::Result<usize>) -> bool {
         if !matches!(printed, Ok(0)) {
             self.saying.tell(rt, "standard output", printed);
         }

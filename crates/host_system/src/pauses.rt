@@ -1,4 +1,4 @@
-//! How long a pause is.
+//! The length of pauses.
 
 use crate::host_options::Pace;
 use host_calls::Reply;
@@ -6,46 +6,49 @@ use init_words::Answer;
 use std::rt::Clock;
 use std::time::Instant;
 
-/// The microseconds of a hundredth of a second.
+/// The microseconds in a hundredth of a second.
 const HUNDREDTH: u64 = 10_000;
 
-/// The shortest pause behind a turn in which something happened, in microseconds, and how much of it a child costs that
-/// is looked at in each turn: so looks take no more than half of the time.
+/// The shortest pause after a turn in which something happened, in microseconds: this many, or `SHORT_A_CHILD` for each
+/// child that is looked at in a turn, if that is more. So looks take at most half of the time.
 const SHORT: u64 = 100;
 
 const SHORT_A_CHILD: u64 = 2;
 
-/// How many times as long as the turn before it a pause at rest may be, where pauses go by what a turn costs, and how long
-/// it is at least, in microseconds: so looks take at most half a thousandth of one processor.
+/// The limit of an idle pause if pauses depend on the cost of a turn: this many times the length of the turn before it,
+/// or `REST` microseconds, if that is more. So looks take at most 0.05 % of one processor.
 const REST_A_TURN: u64 = 2_000;
 
 const REST: u64 = 100_000;
 
-/// The microseconds of a second.
+/// The microseconds in a second.
 const SECOND: u64 = 1_000_000;
 
-/// How long the pauses of a host are, in microseconds.
+/// The pauses of a host, in microseconds.
 #[derive(Drop)]
 pub(crate) struct Pauses {
     shortest: u64,
     longest: u64,
+    /// The longest pause while something may need a look.
+    looking: u64,
     next: u64,
-    /// A pause at rest goes by what the turn before it took.
+    /// Whether an idle pause depends on the length of the turn before it.
     by_cost: bool,
-    /// Something happened since the last pause.
+    /// Whether something happened since the last pause.
     stirred: bool,
-    /// The length of all pauses since something happened, where each is a tenth of those before it.
+    /// The sum of all pauses since something last happened, if each pause is a tenth of those before it.
     passed: Option<u64>,
     /// When the turn began.
     turn: Option<Instant>,
 }
 
 impl Pauses {
-    /// Pauses of this pace.
-    pub(crate) fn of(pace: Pace) -> Pauses {
+    /// Returns pauses of this pace, for children that are to be watched or not.
+    pub(crate) fn of(pace: Pace, watch: bool) -> Pauses {
         let mut pauses = Pauses {
             shortest: SECOND,
             longest: SECOND,
+            looking: SECOND,
             next: SECOND,
             by_cost: false,
             stirred: false,
@@ -67,7 +70,11 @@ impl Pauses {
                 pauses.shortest = pauses.longest / 1_000;
                 pauses.next = pauses.shortest;
                 pauses.by_cost = by_cost;
+                pauses.looking = pauses.longest;
             }
+        }
+        if watch {
+            pauses.looking = pauses.longest.min(SECOND);
         }
         pauses
     }
@@ -77,12 +84,12 @@ impl Pauses {
         self.stirred = self.stirred || stirred;
     }
 
-    /// A turn begins.
+    /// Notes that a turn begins.
     pub(crate) fn begin_turn(&mut self, rt: &impl Clock) {
         self.turn = Instant::now(rt).ok();
     }
 
-    /// The microseconds since the turn began; 0 where no clock could be read.
+    /// Returns the microseconds since the turn began; 0 if the clock could not be read.
     fn turn_length(&self, rt: &impl Clock) -> u64 {
         let Some(began) = self.turn else {
             return 0;
@@ -93,12 +100,14 @@ impl Pauses {
         }
     }
 
-    /// The length of the pause that is due over so many children behind the turn, in microseconds: where something
-    /// happened in it the shortest, or less where the children are few, and else twice the one before, or a tenth of
-    /// those before, up to the longest.
-    pub(crate) fn next(&mut self, rt: &impl Clock, children: usize) -> u64 {
+    /// Returns the length of the next pause in microseconds, for this many children. If something happened in the turn,
+    /// it is the shortest pause, or less if the children are few; otherwise it is twice the pause before, or a tenth of
+    /// those before, up to the longest. That is shorter unless the children are watched.
+    pub(crate) fn next(&mut self, rt: &impl Clock, children: usize, is_watched: bool) -> u64 {
         let length = if self.stirred {
             self.shortest_over(children)
+        } else if is_watched {
+            self.next
         } else {
             self.next
                 .min(self.longest_over(children, self.turn_length(rt)))
@@ -115,16 +124,16 @@ impl Pauses {
         length
     }
 
-    /// The longest pause over so many children behind a turn that took so long.
+    /// Returns the longest pause for this many children that are not watched, after a turn of this length.
     fn longest_over(&self, children: usize, turn: u64) -> u64 {
         if self.by_cost && children > 0 {
-            turn.saturating_mul(REST_A_TURN).max(REST).min(self.longest)
+            turn.saturating_mul(REST_A_TURN).max(REST).min(self.looking)
         } else {
-            self.longest
+            self.looking
         }
     }
 
-    /// The shortest pause over so many children: pauses that don't grow stay as they are.
+    /// Returns the shortest pause for this many children. Pauses that do not grow have a fixed length.
     fn shortest_over(&self, children: usize) -> u64 {
         if self.shortest < self.longest {
             let short = SHORT_A_CHILD.saturating_mul(children as u64).max(SHORT);
@@ -135,7 +144,7 @@ impl Pauses {
     }
 }
 
-/// A child was born, had ended, or was sent a signal.
+/// Returns whether a child was born, was found to have ended, or was sent a signal.
 pub(crate) fn has_stirred(reply: &Reply) -> bool {
     matches!(
         reply,

@@ -1,31 +1,31 @@
-//! A clock that no one can set.
+//! A clock that nobody can set.
 
 use std::io;
 use std::io::ErrorKind;
 use std::rt::Clock;
 use std::time::{Duration, Instant, SystemTime};
 
-/// A time of 1970, and when it was, by the clock that nobody sets.
+/// A time since the beginning of 1970, and the reading of the monotonic clock at that moment.
 #[derive(Clone, Copy)]
 struct Beginning {
     since_1970: Duration,
     at: Instant,
 }
 
-/// A clock that gives the time since the beginning of 1970 as it was at its first reading, and goes on from there by the
-/// monotonic clock.
+/// A clock that returns the time since the beginning of 1970 as it was at its first reading, and continues from there
+/// by the monotonic clock.
 #[derive(Drop)]
 pub(crate) struct SteadyClock {
     beginning: Option<Beginning>,
 }
 
 impl SteadyClock {
-    /// A clock that was not read yet.
+    /// Returns a clock that was not read yet.
     pub(crate) fn new() -> SteadyClock {
         SteadyClock { beginning: None }
     }
 
-    /// The time now.
+    /// Returns the current time.
     pub(crate) fn reading(&mut self, rt: &impl Clock) -> io::Result<Duration> {
         let beginning = match self.beginning {
             Some(beginning) => beginning,
@@ -37,7 +37,7 @@ impl SteadyClock {
     }
 }
 
-/// The time now, by both clocks.
+/// Returns the current time by both clocks.
 fn begun(rt: &impl Clock) -> io::Result<Beginning> {
     let at = Instant::now(rt)?;
     match SystemTime::now(rt)?.duration_since(SystemTime::UNIX_EPOCH) {

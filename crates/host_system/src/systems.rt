@@ -1,4 +1,4 @@
-//! What a host asks the operating system: processes, the clock, the inittab's file.
+//! What a host asks the operating system for: processes, the clock, and the file of the inittab.
 
 ghost use Rattle.std.specs.Prelude.{◌≡◌, List, [], ◌∷◌, Some, None, is_ok, IfOk, OnErr, ℕ, option_map};
 ghost use Rattle.std.specs.Result.{result_ok};
@@ -15,95 +15,123 @@ use crate::noting::{
 };
 use crate::steady_clocks::SteadyClock;
 use crate::terms::TermSender;
+use crate::watchers::Watcher;
 use init_words::SignalKind;
 use program_io::{Noted, read_file};
 use std::alloc::Allocator;
 use std::io;
+use std::os::fd::RawFd;
 use std::process::{Child, Command, ExitStatus, OpenProcess, Processes};
 use std::rt::{Clock, Files};
 use std::time::Duration;
 
-/// What starts processes, waits for them and signals them, has a clock, and reads files.
+/// A system that starts processes, waits for them and sends them signals, has a clock, and reads files.
 ///
-/// A contract sees of it the calls that it was asked, each with its answer. Code that is given a `System` and no
-/// `Processes` has no other way to start, await or signal a process. A clock and files may be had beside it: the runtime
-/// of `OsHost` has them, for pauses, the channel, the inittab's folder, logs and the text of the state.
+/// A contract sees the calls that it was asked, each with its answer. Code that is given a `System`, and no
+/// `Processes`, has no other way to start a process, wait for it or send it a signal. It may have another clock and
+/// other files: the runtime of `OsHost` has them, for pauses, the channel, the inittab's folder, logs and the state
+/// file.
 pub trait System {
-    /// The calls with their answers, the newest first.
+    /// The calls with their answers, newest first.
     ghost told: { Self → List SystemCall };
 
-    /// What it hands its calls on to, as the runtime of a program.
+    /// What it passes its calls on to, such as the runtime of a program.
     type Source: Drop;
 
     /// A process that it started.
     type Started: Drop;
 
-    /// Its number.
+    /// The number of a process.
     ghost number: { Self.Started → ℕ };
 
-    /// A system over this source, of which nothing was asked yet.
+    /// Returns a system over this source that was not asked for anything yet.
     fn over(source: Self::Source) -> Self
         ensures { told result ≡ [] };
 
-    /// The record of its calls, which proofs alone can read.
+    /// Returns the record of its calls, which only proofs can read.
     fn calls(&self) -> Noted<SystemCallList>
         ensures { result.value ≡ told self.now };
 
     /// Starts a program.
     fn spawn<A: Allocator + Copy>(&mut self, command: &mut Command<A>) -> io::Result<Self::Started>
+        // recorded with its arguments and the number of the new process
         ensures ok { IfOk result (λ process. told self.new
             ≡ spawn (words_in command.old) (Some (number process)) ∷ told self.old) }
+        // recorded as a call that started no process
         ensures err { OnErr result
             (told self.new ≡ spawn (words_in command.old) None ∷ told self.old) };
 
-    /// The number of a process.
+    /// Returns the number of a process.
     fn number_of(&self, process: &Self::Started) -> u32
         ensures { result ≡ number process.now };
 
-    /// How a process ended, where it has (waitpid(2) with WNOHANG).
+    /// Returns how a process ended, if it has (waitpid(2) with WNOHANG).
     fn try_wait(&mut self, process: &mut Self::Started) -> io::Result<Option<ExitStatus>>
+        // recorded with the number of the process and the outcome
         ensures told { told self.new
             ≡ try_wait (number process.old) (waited result) ∷ told self.old }
         ensures same { number process.new ≡ number process.old };
 
-    /// Sends a process KILL (kill(2)).
+    /// Sends KILL to a process (kill(2)).
     fn kill(&mut self, process: &mut Self::Started) -> io::Result<()>
+        // recorded with the number of the process, and whether the signal was sent
         ensures told { told self.new
             ≡ send Kill (number process.old) (is_ok result) ∷ told self.old }
         ensures same { number process.new ≡ number process.old };
 
-    /// Sends TERM to the process of a number (kill(1)).
+    /// Sends TERM to the process with a number (kill(1)).
     fn terminate<A: Allocator + Copy>(&mut self, alloc: A, to: u32) -> io::Result<()>
+        // recorded with the number, and whether the signal was sent
         ensures { told self.new ≡ send Term to (is_ok result) ∷ told self.old };
 
-    /// Sends a signal to the process group of a process, or where it has none to the process (kill(1), and kill(2) where
-    /// that can't send KILL).
+    /// Sends a signal to the process group of a process, or to the process if it has no group of its own (kill(1); if
+    /// that cannot send KILL, kill(2)).
     fn send_group<A: Allocator + Copy>(
         &mut self,
         alloc: A,
         process: &mut Self::Started,
         signal: SignalKind,
     ) -> io::Result<()>
+        // recorded as one signal to the group, with whether it was sent to the group or the process
         ensures told { told self.new
             ≡ send_group signal (number process.old) (is_ok result) ∷ told self.old }
         ensures same { number process.new ≡ number process.old };
 
-    /// The turn is over: what was started for it alone, as the shell that sends signals, may end.
+    /// Ends the turn: what was started for it only, such as the shell that sends signals, may end.
     fn end_turn(&mut self)
+        ensures { told self.new ≡ told self.old };
+
+    /// Starts the helper that watches processes, by this command. It exits when one of them ends. It is none of the
+    /// processes of `spawn`, and is not recorded.
+    fn watch<A: Allocator + Copy>(&mut self, command: &mut Command<A>) -> io::Result<()>
+        ensures { told self.new ≡ told self.old };
+
+    /// Returns the descriptor that is ready when the helper has exited; `None` if there is no helper.
+    fn watch_descriptor(&self) -> Option<RawFd>;
+
+    /// Waits for the helper, which has exited or is about to, and returns its status.
+    fn join_watch(&mut self) -> Option<ExitStatus>
+        ensures { told self.new ≡ told self.old };
+
+    /// Ends the helper, if there is one.
+    fn end_watch(&mut self)
         ensures { told self.new ≡ told self.old };
 
     /// Runs a program to its end.
     fn run<A: Allocator + Copy>(&mut self, command: &mut Command<A>) -> io::Result<ExitStatus>
+        // recorded with its arguments
         ensures { told self.new ≡ run (words_in command.old) ∷ told self.old };
 
-    /// The time since the beginning of 1970, as it was at the first reading, and goes on from there by a clock that nobody
-    /// sets (clock_gettime(2), CLOCK_MONOTONIC).
+    /// Returns the time since the beginning of 1970 as it was at the first reading, continued from there by a clock
+    /// that nobody can set (clock_gettime(2), CLOCK_MONOTONIC).
     fn clock(&mut self) -> io::Result<Duration>
+        // recorded with the time, or as failed
         ensures { told self.new
             ≡ read_clock (option_map as_nanos (result_ok result)) ∷ told self.old };
 
-    /// The text of the plain file at a path, in memory of `alloc`. What is no plain file is refused.
+    /// Reads the plain file at a path into memory of `alloc`. Anything but a plain file is rejected.
     fn read_file<A: Allocator>(&mut self, alloc: A, path: &str) -> io::Result<Vec<u8, A>>
+        // recorded with the path, and the text if it was read
         ensures { told self.new ≡ read_file path.now (text_of result) ∷ told self.old };
 }
 
@@ -114,13 +142,14 @@ pub struct Process<P: OpenProcess + Drop> {
     child: Child<P>,
 }
 
-/// The operating system. Each call asks it for one thing, and notes what it asked and what was answered.
+/// The operating system. Each call records what was asked and answered.
 #[derive(Drop)]
 pub struct OsSystem<R: Processes + Clock + Files + Drop> {
     rt: R,
     sender: TermSender<R::Started>,
+    watcher: Watcher<R::Started>,
     clock: SteadyClock,
-    /// The calls so far, for proofs alone.
+    /// The calls so far, for proofs only.
     told: Noted<SystemCallList>,
 }
 
@@ -137,6 +166,7 @@ impl<R: Processes + Clock + Files + Drop> System for OsSystem<R> {
         OsSystem {
             rt: source,
             sender: TermSender::new(),
+            watcher: Watcher::new(),
             clock: SteadyClock::new(),
             told: nothing_asked(),
         }
@@ -150,7 +180,7 @@ impl<R: Processes + Clock + Files + Drop> System for OsSystem<R> {
         &mut self,
         command: &mut Command<A>,
     ) -> io::Result<Process<R::Started>> {
-        // Noted as one that fails, until there is a number to note.
+        // Noted as a failed start, until there is a number to note.
         self.told = noted::<_, Spawned>(&self.told, &*command);
         let child = command.spawn(&self.rt)?;
         let number = child.id();
@@ -197,8 +227,24 @@ impl<R: Processes + Clock + Files + Drop> System for OsSystem<R> {
     }
 
     fn end_turn(&mut self) {
-        // The status of the shell tells nothing: each signal was answered.
+        // The exit status of the shell does not matter, because each signal was answered.
         let _ = self.sender.end();
+    }
+
+    fn watch<A: Allocator + Copy>(&mut self, command: &mut Command<A>) -> io::Result<()> {
+        self.watcher.start(&self.rt, command)
+    }
+
+    fn watch_descriptor(&self) -> Option<RawFd> {
+        self.watcher.descriptor()
+    }
+
+    fn join_watch(&mut self) -> Option<ExitStatus> {
+        self.watcher.join()
+    }
+
+    fn end_watch(&mut self) {
+        self.watcher.end();
     }
 
     fn run<A: Allocator + Copy>(&mut self, command: &mut Command<A>) -> io::Result<ExitStatus> {

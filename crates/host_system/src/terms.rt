@@ -1,8 +1,10 @@
-//! The helper that sends signals: TERM to children, and to their groups each. It is one shell for all of a turn.
+//! The helper that sends signals: TERM to children, and TERM and KILL to their process groups. It is one shell for all
+//! of a turn.
 
-ghost use Rattle.host_system.specs.Asking.{AsksHelpers};
+ghost use Rattle.host_system.specs.Asking.{RunsHelpers};
 
 use crate::commands::{BoxedCommand, shell_command};
+use crate::launches::AT_ONCE;
 use crate::systems::System;
 use init_words::SignalKind;
 use program_io::write_text;
@@ -11,33 +13,35 @@ use std::io;
 use std::io::{Error, ErrorKind, Read};
 use std::process::{Child, ExitStatus, OpenProcess, Processes, Stdio};
 
-/// What the shell does: for each line it sends the signal to the process of the number, or where a third word stands there
-/// to its process group, and where there is none, as before setsid(1) made it, to the process. It answers 0 where it was
-/// sent, `-` where there is no kill(1), and else 1.
+/// The script of the helper. For each line it sends the signal to the process with the number. If the line has a third
+/// word, it sends the signal to the process group of that number, or, if there is none because setsid(1) has not
+/// created it yet, to the process. It answers `0` if the signal was sent, `-` if there is no kill(1), and `1`
+/// otherwise.
 const HELPER: &str = "while read -r signal number group; do \
     [ \"$group\" ] && kill \"-$signal\" \"-$number\" 2>/dev/null || kill \"-$signal\" \"$number\"; \
     case $? in 0) echo 0 ;; 127) echo - ;; *) echo 1 ;; esac; done";
 
-/// What a shell does that ends with 0 where it finds kill(1), and one that ends so where it finds setsid(1) too. Either
-/// ends with 2 where it can't open a file: of that shells give statuses of their own, one that of not found.
+/// Shell scripts that exit with status 0 if the shell finds kill(1), and, for the second one, setsid(1) too. Both exit
+/// with status 2 if they cannot open a file: the statuses of shells for that differ, and one shell uses that of a
+/// command that is not found.
 const FINDS_KILL: &str = "true >/dev/null || exit 2; command -v kill >/dev/null";
 
 const FINDS_BOTH: &str =
     "true >/dev/null || exit 2; command -v kill >/dev/null && command -v setsid >/dev/null";
 
-/// The shell that sends signals, where it was started since the last pause.
+/// The shell that sends signals, if it was started since the last pause.
 #[derive(Drop)]
 pub struct TermSender<P: OpenProcess + Drop> {
     shell: Option<Child<P>>,
 }
 
 impl<P: OpenProcess + Drop> TermSender<P> {
-    /// No shell yet.
+    /// Returns a sender without a shell.
     pub(crate) fn new() -> TermSender<P> {
         TermSender { shell: None }
     }
 
-    /// Sends TERM to the process of the number.
+    /// Sends TERM to the process with the number.
     pub(crate) fn send<R: Processes<Started = P>, A: Allocator + Copy>(
         &mut self,
         rt: &R,
@@ -48,7 +52,7 @@ impl<P: OpenProcess + Drop> TermSender<P> {
         self.hand_over(rt, alloc, line.as_bytes())
     }
 
-    /// Sends a signal to the process group of the number, or where there is none to the process.
+    /// Sends a signal to the process group with the number, or to the process if there is no such group.
     pub(crate) fn send_group<R: Processes<Started = P>, A: Allocator + Copy>(
         &mut self,
         rt: &R,
@@ -61,7 +65,7 @@ impl<P: OpenProcess + Drop> TermSender<P> {
         self.hand_over(rt, alloc, line.as_bytes())
     }
 
-    /// Hands a line to the shell. One that fails is ended, and another one started the next time.
+    /// Passes a line to the shell. If the shell fails, it is ended, and another one is started the next time.
     fn hand_over<R: Processes<Started = P>, A: Allocator + Copy>(
         &mut self,
         rt: &R,
@@ -69,7 +73,7 @@ impl<P: OpenProcess + Drop> TermSender<P> {
         line: &[u8],
     ) -> io::Result<()> {
         if self.shell.is_none() {
-            let mut command = shell_command(alloc, false, HELPER)?;
+            let mut command = shell_command(alloc, AT_ONCE, HELPER)?;
             command.stdin(Stdio::piped());
             command.stdout(Stdio::piped());
             self.shell = Some(started(rt, command)?);
@@ -85,7 +89,7 @@ impl<P: OpenProcess + Drop> TermSender<P> {
         }
     }
 
-    /// Lets a shell end that failed so, and says why it did where it was ended.
+    /// Ends a shell that failed with this error, and returns why it failed, if it had ended.
     fn failed(&mut self, error: Error) -> Error {
         match self.end() {
             Some(status) if status.code().is_none() => {
@@ -98,23 +102,23 @@ impl<P: OpenProcess + Drop> TermSender<P> {
         }
     }
 
-    /// Lets the shell end, and waits for it.
+    /// Ends the shell and waits for it.
     pub(crate) fn end(&mut self) -> Option<ExitStatus> {
         self.shell.take()?.wait().ok()
     }
 }
 
-/// Why no process can be sent TERM, or started in a session of its own, where it is to be: there is no `sh`, or it finds
-/// no `kill`, or no `setsid`.
+/// Returns an error if no process can be sent TERM, or, with `groups`, started in a session of its own: there is no
+/// `sh`, or it finds no `kill` or no `setsid`.
 pub(crate) fn check_sending<S: System, A: Allocator + Copy>(
     system: &mut S,
     alloc: A,
     groups: bool,
 ) -> io::Result<()>
-    ensures { AsksHelpers (S.told system.old) (S.told system.new) }
+    ensures { RunsHelpers (S.told system.old) (S.told system.new) }
 {
     let finds = if groups { FINDS_BOTH } else { FINDS_KILL };
-    let mut shell = shell_command(alloc, false, finds)?;
+    let mut shell = shell_command(alloc, AT_ONCE, finds)?;
     match system.run(&mut shell) {
         Ok(status) if status.success() => Ok(()),
         Ok(status) if status.code() == Some(2) => Err(Error::other("sh failed: see ulimit -n")),
@@ -135,8 +139,8 @@ fn started<R: Processes, A: Allocator + Copy>(
     command.spawn(rt).map_err(of_shell)
 }
 
-/// Why a shell was not started.
-fn of_shell(error: Error) -> Error {
+/// Returns why a shell was not started.
+pub(crate) fn of_shell(error: Error) -> Error {
     if error.kind() == ErrorKind::NotFound {
         Error::new(ErrorKind::NotFound, "sh: not found in PATH")
     } else {
@@ -148,7 +152,7 @@ fn no_kill() -> Error {
     Error::new(ErrorKind::NotFound, "kill: not found in PATH")
 }
 
-/// The name of a signal (kill(1)).
+/// Returns the name of a signal (kill(1)).
 fn name_of(signal: SignalKind) -> &'static str {
     match signal {
         SignalKind::Term => "TERM",
@@ -156,7 +160,7 @@ fn name_of(signal: SignalKind) -> &'static str {
     }
 }
 
-/// Hands the line to the shell, and gives its answer.
+/// Passes the line to the shell, and returns its answer.
 fn answer_of<P: OpenProcess>(shell: &mut Child<P>, line: &[u8]) -> io::Result<u8> {
     let Some(input) = &mut shell.stdin else {
         return Err(Error::from(ErrorKind::BrokenPipe));

@@ -1,4 +1,4 @@
--- Texts one behind the other.
+-- Texts that are extended step by step are the old text followed by all the pieces.
 use Rattle.std.proofs.Common.{◌≡◌, ap, ◌∙◌, ℕ, List, ◌++◌}
 use Rattle.std.proofs.lemmas.List.{append_assoc}
 

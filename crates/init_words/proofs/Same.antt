@@ -1,4 +1,4 @@
--- When two ids, orders, levels, stages, marks or actions are one.
+-- The equality tests of ids, orders, levels, stages, marks and actions decide equality.
 use Rattle.std.proofs.Common.{◌≡◌, refl, sym, ◌∙◌, ap, ℕ, true, false, List, Some, subst, eq-eqb, arith}
 use Rattle.std.proofs.lemmas.Bool.{false≢true, false_from_ne_true, eqb-true}
 use Rattle.std.proofs.lemmas.Option.{same_Some}
@@ -37,12 +37,12 @@ same_id-sym a b = same_tests (same_id a b) (same_id b a) (same_id-flip a b) (sam
 pub same_id-from : (a b : List ℕ) → a ≡ b → same_id a b ≡ true
 same_id-from a b h = (bytes_eq-Decides a b).1 h
 
--- two ids that differ from each other are not both that of a third
+-- an id equal to the first of two different ids differs from the second
 pub same_id-apart : (a b c : List ℕ) → same_id a b ≡ false → same_id a c ≡ true → same_id b c ≡ false
 same_id-apart a b c differ same =
     falsely (same_id b c) (same_id a b) (λ h. same_id-from a b (same_id-is a c same ∙ sym (same_id-is b c h))) differ
 
--- orders, levels, actions
+-- orders, levels, stages, actions, power events
 pub same_ask-is : (a b : OrderKind) → same_ask a b ≡ true → a ≡ b
 same_ask-is Start Start h = refl
 same_ask-is Look Look h = refl
@@ -92,7 +92,7 @@ same_power-self power.Fail = refl
 same_power-self power.FailNow = refl
 same_power-self power.Ok = refl
 
--- a mark's character is read as the mark
+-- reading the character of a mark gives the mark
 pub mark_read-code : (m : Mark) → mark_read (mark_code m) ≡ Some m
 mark_read-code (At L0) = refl
 mark_read-code (At L1) = refl

@@ -1,4 +1,4 @@
--- Lemmas on tests, and on lists that are searched and filtered by them.
+-- Lemmas about Boolean tests, and about lists that are searched and filtered by them.
 use Rattle.std.proofs.Common.{◌≡◌, refl, sym, ◌∙◌, ap, inl, inr, Bool, true, false, not, ◌&&◌, ◌||◌, cond, List, []}
 use Rattle.std.proofs.Common.{◌∷◌, filter, find, Option, Some, None, is_none, is_some, Result, Ok, Err}
 use Rattle.std.specs.List.{list_any, list_all, AllByRecursion}
@@ -8,14 +8,14 @@ use Rattle.std.proofs.lemmas.Bool.{false≢true, false_from_ne_true, and_parts, 
 use Rattle.std.proofs.lemmas.Bool.{or_parts, or_from}
 use Rattle.std.proofs.lemmas.List.Elements.{filter_agree}
 
--- where a fact and its test disagree, anything follows
+-- anything follows from a test that both passes and fails
 pub both_ways : {P : Type 0} (b : Bool) → b ≡ true → b ≡ false → P
 both_ways b holds fails = absurd (false≢true (sym fails ∙ holds))
 
 pub falsely : (a b : Bool) → (a ≡ true → b ≡ true) → b ≡ false → a ≡ false
 falsely a b h fails = false_from_ne_true a (λ holds. both_ways b (h holds) fails)
 
--- two tests that follow from each other are one
+-- two tests that imply each other are equal
 pub same_tests : (a b : Bool) → (a ≡ true → b ≡ true) → (b ≡ true → a ≡ true) → a ≡ b
 same_tests true b f g = sym (f refl)
 same_tests false true f g = absurd (false≢true (g refl))
@@ -51,12 +51,12 @@ pub and_three : (a b c : Bool) → (a && (b && c)) ≡ (a && b && c)
 and_three true b c = refl
 and_three false b c = refl
 
--- options
+-- an option that is tested to be empty is `None`
 pub is_none-is : {X : Type 0} (o : Option X) → is_none o ≡ true → o ≡ None
 is_none-is None h = refl
 is_none-is (Some x) h = absurd (false≢true h)
 
--- a test over a list
+-- if some element passes a test, some element passes any weaker test
 pub any_less : {X : Type 0} (p q : X → Bool) → ((x : X) → p x ≡ true → q x ≡ true) → (xs : List X)
     → list_any p xs ≡ true → list_any q xs ≡ true
 any_less p q less [] h = h
@@ -74,14 +74,14 @@ all_less p q less (x ∷ xs) h =
     let parts = and_parts (p x) (list_all p xs) h in
     and_from (q x) (list_all q xs) (less x parts.0) (all_less p q less xs parts.1)
 
--- none passes, so all fail
+-- if no element passes, all fail
 pub all_fail : {X : Type 0} (p : X → Bool) (xs : List X) → list_any p xs ≡ false → list_all (λ x. not (p x)) xs ≡ true
 all_fail p [] h = refl
 all_fail p (x ∷ xs) h =
     let parts = or_parts (p x) (list_any p xs) h in
     and_from (not (p x)) (list_all (λ y. not (p y)) xs) (not_from (p x) parts.0) (all_fail p xs parts.1)
 
--- an element that passes; whatever it passes, some element of the list does
+-- an element that passes; some element of the list passes every other test that it passes
 pub record Passing {X : Type 0} (p : X → Bool) (xs : List X) : Type 0 where
   pub item : X
   pub passes : p item ≡ true
@@ -100,7 +100,7 @@ passing {X} p (x ∷ xs) h = or_either (p x) (list_any p xs) h here (λ more. la
     within = λ q is. or_right (q x) (list_any q xs) (rest.within q is);
   }
 
--- filters
+-- what holds for all elements holds for all that pass a filter
 pub all_filter : {X : Type 0} (P : X → Type 0) (p : X → Bool) (xs : List X) → AllByRecursion P xs
     → AllByRecursion P (filter p xs)
 all_filter P p [] all = tt
@@ -117,13 +117,13 @@ any_filter {X} p q (x ∷ xs) = split (q x) (any_filter p q xs) where
   split true same = ap (λ r. p x || r) same
   split false same = same
 
--- what passes p passes q: the filter by q hides nothing from p
+-- if every element that passes p passes q, filtering by q does not change whether some element passes p
 pub any_within : {X : Type 0} (p q : X → Bool) → ((x : X) → p x ≡ true → q x ≡ true) → (xs : List X)
     → list_any p (filter q xs) ≡ list_any p xs
 any_within p q kept xs = any_filter p q xs ∙ any_same (λ x. q x && p x) p
     (λ x. same_tests (q x && p x) (p x) (λ h. (and_parts (q x) (p x) h).1) (λ h. and_from (q x) (p x) (kept x h) h)) xs
 
--- and where it fails q, the filter hides all
+-- if every element that passes p fails q, no element passes p after filtering by q
 pub any_without : {X : Type 0} (p q : X → Bool) → ((x : X) → p x ≡ true → q x ≡ false) → (xs : List X)
     → list_any p (filter q xs) ≡ false
 any_without p q gone xs = any_filter p q xs ∙ none xs where
@@ -165,14 +165,14 @@ filter_without p q gone xs = filter_none p (filter q xs) (any_without p q gone x
 pub any_none : {X : Type 0} (p : X → Bool) (xs : List X) → filter p xs ≡ [] → list_any p xs ≡ false
 any_none p xs h = sym (any_within p p (λ x own. own) xs) ∙ ap (list_any p) h
 
--- where none passes, none is found
+-- if no element passes, `find` finds none
 pub find_none : {X : Type 0} (p : X → Bool) (xs : List X) → list_any p xs ≡ false → find p xs ≡ None
 find_none p [] h = refl
 find_none p (x ∷ xs) h =
     let parts = or_parts (p x) (list_any p xs) h in
     rw parts.0 (find_none p xs parts.1)
 
--- something is found exactly where something passes
+-- `find` finds an element exactly if some element passes
 pub found_any : {X Y : Type 0} (f : X → Y) (p : X → Bool) (xs : List X)
     → is_some (option_map f (find p xs)) ≡ list_any p xs
 found_any f p [] = refl
@@ -182,7 +182,7 @@ found_any {X} f p (x ∷ xs) = split (p x) (found_any f p xs) where
   split true rest = refl
   split false rest = rest
 
--- nothing is found where none passes
+-- `find` finds no element exactly if none passes
 pub none_found : {X Y : Type 0} (f : X → Y) (p : X → Bool) (xs : List X)
     → is_none (option_map f (find p xs)) ≡ not (list_any p xs)
 none_found f p [] = refl
@@ -192,7 +192,7 @@ none_found {X} f p (x ∷ xs) = split (p x) (none_found f p xs) where
   split true rest = refl
   split false rest = rest
 
--- what holds of an error holds of a result that is it
+-- what holds for an error holds for the error of a result that is known to be it
 pub err_is : {S E : Type 0} (r : Result S E) (e : E) (Q : E → Type 0) → r ≡ Err e → Q e → IfErr r Q
 err_is (Ok x) e Q is h = absurd (cc)
 err_is (Err x) e Q is h = let same : x ≡ e = cc in rw same h

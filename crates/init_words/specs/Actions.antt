@@ -1,4 +1,4 @@
--- The action table: what each of the fifteen actions of inittab(5) means, a column a definition (init(8)).
+-- The action table: the meaning of each of the fifteen actions of inittab(5), with one definition per column (init(8)).
 use Rattle.std.specs.Prelude.{◌&&◌, ℕ, Bool, true, false, not, ◌==◌, List, [], ◌∷◌, find, codes, Option}
 use Rattle.std.specs.Str.{bytes_eq}
 use Rattle.init_words.specs.declared.actions.Act.{Act}
@@ -12,7 +12,7 @@ use Rattle.init_words.specs.declared.stages.Stage.{Stage}
 use Rattle.init_words.specs.declared.stages.Stage.TheVariants.{Sysinit, Boot, Run}
 use Rattle.init_words.specs.Levels.{names, same_level}
 
--- the word of an action
+-- the word of an action in inittab(5)
 abbrev pub word_of : Act → List ℕ
 word_of act.Sysinit = codes "sysinit"
 word_of act.Boot = codes "boot"
@@ -37,11 +37,11 @@ acts =
     ∷ act.Powerwait ∷ act.Powerfail ∷ act.Powerokwait ∷ act.Powerfailnow
     ∷ act.Off ∷ act.Initdefault ∷ act.Ctrlaltdel ∷ act.Kbrequest ∷ []
 
--- the action of a word, in lower case
+-- the action with this word, which must be in lower case; none if there is no such action
 unfoldable pub act_read : List ℕ → Option Act
 act_read word = find (λ a. bytes_eq (word_of a) word) acts
 
--- a number for each, by which two are told apart
+-- a number for each action; two actions are compared by their numbers
 abbrev pub act_number : Act → ℕ
 act_number act.Sysinit = 0
 act_number act.Boot = 1
@@ -62,7 +62,7 @@ act_number act.Kbrequest = 14
 abbrev pub same_act : Act → Act → Bool
 same_act a b = act_number a == act_number b
 
--- in which stages an entry of it is started
+-- an entry with this action and these runlevels is started in the stage
 abbrev pub starts_by : Act → List Mark → Stage → Bool
 starts_by act.Sysinit levels Sysinit = true
 starts_by act.Boot levels Boot = true
@@ -77,13 +77,14 @@ starts_by act.Powerfailnow levels (Run l) = names (At l) levels
 starts_by act.Ondemand levels (Run l) = not (same_level l level.S)
 starts_by _ levels stage = false
 
--- in which stages a child of it may live: where it is started, and those of boot and bootwait in each run level
+-- a child of such an entry may keep running in the stage: if the entry is started there, and that of boot and bootwait
+-- also in every runlevel
 abbrev pub lives_by : Act → List Mark → Stage → Bool
 lives_by act.Boot levels (Run l) = true
 lives_by act.Bootwait levels (Run l) = true
 lives_by action levels stage = starts_by action levels stage
 
--- whether init waits for its end before it starts later entries
+-- init waits for the process to end before it starts later entries
 abbrev pub waited_by : Act → Bool
 waited_by act.Sysinit = true
 waited_by act.Bootwait = true
@@ -92,14 +93,14 @@ waited_by act.Powerwait = true
 waited_by act.Powerokwait = true
 waited_by _ = false
 
--- the runlevels of its entries count for nothing
+-- the runlevels field of entries with this action is ignored
 abbrev pub ignores_levels : Act → Bool
 ignores_levels act.Sysinit = true
 ignores_levels act.Boot = true
 ignores_levels act.Bootwait = true
 ignores_levels _ = false
 
--- what an empty runlevels field means
+-- the characters that an empty runlevels field means for this action
 abbrev pub default_levels : Act → List ℕ
 default_levels act.Powerwait = codes "S0123456789"
 default_levels act.Powerfail = codes "S0123456789"
@@ -108,12 +109,12 @@ default_levels act.Powerfailnow = codes "S0123456789"
 default_levels act.Initdefault = []
 default_levels _ = codes "0123456789"
 
--- its entries keep their process field: those of initdefault have none
+-- entries with this action keep their process field; those of initdefault have none
 abbrev pub has_process : Act → Bool
 has_process act.Initdefault = false
 has_process _ = true
 
--- its entries must have a process
+-- entries with this action must have a process
 abbrev pub needs_process : Act → Bool
 needs_process act.Initdefault = false
 needs_process act.Off = false
@@ -121,7 +122,7 @@ needs_process act.Ctrlaltdel = false
 needs_process act.Kbrequest = false
 needs_process _ = true
 
--- which news of the power calls its entries
+-- a power event of this kind calls entries with this action
 abbrev pub is_called_by : PowerKind → Act → Bool
 is_called_by power.Fail act.Powerwait = true
 is_called_by power.Fail act.Powerfail = true
@@ -129,19 +130,20 @@ is_called_by power.FailNow act.Powerfailnow = true
 is_called_by power.Ok act.Powerokwait = true
 is_called_by _ _ = false
 
--- a letter calls its entries
+-- a letter calls entries with this action (`telinit a`, `b`, `c`)
 abbrev pub is_ondemand : Act → Bool
 is_ondemand act.Ondemand = true
 is_ondemand _ = false
 
--- an entry that was called stays called when it is started: a letter's call stands, news of the power is answered
+-- an entry that was called stays called when it is started, so it is restarted whenever its process ends; an entry for
+-- a power event is started once
 abbrev pub stays_called : Act → Bool
 stays_called act.Ondemand = true
 stays_called _ = false
 
--- what it asks of an entry that starts in the stage: a respawn entry is wanted when nothing of it runs (idle), boot's
--- and a level's entries when they were not asked (fresh), power entries when they are called, and an ondemand entry
--- that is called when nothing of it runs
+-- an entry that starts in the stage is to be started now: a respawn entry if nothing of it runs (idle), an entry of
+-- boot or of a level if no start of it was ordered (fresh), an entry for a power event if it was called, and an
+-- ondemand entry if it was called and nothing of it runs
 abbrev pub wanted_by : Act → Bool → Bool → Bool → Bool
 wanted_by act.Respawn idle fresh called = idle
 wanted_by act.Sysinit idle fresh called = fresh
@@ -156,13 +158,14 @@ wanted_by act.Powerokwait idle fresh called = called
 wanted_by act.Ondemand idle fresh called = called && idle
 wanted_by _ idle fresh called = false
 
--- the respawn limit holds for its entries
+-- the respawn limit applies to entries with this action
 abbrev pub is_limited : Act → Bool
 is_limited act.Respawn = true
 is_limited act.Ondemand = true
 is_limited _ = false
 
--- what an entry of the level must have for it to be settled: a wait or once entry was asked, a respawn entry is kept up
+-- an entry does not keep its level from being settled: a start of a wait or once entry was ordered (asked), a respawn
+-- entry has a child or is held (kept_up); any other entry never does
 abbrev pub served_by : Act → Bool → Bool → Bool
 served_by act.Wait asked kept_up = asked
 served_by act.Once asked kept_up = asked

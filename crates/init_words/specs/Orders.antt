@@ -1,4 +1,4 @@
--- Orders, stages, power news and answers: when two are one, and which orders an answer may answer.
+-- Orders, stages, power events and answers: equality tests, and which orders an answer may answer.
 use Rattle.std.specs.Prelude.{Bool, true, false}
 use Rattle.init_words.specs.declared.orders.OrderKind.{OrderKind}
 use Rattle.init_words.specs.declared.orders.OrderKind.TheVariants.{Start, Look, Term, Kill}
@@ -42,12 +42,12 @@ answers Miss Term = true
 answers Miss Kill = true
 answers _ _ = false
 
--- a signal was sent
+-- the answer that a signal was sent
 abbrev pub is_hit : Answer → Bool
 is_hit Hit = true
 is_hit _ = false
 
--- a signal could not be sent
+-- the answer that a signal could not be sent
 abbrev pub is_miss : Answer → Bool
 is_miss Miss = true
 is_miss _ = false

@@ -1,7 +1,8 @@
--- A short list in a field of fixed room: its items, and blanks after them.
+-- Lists stored in an array of fixed length: the items, padded with blanks.
 use Rattle.std.proofs.Common.{◌≡◌, ◌≤◌, ◌-◌, ◌++◌, ℕ, List, length, take, drop, replicate, arith, length-take-le}
 use Rattle.std.proofs.Common.{take-append-drop}
 
+-- if all after the first n items are blanks, the array is these items with their padding
 pub take-padded : {X : Type 0} (room : ℕ) (blank : X) (n : ℕ) (xs : List X) → n ≤ room → length xs ≡ room
     → drop n xs ≡ replicate (room - n) blank → take n xs ++ replicate (room - length (take n xs)) blank ≡ xs
 take-padded room blank n xs small long rest =

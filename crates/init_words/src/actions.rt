@@ -1,4 +1,4 @@
-//! The actions of inittab(5), and what each of them means for its process.
+//! The actions of inittab(5) and what each of them means for an entry and its process.
 
 ghost use Rattle.std.specs.Prelude.{◌≡◌};
 ghost use Rattle.init_words.specs.Actions.{word_of, act_read, starts_by, lives_by, waited_by, ignores_levels, default_levels, has_process, needs_process, is_called_by, is_ondemand, stays_called, wanted_by, is_limited, served_by};
@@ -7,7 +7,7 @@ use crate::levels::{Mark, names};
 use crate::orders::PowerKind;
 use crate::stages::Stage;
 
-/// What an inittab entry's third field asks for (inittab(5)).
+/// The action in the third field of an inittab(5) entry.
 #[derive(Clone, Copy, PartialEq, Eq)]
 pub enum Act {
     Sysinit,
@@ -47,7 +47,7 @@ pub const ACTS: [Act; 15] = [
 ];
 
 impl Act {
-    /// The word of inittab(5) for it, in lower case.
+    /// Returns the word of inittab(5) for the action, in lower case.
     pub fn word(self) -> &'static [u8]
         ensures { result.now ≡ word_of self }
     {
@@ -70,7 +70,7 @@ impl Act {
         }
     }
 
-    /// The action of a word of inittab(5), in lower case.
+    /// Returns the action with this word of inittab(5), which must be in lower case.
     #[tactic(auto, unfolding(crate::specs::Actions::act_read))]
     pub fn read(word: &[u8]) -> Option<Act>
         ensures { result ≡ act_read word.now }
@@ -78,7 +78,7 @@ impl Act {
         ACTS.iter().copied().find(|act| act.word() == word)
     }
 
-    /// An entry of it that names these runlevels is started in the stage (inittab(5)).
+    /// Returns whether an entry with this action and these runlevels is started in the stage (inittab(5)).
     pub fn starts(self, levels: &[Mark], stage: Stage) -> bool
         ensures { result ≡ starts_by self levels.now stage }
     {
@@ -100,7 +100,7 @@ impl Act {
         }
     }
 
-    /// A child of such an entry may live in the stage: else it is stopped (init(8)).
+    /// Returns whether a child of such an entry may keep running in the stage; if not, it is stopped (init(8)).
     pub fn lives(self, levels: &[Mark], stage: Stage) -> bool
         ensures { result ≡ lives_by self levels.now stage }
     {
@@ -110,7 +110,7 @@ impl Act {
         }
     }
 
-    /// Init waits for the child's end before it starts later entries (inittab(5)).
+    /// Returns whether init waits for the process to end before it starts later entries (inittab(5)).
     pub fn is_waited(self) -> bool
         ensures { result ≡ waited_by self }
     {
@@ -120,14 +120,14 @@ impl Act {
         )
     }
 
-    /// The runlevels field of its entries is ignored (inittab(5)).
+    /// Returns whether the runlevels field of entries with this action is ignored (inittab(5)).
     pub fn ignores_levels(self) -> bool
         ensures { result ≡ ignores_levels self }
     {
         matches!(self, Act::Sysinit | Act::Boot | Act::Bootwait)
     }
 
-    /// The characters that an empty runlevels field stands for.
+    /// Returns the characters that an empty runlevels field means for this action.
     pub fn default_levels(self) -> &'static [u8]
         ensures { result.now ≡ default_levels self }
     {
@@ -140,14 +140,14 @@ impl Act {
         }
     }
 
-    /// Its entries keep their process field; those of initdefault have none (inittab(5)).
+    /// Returns whether entries with this action keep their process field. Those of initdefault have none (inittab(5)).
     pub fn has_process(self) -> bool
         ensures { result ≡ has_process self }
     {
         !matches!(self, Act::Initdefault)
     }
 
-    /// The process field of its entries must have more than blanks and tabs.
+    /// Returns whether the process field of entries with this action must contain more than blanks and tabs.
     pub fn needs_process(self) -> bool
         ensures { result ≡ needs_process self }
     {
@@ -157,7 +157,7 @@ impl Act {
         )
     }
 
-    /// News of the power of this kind calls its entries (inittab(5)).
+    /// Returns whether a power event of this kind calls entries with this action (inittab(5)).
     pub fn is_called_by(self, kind: PowerKind) -> bool
         ensures { result ≡ is_called_by kind self }
     {
@@ -168,24 +168,24 @@ impl Act {
         }
     }
 
-    /// A letter calls its entries (telinit(8)).
+    /// Returns whether a letter calls entries with this action (telinit(8)).
     pub fn is_ondemand(self) -> bool
         ensures { result ≡ is_ondemand self }
     {
         matches!(self, Act::Ondemand)
     }
 
-    /// An entry that was called stays called when it is started: init restarts what a letter called whenever it ends,
-    /// and answers news of the power by one start.
+    /// Returns whether an entry with this action stays called when it is started. An ondemand entry does, so it is
+    /// restarted whenever its process ends; an entry for a power event is started once.
     pub fn stays_called(self) -> bool
         ensures { result ≡ stays_called self }
     {
         matches!(self, Act::Ondemand)
     }
 
-    /// What it asks of an entry that starts in the stage: a respawning entry is wanted when nothing of it runs (idle),
-    /// one of boot or of a level when it was not started there (fresh), one for power when it is called, and one for a
-    /// letter when it is called and nothing of it runs.
+    /// Returns whether an entry with this action that starts in the stage is to be started now: a respawn entry if
+    /// nothing of it runs (`idle`), an entry of boot or of a level if no start of it was ordered there (`fresh`), an
+    /// entry for a power event if it was called, and an ondemand entry if it was called and nothing of it runs.
     pub fn is_wanted(self, idle: bool, fresh: bool, called: bool) -> bool
         ensures { result ≡ wanted_by self idle fresh called }
     {
@@ -198,14 +198,16 @@ impl Act {
         }
     }
 
-    /// The respawn limit holds for its entries (init(8)).
+    /// Returns whether the respawn limit applies to entries with this action (init(8)).
     pub fn is_limited(self) -> bool
         ensures { result ≡ is_limited self }
     {
         matches!(self, Act::Respawn | Act::Ondemand)
     }
 
-    /// An entry of it keeps no level from being settled: a wait or once entry was asked, a respawn entry is kept up.
+    /// Returns whether an entry with this action does not keep its level from being settled: a wait or once entry if a
+    /// start was ordered (`asked`), a respawn entry if it has a child or is held (`kept_up`), and any other entry
+    /// always.
     pub fn is_served(self, asked: bool, kept_up: bool) -> bool
         ensures { result ≡ served_by self asked kept_up }
     {

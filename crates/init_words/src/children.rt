@@ -1,8 +1,8 @@
-//! The number of a child, and the status that it ended with.
+//! The number of a child, and the status with which it ended.
 
 use std::marker::Model;
 
-/// The number that the system gave a child.
+/// The number that the system gave to a child.
 #[derive(Clone, Copy, Debug, PartialEq, Eq)]
 pub struct ChildNumber(pub u32);
 
@@ -16,7 +16,7 @@ impl Model for ChildNumber {
     ghost inverse = { λ number. record { 0 = number } };
 }
 
-/// How a child ended: by itself with an exit status, or killed by a signal.
+/// How a child ended: by exiting with a status, or killed by a signal.
 #[derive(Clone, Copy, PartialEq, Eq)]
 pub enum Status {
     Exit(u8),

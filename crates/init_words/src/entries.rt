@@ -1,4 +1,4 @@
-//! An entry of the inittab: id, runlevels, action, process.
+//! An entry of inittab(5): id, runlevels, action, process.
 
 ghost use Rattle.std.specs.Prelude.{◌≡◌, ◌≤◌, length};
 ghost use Rattle.init_words.specs.Levels.{names};
@@ -11,41 +11,41 @@ use crate::stages::Stage;
 use arrayvec::ArrayVec;
 use std::alloc::AllocError;
 
-/// How many runlevels an entry keeps at most.
+/// The maximum number of characters that an entry keeps of its runlevels field.
 pub const MARK_LIMIT: usize = 11;
 
-/// How many bytes a process field may have, a leading `+` counted (inittab(5)).
+/// The maximum length of a process field in bytes, including a leading `+` (inittab(5)).
 pub const PROCESS_LIMIT: usize = 127;
 
-/// One line of inittab(5): `id:runlevels:action:process`.
+/// A line of inittab(5), `id:runlevels:action:process`.
 #[derive(Drop)]
 pub struct Entry {
     pub id: Id,
-    /// The characters of the runlevels field that count, in their order.
+    /// The characters of the runlevels field that have a meaning, in their order.
     pub levels: ArrayVec<Mark, MARK_LIMIT>,
     pub act: Act,
-    /// The process field as it stands, at most 127 bytes; a leading `+` asks for no accounting.
+    /// The process field as written, at most 127 bytes. A leading `+` asks for no accounting in utmp and wtmp.
     pub process: ArrayVec<u8, PROCESS_LIMIT>,
 }
 
 impl Entry {
     ghost use Rattle.init_words.specs.Entries.{command_of};
 
-    /// The command line to run: the process field without a leading `+`.
+    /// Returns the command line to run: the process field without a leading `+`.
     pub fn command(&self) -> &[u8]
         ensures { result.now ≡ command_of self.now }
     {
         without_plus(self.process.as_slice())
     }
 
-    /// The entry names the level.
+    /// Returns whether the entry names the level.
     pub fn names_level(&self, level: Level) -> bool
         ensures { result ≡ names (Mark.At level) self.now.levels.items }
     {
         names(self.levels.as_slice(), Mark::At(level))
     }
 
-    /// The entry names the letter.
+    /// Returns whether the entry names the letter.
     pub fn names_letter(&self, letter: Letter) -> bool
         ensures { result ≡ names (Mark.OnCall letter) self.now.levels.items }
     {
@@ -70,7 +70,7 @@ impl Clone for Entry {
     }
 }
 
-/// The items in a field of fixed room.
+/// Copies the items into a vector of fixed capacity.
 fn kept<T: Copy + Default, const N: usize>(items: &[T]) -> ArrayVec<T, N>
     requires { length items.now ≤ N }
     ensures { result.items ≡ items.now }
@@ -82,7 +82,7 @@ fn kept<T: Copy + Default, const N: usize>(items: &[T]) -> ArrayVec<T, N>
     field
 }
 
-/// A process field without a leading `+` (inittab(5)).
+/// Returns a process field without its leading `+`, if it has one (inittab(5)).
 pub fn without_plus(process: &[u8]) -> &[u8]
     ensures { result.now ≡ without_plus process.now }
 {
@@ -92,21 +92,21 @@ pub fn without_plus(process: &[u8]) -> &[u8]
     }
 }
 
-/// An entry of this kind is started in the stage (inittab(5)).
+/// Returns whether the entry is started in the stage (inittab(5)).
 pub fn starts(entry: &Entry, stage: Stage) -> bool
     ensures { result ≡ starts_of entry.now stage }
 {
     entry.act.starts(entry.levels.as_slice(), stage)
 }
 
-/// A child of the entry may live in the stage: else it is stopped (init(8)).
+/// Returns whether a child of the entry may keep running in the stage; if not, it is stopped (init(8)).
 pub fn lives(entry: &Entry, stage: Stage) -> bool
     ensures { result ≡ lives_of entry.now stage }
 {
     entry.act.lives(entry.levels.as_slice(), stage)
 }
 
-/// Init waits for the entry's child to end before it starts later entries (inittab(5)).
+/// Returns whether init waits for the entry's process to end before it starts later entries (inittab(5)).
 pub fn waited(entry: &Entry) -> bool
     ensures { result ≡ waited_of entry.now }
 {

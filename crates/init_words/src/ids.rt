@@ -1,4 +1,4 @@
-//! Ids of inittab entries: one to eight letters, digits and signs.
+//! Ids of inittab entries.
 
 ghost use Rattle.std.specs.Prelude.{◌≡◌, ◌≤◌, ◌-◌, ◌++◌, length, replicate, IsTrue};
 ghost use Rattle.std.specs.List.{list_all};
@@ -8,10 +8,10 @@ use std::hash::{Hash, Hasher};
 use std::marker::Model;
 use std::{fmt, str};
 
-/// How many bytes an id may have.
+/// The maximum length of an id in bytes.
 pub const ID_LIMIT: usize = 8;
 
-/// The id of an inittab entry: 1 to 8 bytes of 33 to 126, none a colon, the first no `#` (inittab(5)).
+/// The id of an inittab entry: 1 to 8 bytes from 33 to 126, without a colon, the first not `#` (inittab(5)).
 #[derive(Clone, Copy)]
 pub struct Id {
     bytes: [u8; ID_LIMIT],
@@ -46,7 +46,7 @@ impl Model for Id {
 impl Id {
     ghost use Rattle.std.specs.Prelude.{true};
 
-    /// The id of these bytes, where they are one.
+    /// Returns the id with these bytes, or `None` if they are not an id.
     pub fn read(text: &[u8]) -> Option<Id>
         ensures { result ≡ id_read text.now }
     {
@@ -59,7 +59,7 @@ impl Id {
         })
     }
 
-    /// The id's bytes, 1 to 8 of them.
+    /// Returns the bytes of the id, 1 to 8 of them.
     pub fn as_bytes(&self) -> &[u8]
         ensures value { result.now ≡ self.now }
         ensures valid { is_id self.now ≡ true }
@@ -67,7 +67,7 @@ impl Id {
         &self.bytes[..self.len]
     }
 
-    /// The id's bytes as text: they are ASCII.
+    /// Returns the id as text. It is always valid UTF-8, because its bytes are ASCII.
     pub fn as_str(&self) -> &str
         ensures { result.now ≡ self.now }
     {
@@ -143,7 +143,7 @@ fn is_id(text: &[u8]) -> bool
     is_all_id_bytes(text)
 }
 
-/// The text with zeros after it.
+/// Returns the text, padded with zeros to N bytes.
 fn padded<const N: usize>(text: &[u8]) -> [u8; N]
     requires { length text.now ≤ N }
     ensures { result ≡ text.now ++ replicate (N - length text.now) 0 }

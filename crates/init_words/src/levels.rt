@@ -3,7 +3,7 @@
 ghost use Rattle.std.specs.Prelude.{◌≡◌, not};
 ghost use Rattle.init_words.specs.Levels.{level_code, level_read, letter_code, letter_read, same_level, names};
 
-/// A runlevel: `0` to `9`, or `S` for single user (init(8)).
+/// A runlevel: `0` to `9`, or `S` for single-user mode (init(8)).
 #[derive(Clone, Copy, PartialEq, Eq)]
 pub enum Level {
     L0,
@@ -19,7 +19,7 @@ pub enum Level {
     S,
 }
 
-/// The letter of an ondemand entry (inittab(5)).
+/// The letter that calls an ondemand entry (inittab(5)).
 #[derive(Clone, Copy, PartialEq, Eq)]
 pub enum Letter {
     A,
@@ -27,7 +27,7 @@ pub enum Letter {
     C,
 }
 
-/// One character of an entry's runlevels field: a level, or the letter of an ondemand entry.
+/// A character of an entry's runlevels field: a runlevel, or the letter of an ondemand entry.
 #[derive(Clone, Copy, PartialEq, Eq)]
 pub enum Mark {
     At(Level),
@@ -41,7 +41,7 @@ impl Default for Mark {
 }
 
 impl Level {
-    /// The level of a character: one of `0-9`, `S` and `s`.
+    /// Returns the level of a character, one of `0-9`, `S` and `s`, or `None` for any other byte.
     pub fn read(code: u8) -> Option<Level>
         ensures { result ≡ level_read code }
     {
@@ -61,14 +61,14 @@ impl Level {
         }
     }
 
-    /// One of the levels 0 to 9.
+    /// Returns whether the level is one of 0 to 9.
     pub fn is_numbered(self) -> bool
         ensures { result ≡ not (same_level self Level.S) }
     {
         self != Level::S
     }
 
-    /// The level's character, `S` as a capital.
+    /// Returns the character of the level; that of single-user mode is the capital `S`.
     pub fn code(self) -> u8
         ensures { result ≡ level_code self }
     {
@@ -89,7 +89,7 @@ impl Level {
 }
 
 impl Letter {
-    /// The letter of a character: one of `A B C a b c`.
+    /// Returns the letter of a character, one of `A B C a b c`, or `None` for any other byte.
     pub fn read(code: u8) -> Option<Letter>
         ensures { result ≡ letter_read code }
     {
@@ -101,7 +101,7 @@ impl Letter {
         }
     }
 
-    /// The letter's character, a capital.
+    /// Returns the character of the letter, a capital.
     pub fn code(self) -> u8
         ensures { result ≡ letter_code self }
     {
@@ -116,14 +116,15 @@ impl Letter {
 impl Mark {
     ghost use Rattle.init_words.specs.Levels.{mark_code, mark_read, same_mark};
 
-    /// The two are one mark.
+    /// Returns whether the two marks are the same.
     pub fn is(self, other: Mark) -> bool
         ensures { result ≡ same_mark self other }
     {
         self == other
     }
 
-    /// The mark of a character of a runlevels field (inittab(5)): one of `0-9 S s A B C a b c`.
+    /// Returns the mark of a character of a runlevels field (inittab(5)), one of `0-9 S s A B C a b c`, or `None` for
+    /// any other byte.
     pub fn read(code: u8) -> Option<Mark>
         ensures { result ≡ mark_read code }
     {
@@ -133,7 +134,7 @@ impl Mark {
         }
     }
 
-    /// The mark's character, letters as capitals.
+    /// Returns the character of the mark; letters are capitals.
     pub fn code(self) -> u8
         ensures { result ≡ mark_code self }
     {
@@ -144,7 +145,7 @@ impl Mark {
     }
 }
 
-/// One of the marks is this one.
+/// Returns whether the marks include this one.
 pub fn names(marks: &[Mark], mark: Mark) -> bool
     ensures { result ≡ names mark marks.now }
 {

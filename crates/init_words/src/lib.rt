@@ -1,5 +1,6 @@
-//! The words that every part of init shares: ids, runlevels, stages, the table of the fifteen actions, inittab entries,
-//! the files that these stand in, orders to children and their answers. Nothing here allocates.
+//! The types that all parts of init share: ids, runlevels, stages, the table of the fifteen actions, inittab entries
+//! and the files that they are read from, orders to children, and the answers to orders. Nothing in this crate
+//! allocates memory.
 #![tactic(auto)]
 
 mod actions;

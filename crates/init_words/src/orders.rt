@@ -1,11 +1,11 @@
-//! What init asks its host to do for a record, what is answered, and the signals.
+//! Orders from init to its host, the answers to them, signals, and power events.
 
 ghost use Rattle.std.specs.Prelude.{◌≡◌};
 ghost use Rattle.init_words.specs.Orders.{answers};
 
 use crate::children::{ChildNumber, Status};
 
-/// What init asks of the system about one entry.
+/// What init asks the system to do for an entry.
 #[derive(Clone, Copy, PartialEq, Eq)]
 pub enum OrderKind {
     Start,
@@ -17,24 +17,24 @@ pub enum OrderKind {
 /// What the system answered to an order.
 #[derive(Clone, Copy, PartialEq, Eq)]
 pub enum Answer {
-    /// A start: the child of that number runs.
+    /// To a start: the child was started and has this number.
     Born(ChildNumber),
-    /// A start that failed.
+    /// To a start: it failed.
     NotBorn,
-    /// A look: the child had ended, and is reaped now.
+    /// To a look: the child had ended, and has now been reaped.
     Ended(Status),
-    /// A look: nothing to reap.
+    /// To a look: there was nothing to reap.
     Alive,
-    /// A look that failed.
+    /// To a look: it failed.
     NoLook,
-    /// A signal was sent.
+    /// To a signal: it was sent.
     Hit,
-    /// A signal could not be sent.
+    /// To a signal: it could not be sent.
     Miss,
 }
 
 impl Answer {
-    /// It is an answer to an order of this kind.
+    /// Returns whether this is an answer to an order of this kind.
     pub fn answers(self, ask: OrderKind) -> bool
         ensures { result ≡ answers self ask }
     {
@@ -54,7 +54,7 @@ pub enum SignalKind {
     Kill,
 }
 
-/// News of the power (initreq.h): it fails, the battery is almost empty, it is back.
+/// A power event (initreq.h): the power failed, the battery is almost empty, the power is back.
 #[derive(Clone, Copy, PartialEq, Eq)]
 pub enum PowerKind {
     Fail,

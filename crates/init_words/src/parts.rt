@@ -1,9 +1,9 @@
-//! One file of an inittab: its name and its text.
+//! One file of an inittab: its name and its contents.
 
 use std::alloc::{Allocator, Global};
 use std::marker::Model;
 
-/// One of the files that a table is read from: its name, and its bytes.
+/// A file that a table is read from: its name and its bytes.
 #[derive(Drop)]
 pub struct Part<A: Allocator = Global> {
     pub name: String<A>,

@@ -1,10 +1,10 @@
-//! Why a call changed nothing.
+//! The reasons for which a call is rejected and changes nothing.
 
 use std::alloc::{AllocError, AllocFailed};
 use std::error::Error;
 use std::fmt;
 
-/// Out of memory.
+/// The error of a failed memory allocation.
 #[derive(Clone, Copy, Debug, PartialEq, Eq)]
 pub struct Memory;
 
@@ -32,16 +32,16 @@ impl<T: Drop> From<AllocFailed<T>> for Memory {
     }
 }
 
-/// Why init's core refused a call. After each of them the core is as it was before.
+/// The reason why init's core rejected a call. The core is then the same as before the call.
 #[derive(Clone, Copy, Debug, PartialEq, Eq)]
 pub enum Refusal {
     /// The id has no open order.
     NotAsked,
     /// The id's open order is of another kind than the answer.
     WrongAnswer,
-    /// A start or a signal is not answered yet, so no table is adopted.
+    /// A start or a signal has not been answered yet, so no table can be adopted.
     NotQuiet,
-    /// Lack of memory for the records of a table.
+    /// Memory for the records of a table could not be allocated.
     Memory,
 }
 

@@ -1,8 +1,8 @@
-//! The stages of a machine: sysinit, boot, a runlevel.
+//! The stages of a machine: sysinit, boot, and the runlevels.
 
 use crate::levels::Level;
 
-/// Where init is on its way: the boot's two stages, then a runlevel (init(8)).
+/// The stage that init is in: the two stages of booting, then a runlevel (init(8)).
 #[derive(Clone, Copy, PartialEq, Eq)]
 pub enum Stage {
     Sysinit,

@@ -1,10 +1,11 @@
--- The blocks of a byte list, as more bytes come.
+-- How the blocks of a byte list change when more bytes arrive.
 use Rattle.initctl_frame.proofs.Words.{◌≡◌, ◌∙◌, ℕ, ℤ, zero, suc, ◌+◌, ◌-◌, ◌*◌, ◌/◌, ◌<◌, ◌≤◌, List, [], ◌∷◌, ◌++◌}
 use Rattle.initctl_frame.proofs.Words.{length, take, drop, map, get_or, ap, ap₂, sym, refl, arith, append_assoc}
 use Rattle.initctl_frame.proofs.Words.{append-nil, length-append, length-drop, length-take-le, ⊎_elim, take-append-drop}
 use Rattle.initctl_frame.proofs.Words.{w32, All, flat_map, map-append, take-append-le, drop-append-le, drop-drop}
 use Rattle.initctl_frame.proofs.Words.{take_all, take-take, get_or-drop, get_or-take, take-append-add, cast_signed}
-use Rattle.initctl_frame.proofs.Words.{from_le_bytes, heard_of, heard_of_ints, int_at, blocks_of, gots_of, over_of}
+use Rattle.initctl_frame.proofs.Words.{from_le_bytes, heard_of, heard_of_ints, int_at, blocks_of, requests_in_blocks}
+use Rattle.initctl_frame.proofs.Words.{remainder_of}
 use Rattle.initctl_frame.proofs.Words.{parts}
 use Rattle.std.proofs.Common.{min}
 use Rattle.std.proofs.lemmas.List.Concat.{flat_map-cons}
@@ -13,7 +14,7 @@ use Rattle.std.proofs.lemmas.Bool.{cases_lt}
 
 -- ---- parts of any size
 
--- bytes behind the first n parts change none of them
+-- bytes appended after the first n parts do not change these
 parts-append : (size n : ℕ) (xs ys : List ℕ) → size * n ≤ length xs → parts size n (xs ++ ys) ≡ parts size n xs
 parts-append size zero xs ys fits = refl
 parts-append size (suc n) xs ys fits =
@@ -22,7 +23,7 @@ parts-append size (suc n) xs ys fits =
     (ap (parts size n) (drop-append-le size xs ys long)
     ∙ parts-append size n (drop size xs) ys (omega (arith, length-drop size xs)))
 
--- one part more is the next part behind the first n
+-- the first n + 1 parts are the first n and the next one
 parts-last : (size n : ℕ) (xs : List ℕ) → parts size (suc n) xs ≡ parts size n xs ++ take size (drop (size * n) xs) ∷ []
 parts-last size zero xs =
     let none : size * 0 ≡ 0 = omega arith in
@@ -35,45 +36,45 @@ parts-last size (suc n) xs =
 
 -- ---- blocks
 
-over_size : (bytes : List ℕ) → length (over_of bytes) ≡ length bytes - 384 * (length bytes / 384)
+over_size : (bytes : List ℕ) → length (remainder_of bytes) ≡ length bytes - 384 * (length bytes / 384)
 over_size bytes = length-drop (384 * (length bytes / 384)) bytes
 
-count_stays : (bytes more : List ℕ) → length (over_of bytes) + length more < 384
+count_stays : (bytes more : List ℕ) → length (remainder_of bytes) + length more < 384
     → length (bytes ++ more) / 384 ≡ length bytes / 384
 count_stays bytes more short = omega (arith, length-append bytes more, over_size bytes)
 
-count_grows : (bytes more : List ℕ) → length (over_of bytes) + length more ≡ 384
+count_grows : (bytes more : List ℕ) → length (remainder_of bytes) + length more ≡ 384
     → length (bytes ++ more) / 384 ≡ suc (length bytes / 384)
 count_grows bytes more full = omega (arith, length-append bytes more, over_size bytes)
 
-joined_over : (bytes more : List ℕ) → drop (384 * (length bytes / 384)) (bytes ++ more) ≡ over_of bytes ++ more
+joined_over : (bytes more : List ℕ) → drop (384 * (length bytes / 384)) (bytes ++ more) ≡ remainder_of bytes ++ more
 joined_over bytes more = drop-append-le (384 * (length bytes / 384)) bytes more (omega arith)
 
--- while the block isn't full, the bytes are over
-over_stays : (bytes more : List ℕ) → length (over_of bytes) + length more < 384
-    → over_of (bytes ++ more) ≡ over_of bytes ++ more
+-- while the block is not complete, further bytes are appended to those left over
+over_stays : (bytes more : List ℕ) → length (remainder_of bytes) + length more < 384
+    → remainder_of (bytes ++ more) ≡ remainder_of bytes ++ more
 over_stays bytes more short =
     ap (λ (n : ℕ). drop (384 * n) (bytes ++ more)) (count_stays bytes more short) ∙ joined_over bytes more
 
-pub gots_stay : (bytes more : List ℕ) → length (over_of bytes) + length more < 384
-    → gots_of (bytes ++ more) ≡ gots_of bytes
+pub gots_stay : (bytes more : List ℕ) → length (remainder_of bytes) + length more < 384
+    → requests_in_blocks (bytes ++ more) ≡ requests_in_blocks bytes
 gots_stay bytes more short =
     ap (map heard_of) (ap (λ (n : ℕ). parts 384 n (bytes ++ more)) (count_stays bytes more short)
     ∙ parts-append 384 (length bytes / 384) bytes more (omega arith))
 
--- where the block is full, it is one more
-pub gots_grow : (bytes more : List ℕ) → length (over_of bytes) + length more ≡ 384
-    → gots_of (bytes ++ more) ≡ gots_of bytes ++ heard_of (over_of bytes ++ more) ∷ []
+-- when the block is complete, its request is added
+pub gots_grow : (bytes more : List ℕ) → length (remainder_of bytes) + length more ≡ 384
+    → requests_in_blocks (bytes ++ more) ≡ requests_in_blocks bytes ++ heard_of (remainder_of bytes ++ more) ∷ []
 gots_grow bytes more full =
     let n : ℕ = length bytes / 384 in
-    let last : take 384 (drop (384 * n) (bytes ++ more)) ≡ over_of bytes ++ more =
+    let last : take 384 (drop (384 * n) (bytes ++ more)) ≡ remainder_of bytes ++ more =
     ap (take 384) (joined_over bytes more)
-    ∙ take_all 384 (over_of bytes ++ more) (omega (arith, length-append (over_of bytes) more)) in
+    ∙ take_all 384 (remainder_of bytes ++ more) (omega (arith, length-append (remainder_of bytes) more)) in
     ap (map heard_of) (ap (λ (k : ℕ). parts 384 k (bytes ++ more)) (count_grows bytes more full)
     ∙ parts-last 384 n (bytes ++ more)
     ∙ ap₂ (λ (fronts : List (List ℕ)) (block : List ℕ). fronts ++ block ∷ [])
     (parts-append 384 n bytes more (omega arith)) last)
-    ∙ map-append heard_of (blocks_of bytes) ((over_of bytes ++ more) ∷ [])
+    ∙ map-append heard_of (blocks_of bytes) ((remainder_of bytes ++ more) ∷ [])
 
 -- ---- the blocks are the parts of the bytes
 
@@ -102,13 +103,13 @@ parts-joined size (suc n) xs =
 pub blocks-whole : (bytes : List ℕ) → All (λ block. length block ≡ 384) (blocks_of bytes)
 blocks-whole bytes = parts-whole 384 (length bytes / 384) bytes (omega arith)
 
-pub blocks-partial : (bytes : List ℕ) → length (over_of bytes) < 384
+pub blocks-partial : (bytes : List ℕ) → length (remainder_of bytes) < 384
 blocks-partial bytes = omega (arith, over_size bytes)
 
-pub blocks-joined : (bytes : List ℕ) → flat_map (λ block. block) (blocks_of bytes) ++ over_of bytes ≡ bytes
+pub blocks-joined : (bytes : List ℕ) → flat_map (λ block. block) (blocks_of bytes) ++ remainder_of bytes ≡ bytes
 blocks-joined bytes = parts-joined 384 (length bytes / 384) bytes
 
--- ---- the front of a block
+-- ---- the first sixteen bytes of a block
 
 from_four : (xs ys : List ℕ) → ((i : ℕ) → i < 4 → get_or xs i 0 ≡ get_or ys i 0)
     → from_le_bytes w32 xs ≡ from_le_bytes w32 ys
@@ -119,7 +120,7 @@ from_four xs ys same =
     let third = same 3 (omega arith) in
     cc
 
--- an int is read from its own four bytes
+-- an int depends only on its own four bytes
 int_in_front : (n position : ℕ) (bytes : List ℕ) → position + 4 ≤ n
     → int_at position (take n bytes) ≡ int_at position bytes
 int_in_front n position bytes within =
@@ -143,7 +144,7 @@ take_min m taken piece within =
     ap (λ (k : ℕ). take k piece) all ∙ sym (take_all m (take taken piece) (omega arith)))
     (cases_lt m taken)
 
--- the kept bytes of a piece behind the kept bytes of what was over
+-- the first n bytes can be taken from the bytes left over, and then from the next piece
 front_after : (n taken : ℕ) (over piece : List ℕ) → taken ≤ length piece
     → take n over ++ take (min taken (n - length (take n over))) piece ≡ take n (over ++ take taken piece)
 front_after n taken over piece within =
@@ -167,15 +168,15 @@ pub front_joins : (n taken : ℕ) (over piece front : List ℕ) → taken ≤ le
 front_joins n taken over piece front within is =
     ap (λ (xs : List ℕ). xs ++ take (min taken (n - length xs)) piece) is ∙ front_after n taken over piece within
 
--- ---- a piece that leaves the block under way
+-- ---- a piece that ends before the block is complete
 
-pub over_feeds : (bytes piece : List ℕ) (taken : ℕ) → taken ≤ length piece → length (over_of bytes) + taken < 384
-    → over_of (bytes ++ take taken piece) ≡ over_of bytes ++ take taken piece
+pub over_feeds : (bytes piece : List ℕ) (taken : ℕ) → taken ≤ length piece → length (remainder_of bytes) + taken < 384
+    → remainder_of (bytes ++ take taken piece) ≡ remainder_of bytes ++ take taken piece
 over_feeds bytes piece taken within short =
     over_stays bytes (take taken piece) (omega (arith, length-take-le taken piece within))
 
-pub count_feeds : (bytes piece : List ℕ) (taken : ℕ) → taken ≤ length piece → length (over_of bytes) + taken < 384
-    → length (over_of (bytes ++ take taken piece)) ≡ length (over_of bytes) + taken
+pub count_feeds : (bytes piece : List ℕ) (taken : ℕ) → taken ≤ length piece → length (remainder_of bytes) + taken < 384
+    → length (remainder_of (bytes ++ take taken piece)) ≡ length (remainder_of bytes) + taken
 count_feeds bytes piece taken within short =
-    ap length (over_feeds bytes piece taken within short) ∙ length-append (over_of bytes) (take taken piece)
-    ∙ ap (λ (k : ℕ). length (over_of bytes) + k) (length-take-le taken piece within)
+    ap length (over_feeds bytes piece taken within short) ∙ length-append (remainder_of bytes) (take taken piece)
+    ∙ ap (λ (k : ℕ). length (remainder_of bytes) + k) (length-take-le taken piece within)

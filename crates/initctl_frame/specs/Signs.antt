@@ -1,4 +1,4 @@
--- The characters that telinit(8) takes, and what each asks for.
+-- The characters that telinit(8) accepts, and what each of them asks for.
 use Rattle.std.specs.Prelude.{ℕ, Bool, ◌==◌, ◌||◌, if◌then◌else◌, List, codes, Option, Some, None}
 use Rattle.std.specs.List.{list_any}
 use Rattle.init_words.specs.declared.levels.Level.{Level}
@@ -8,19 +8,19 @@ use Rattle.initctl_frame.specs.declared.requests.HeardRequest.{HeardRequest}
 use Rattle.initctl_frame.specs.declared.requests.HeardRequest.TheVariants as got
 use Rattle.initctl_frame.specs.declared.requests.Cause.TheVariants.{Character}
 
--- the characters of the list, as bytes
+-- these characters, in ASCII
 abbrev pub sign_codes : List ℕ
 sign_codes = codes "0123456789SsABCabcQqUu"
 
--- a byte is one of them
+-- the byte is one of these characters
 abbrev pub is_sign : ℕ → Bool
 is_sign code = list_any (λ listed. listed == code) sign_codes
 
--- the character that was typed, where it is one of the list
+-- the character as typed, if it is one of these
 abbrev pub sign_read : ℕ → Option ℕ
 sign_read code = if is_sign code then Some code else None
 
--- `Q q` reads inittab again, `U u` executes init anew, any other is no character
+-- `Q q` asks to read inittab again, and `U u` to re-execute init; any other character is ignored
 abbrev pub heard_of_last : ℕ → HeardRequest
 heard_of_last code =
     if code == 81 || code == 113 then got.Reload
@@ -32,11 +32,11 @@ abbrev pub heard_of_letter : Option Letter → ℕ → HeardRequest
 heard_of_letter (Some letter) code = got.Call letter
 heard_of_letter None code = heard_of_last code
 
--- `0-9 S s` go to the level, with these seconds between the two signals
+-- `0-9 S s` ask for the level, with these seconds between SIGTERM and SIGKILL
 abbrev pub heard_of_level : Option Level → ℕ → ℕ → HeardRequest
 heard_of_level (Some level) code seconds = got.Level level seconds
 heard_of_level None code seconds = heard_of_letter (letter_read code) code
 
--- what a character asks for
+-- the request of a character
 abbrev pub heard_of_sign : ℕ → ℕ → HeardRequest
 heard_of_sign code seconds = heard_of_level (level_read code) code seconds

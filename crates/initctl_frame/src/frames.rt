@@ -1,4 +1,4 @@
-//! One request of initreq.h: 384 bytes, decoded and encoded.
+//! Decodes and encodes a single request of initreq.h, a block of 384 bytes.
 
 ghost use Rattle.std.specs.Prelude.{◌≡◌, ◌+◌, ◌-◌, ◌≤◌, ◌++◌, ℕ, List, length, replicate};
 ghost use Rattle.initctl_frame.specs.Signs.{heard_of_sign};
@@ -8,24 +8,23 @@ use crate::requests::{Cause, HeardRequest, Request};
 use crate::signs::Sign;
 use init_words::{GRACE_LIMIT, Letter, Level, PowerKind};
 
-/// How many bytes a request block has (initreq.h).
+/// The length of a request block in bytes (initreq.h).
 pub const BLOCK: usize = 384;
 
-/// How many bytes of a block are read: its four ints.
+/// The number of bytes of a block that are interpreted: its four ints.
 pub(crate) const FRONT: usize = 16;
 
-/// The first int of a block (initreq.h).
+/// The first int of every block (initreq.h).
 const MAGIC: i32 = 0x03091969;
 
-/// What a block asks for (initreq.h). A block is judged by itself: nothing in it is looked for elsewhere than in its
-/// place.
+/// Decodes a request block (initreq.h). Each block is decoded by itself: a field is read only at its own position.
 pub fn decode(block: &[u8; BLOCK]) -> HeardRequest
     ensures { result ≡ heard_of block.now }
 {
     decode_front(block)
 }
 
-/// The block of a request: its ints, and 368 zeros. News of the power has 0 as its runlevel and its sleeptime.
+/// Encodes a request: its ints, followed by 368 zeros. A power event has 0 as runlevel and sleeptime.
 pub fn encode(request: &Request) -> [u8; BLOCK]
     ensures bytes { result ≡ block_of request.now }
     ensures read_back { heard_of result ≡ meaning_of request.now }
@@ -36,7 +35,7 @@ pub fn encode(request: &Request) -> [u8; BLOCK]
     }
 }
 
-/// What a request means to init: what it gets by the request's block.
+/// Returns what a request means to init: what decoding the request's block gives.
 pub fn meaning(request: &Request) -> HeardRequest
     ensures { result ≡ meaning_of request.now }
 {
@@ -46,7 +45,7 @@ pub fn meaning(request: &Request) -> HeardRequest
     }
 }
 
-/// What the block that begins with these bytes asks for.
+/// Decodes the block that begins with these bytes.
 pub(crate) fn decode_front(front: &[u8]) -> HeardRequest
     requires { FRONT ≤ length front.now }
     ensures { result ≡ heard_of front.now }
@@ -59,7 +58,7 @@ pub(crate) fn decode_front(front: &[u8]) -> HeardRequest
     )
 }
 
-/// The int whose four bytes begin at this place.
+/// Returns the int whose four bytes begin at this position.
 fn int_at(bytes: &[u8], position: usize) -> i32
     requires { position + 4 ≤ length bytes.now }
     ensures { result ≡ int_at position bytes.now }
@@ -147,7 +146,7 @@ fn block_of_ints(command: u8, runlevel: u8, sleeptime: u16) -> [u8; BLOCK]
     ])
 }
 
-/// The bytes with zeros after them.
+/// Returns the bytes, padded with zeros to N bytes.
 fn padded<const N: usize>(bytes: &[u8]) -> [u8; N]
     requires { length bytes.now ≤ N }
     ensures { result ≡ bytes.now ++ replicate (N - length bytes.now) 0 }

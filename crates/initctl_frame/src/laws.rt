@@ -1,14 +1,14 @@
-//! What a block is, by the bytes of its parts.
+//! The relation between a byte stream and its blocks.
 
 ghost use Rattle.std.specs.Prelude.{◌≡◌, ◌++◌, ◌<◌, ℕ, List, All, length, flat_map};
 ghost use Rattle.initctl_frame.specs.declared.frames.TheConstants.{BLOCK};
-ghost use Rattle.initctl_frame.specs.Blocks.{blocks_of, over_of};
+ghost use Rattle.initctl_frame.specs.Blocks.{blocks_of, remainder_of};
 
-/// The blocks of a byte list are its parts: each has 384 bytes, fewer than 384 bytes are over, and joined they are the
-/// list.
+/// States that the blocks of a byte list are its parts: each block has 384 bytes, fewer than 384 bytes are left over,
+/// and joined together they are the list. The function does nothing: its contract is the law.
 pub fn blocks_are_parts()
     ensures whole { (bytes : List ℕ) → All (λ block. length block ≡ BLOCK) (blocks_of bytes) }
-    ensures partial { (bytes : List ℕ) → length (over_of bytes) < BLOCK }
+    ensures partial { (bytes : List ℕ) → length (remainder_of bytes) < BLOCK }
     ensures joined { (bytes : List ℕ)
-        → flat_map (λ block. block) (blocks_of bytes) ++ over_of bytes ≡ bytes }
+        → flat_map (λ block. block) (blocks_of bytes) ++ remainder_of bytes ≡ bytes }
 {}

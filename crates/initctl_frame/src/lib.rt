@@ -1,5 +1,6 @@
-//! The requests that init takes through its control channel: what a block of 384 bytes asks for (initreq.h),
-//! the block of a request, and the requests of a stream of bytes that comes in any pieces. Nothing here allocates.
+//! The requests that init receives through its control channel: decoding a block of 384 bytes (initreq.h), encoding a
+//! request, and splitting a stream of bytes that arrives in arbitrary pieces into requests. Nothing in this crate
+//! allocates memory.
 #![tactic(auto)]
 
 mod frames;

@@ -1,42 +1,42 @@
-//! What a request asks for, and why one counts for nothing.
+//! The requests that init receives, and why one is ignored.
 
 use crate::signs::Sign;
 use init_words::{Letter, Level, PowerKind};
 
-/// What init got by a request block (initreq.h, telinit(8)).
+/// What a request block asks of init (initreq.h, telinit(8)).
 #[derive(Clone, Copy, PartialEq, Eq)]
 pub enum HeardRequest {
-    /// Go to the runlevel, with the given number of seconds between the two signals that stop a child, 0 to 3,600.
+    /// Change to the runlevel, with this number of seconds between SIGTERM and SIGKILL, 0 to 3,600.
     Level(Level, u16),
     /// Start the ondemand entries of the letter.
     Call(Letter),
     /// Read inittab again.
     Reload,
-    /// Re-execute init, and keep its state.
+    /// Re-execute init and keep its state.
     Reexec,
-    /// News of the power.
+    /// A power event.
     Power(PowerKind),
-    /// The block is ignored.
+    /// The block is ignored, for this reason.
     Nothing(Cause),
 }
 
-/// Why a request block is ignored.
+/// The reason why a request block is ignored.
 #[derive(Clone, Copy, PartialEq, Eq)]
 pub enum Cause {
-    /// Its first int is not the magic number.
+    /// The first int is not the magic number.
     Magic,
-    /// Its command is none of initreq.h.
+    /// The command is not one of initreq.h.
     Unknown,
-    /// Its command is one of initreq.h that this init does not carry out.
+    /// The command is one of initreq.h that this init does not support.
     LeftOut,
-    /// It asks for a runlevel whose character is none of telinit(8).
+    /// The block asks for a runlevel, but the character is not one of telinit(8).
     Character,
 }
 
-/// What is asked of init by a request block.
+/// A request that can be sent to init in a block.
 #[derive(Clone, Copy, PartialEq, Eq)]
 pub enum Request {
-    /// RUNLVL of initreq.h: a character of telinit(8), and the seconds between the two signals that stop a child.
+    /// RUNLVL of initreq.h: a character of telinit(8), and the seconds between SIGTERM and SIGKILL.
     Runlvl(Sign, u16),
     /// POWERFAIL, POWERFAILNOW or POWEROK of initreq.h.
     Power(PowerKind),

@@ -1,4 +1,4 @@
-//! The sign that a runlevel request carries: a runlevel, a letter, a reading, a re-execution.
+//! The character in a RUNLVL request: a runlevel, a letter, or the request to read inittab again or to re-execute init.
 
 ghost use Rattle.std.specs.Prelude.{◌≡◌, true};
 ghost use Rattle.initctl_frame.specs.Signs.{is_sign, sign_read};
@@ -26,7 +26,7 @@ impl Model for Sign {
 }
 
 impl Sign {
-    /// The sign of a byte, where it is a character of the list.
+    /// Returns the sign of a byte, or `None` if it is not one of these characters.
     pub fn read(code: u8) -> Option<Sign>
         ensures { result ≡ sign_read code }
     {
@@ -38,7 +38,7 @@ impl Sign {
         }
     }
 
-    /// The character, in ASCII.
+    /// Returns the character, in ASCII.
     pub fn code(self) -> u8
         ensures value { result ≡ self }
         ensures valid { is_sign self ≡ true }

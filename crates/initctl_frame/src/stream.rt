@@ -1,4 +1,4 @@
-//! The bytes of a channel, cut into blocks.
+//! Splits the bytes of a channel into blocks.
 
 ghost use Rattle.std.specs.Prelude.{◌≡◌, ◌↔◌, ◌+◌, ◌-◌, ◌<◌, ◌≤◌, ◌++◌, ℕ, List, [], length, take, min, IsSome};
 ghost use Rattle.std.specs.Option.{option_to_list};
@@ -9,8 +9,8 @@ use arrayvec::ArrayVec;
 use std::alloc::AllocError;
 use std::marker::Model;
 
-/// The requests of a stream of bytes that comes in any pieces. Of the block under way only its first sixteen bytes are
-/// kept, and how many of its bytes have come.
+/// Reads requests from a stream of bytes that arrives in arbitrary pieces. Of an unfinished block, it keeps only the
+/// first sixteen bytes and the number of bytes received.
 #[derive(Drop)]
 pub struct Blocks {
     front: ArrayVec<u8, FRONT>,
@@ -20,9 +20,9 @@ pub struct Blocks {
 impl Model for Blocks {
     ghost use Rattle.std.specs.Prelude.{◌≡◌, ◌<◌, length, min};
     ghost use Rattle.initctl_frame.specs.declared.frames.TheConstants.{BLOCK, FRONT};
-    ghost use Rattle.initctl_frame.specs.Blocks.{Begun};
+    ghost use Rattle.initctl_frame.specs.Blocks.{PartialBlock};
 
-    ghost Value = { Begun };
+    ghost Value = { PartialBlock };
 
     ghost view = { λ blocks. record { count = blocks.count; front = blocks.front.items } };
 
@@ -31,11 +31,11 @@ impl Model for Blocks {
 }
 
 impl Blocks {
-    ghost use Rattle.initctl_frame.specs.Blocks.{Stands, gots_of, over_of};
+    ghost use Rattle.initctl_frame.specs.Blocks.{ReaderAfter, requests_in_blocks, remainder_of};
 
-    /// A reader of a stream of which nothing has come.
+    /// Creates a reader at the start of a stream.
     pub fn new() -> Blocks
-        ensures { Stands result [] }
+        ensures { ReaderAfter result [] }
     {
         Blocks {
             front: ArrayVec::new(),
@@ -43,20 +43,20 @@ impl Blocks {
         }
     }
 
-    /// Takes the bytes of the piece up to the end of the block under way, or all of the piece. Gives how many it took,
-    /// and what the block asks for where it is full.
+    /// Takes the bytes of the piece up to the end of the current block, or the whole piece if it is shorter. Returns
+    /// the number of bytes taken and, if the block is now complete, its request.
     pub fn feed(&mut self, piece: &[u8]) -> (usize, Option<HeardRequest>)
-        // To the end of the block under way, or to its own end: so a piece with bytes in it gets on.
+        // Bytes are taken up to the end of the block or of the piece, so a piece that is not empty makes progress.
         ensures taken { result.0 ≡ min (length piece.now) (BLOCK - self.old.count) }
         ensures progress { 0 < length piece.now → 0 < result.0 }
 
-        // A request is given exactly where the block is full, and it is the next of those of all bytes so far.
+        // A request is returned exactly if the block is complete, and it is the next request of all bytes so far.
         ensures full { IsSome result.1 ↔ (BLOCK ≤ self.old.count + length piece.now) }
-        ensures stands { (bytes : List ℕ) → Stands self.old bytes
-            → Stands self.new (bytes ++ take result.0 piece.now) }
-        ensures got { (bytes : List ℕ) → Stands self.old bytes
-            → gots_of (bytes ++ take result.0 piece.now)
-            ≡ gots_of bytes ++ option_to_list result.1 }
+        ensures stands { (bytes : List ℕ) → ReaderAfter self.old bytes
+            → ReaderAfter self.new (bytes ++ take result.0 piece.now) }
+        ensures got { (bytes : List ℕ) → ReaderAfter self.old bytes
+            → requests_in_blocks (bytes ++ take result.0 piece.now)
+            ≡ requests_in_blocks bytes ++ option_to_list result.1 }
     {
         let taken = piece.len().min(BLOCK - self.count);
         let kept = taken.min(FRONT - self.front.len());
@@ -73,11 +73,12 @@ impl Blocks {
         (taken, Some(got))
     }
 
-    /// How many bytes of the block under way have come, 0 to 383.
+    /// Returns the number of bytes received of the unfinished block, 0 to 383.
     pub fn rest(&self) -> usize
         ensures count { result ≡ self.now.count }
         ensures partial { result < BLOCK }
-        ensures over { (bytes : List ℕ) → Stands self.now bytes → result ≡ length (over_of bytes) }
+        ensures over { (bytes : List ℕ) → ReaderAfter self.now bytes
+            → result ≡ length (remainder_of bytes) }
     {
         self.count
     }

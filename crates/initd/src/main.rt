@@ -1,7 +1,8 @@
-//! `initd`: init(8) over the operating system, or over a script of what a system did, and the judge of their traces.
+//! `initd`: runs init(8) over the operating system, or over a script of what a system did, and judges the traces of
+//! both.
 #![tactic(auto)]
 
-use initd_command::{OsHosts, SHORT_USAGE, run_words};
+use initd_command::{OsHosts, SHORT_USAGE, run_on_system};
 use program_io::{Reports, StandardFiles, report_unread_words, words};
 use std::process::ExitCode;
 use trace_files::OsTraces;
@@ -10,7 +11,7 @@ fn main(rt: HostRuntime) -> ExitCode {
     let _standard = StandardFiles::hold(&rt);
     let mut err = Reports::to(rt.stderr());
     let status = match words(&rt, rt.alloc()) {
-        Ok(words) => run_words(
+        Ok(words) => run_on_system(
             &rt,
             &rt,
             &mut OsHosts::new(rt),

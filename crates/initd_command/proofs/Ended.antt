@@ -1,4 +1,4 @@
--- What a run left, where its writer was only flushed since.
+-- What a run left, if its writer was only flushed since then.
 use Rattle.initd_command.proofs.Words.{◌≡◌, sym, subst, Result, Ok, Err, IfErr, OnOk, ◌⊎◌, inl, inr, List, ℕ, true}
 use Rattle.initd_command.proofs.Words.{Option, Keeps, KnownTexts, Appends-kept, Keeps-trans, Done, Ends, Scenario}
 use Rattle.initd_command.proofs.Words.{past_text, HasInittab, IsInittab, TakesParts, is_taken, told_of, RunArguments}
@@ -24,7 +24,7 @@ ends_kept s fault.Write old mid new (rest, past, run, (front, back, is, written,
 ends_kept s fault.Memory old mid new (rest, past, run, (front, back, is, written)) kept =
     (rest, past, run, (front, back, is, Appends-kept old mid new front written kept))
 
--- a run is done, or ended by a fault
+-- a simulated run is done, or ended by a fault
 pub either_end : {T : Type 0} (r : Result T SimFault) (D : Type 0) (E : SimFault → Type 0) → OnOk r D → IfErr r E
     → D ⊎ ((f : SimFault) × E f)
 either_end (Ok value) D E on_ok on_err = inl on_ok
@@ -35,7 +35,7 @@ pub either_kept : (s : Scenario) (old mid new : Option (List ℕ)) → Done s ol
 either_kept s old mid new (inl whole) kept = inl (done_kept s old mid new whole kept)
 either_kept s old mid new (inr (f, ends)) kept = inr (f, ends_kept s f old mid new ends kept)
 
--- an inittab that was read, and that the run takes
+-- the inittab that was read is one that the run accepts
 pub read_taken : (text_at : KnownTexts) (service : RunArguments) (read : Inittab) → IsInittab text_at service read
     → HasInittab text_at service (TakesParts service)
 read_taken text_at service read (parts, are, (readable, told, table), taken) = (
@@ -46,7 +46,7 @@ read_taken text_at service read (parts, are, (readable, told, table), taken) = (
       (subst (λ lines. is_taken service lines read.table ≡ true) told taken),
 )
 
--- what holds of a fault is so of it handed on
+-- what holds of an error holds of the same error passed on
 pub handed_on : {T : Type 0} (r : Result T Obstacle) (given : Obstacle) (So : Obstacle → Type 0)
     → IsErrAnd r (λ fault. fault ≡ given) → So given → IfErr r So
 handed_on (Ok value) given So is so = tt

@@ -1,29 +1,30 @@
--- What turns noted over a host that tells its calls, what their judge found, and how their log ended.
+-- What is noted of turns over a host that records its calls, the verdict of their judge, and how their log ended.
 use Rattle.initd_command.proofs.Words.{◌≡◌, refl, sym, ◌∙◌, ap, subst, ℕ, Bool, true, false, not, ◌&&◌, if◌then◌else◌}
 use Rattle.initd_command.proofs.Words.{List, [], ◌++◌, reverse, Option, Some, None, is_some, append-nil, reverse-append}
-use Rattle.initd_command.proofs.Words.{reverse-reverse, Entry, Event, LogState, HostCall, IsRunning, Notes, NotesOf}
-use Rattle.initd_command.proofs.Words.{is_wanted, Served, waiting_text, IsOpening, opening_point, RunArguments}
+use Rattle.initd_command.proofs.Words.{reverse-reverse, Entry, Event, LogState, HostCall, IsRunning, Notes, AreNotesOf}
+use Rattle.initd_command.proofs.Words.{is_wanted, Served, waiting_text, IsOpening, start_point, RunArguments}
 use Rattle.initd_command.proofs.Words.{Judgement}
-use Rattle.initd_command.proofs.Words.{Finds, IsNoted, IsServed, LogEnds, TurnsFrom, judgement_for, noted_of}
+use Rattle.initd_command.proofs.Words.{IsJudgementOf, AreNotesOfRun, IsServed, LogEnds, TurnsFrom, judgement_for}
+use Rattle.initd_command.proofs.Words.{noted_of}
 use Rattle.std.proofs.Common.{IfSome}
 use Rattle.std.specs.Bool.{then_some}
 use Rattle.std.proofs.lemmas.Bool.{and_parts, not-true}
 use Rattle.init_words.specs.declared.levels.Level.{Level}
-use Rattle.host_trace.specs.Leads.{Takes, UpTo, Went}
-use Rattle.host_trace.specs.Point.{point_after}
+use Rattle.supervisor.specs.CallsLead.{Takes, IfPossibleFrom, Went}
+use Rattle.supervisor.specs.Point.{point_after}
 use Rattle.trace_events.specs.declared.steps.Goal.{Goal}
 use Rattle.core_model.specs.State.{CoreState, opening_goal}
-use Rattle.core_model.specs.Fit.{FitsAll}
-use Rattle.init_turns.specs.Parts.{LeftBy}
-use Rattle.init_turns.proofs.Opened.{from_opening, opening_short}
+use Rattle.core_model.specs.Fit.{FitsWithLastStatuses}
+use Rattle.supervisor.specs.Parts.{HoldsAfterTurns}
+use Rattle.supervisor.proofs.Opened.{from_opening, opening_short}
 use Rattle.inittab_text.specs.Tables.{is_distinct}
 
--- where a run is to be judged, what was found counts
-found_for : (service : RunArguments) (found : Judgement) (past : List Event) → Finds found past
-    → IfSome (judgement_for service found) (λ judgement. Finds judgement past)
+-- if the run is to be judged, its verdict is right
+found_for : (service : RunArguments) (found : Judgement) (past : List Event) → IsJudgementOf found past
+    → IfSome (judgement_for service found) (λ judgement. IsJudgementOf judgement past)
 found_for service found past finds = by service.judge
   where
-    by : (asked : Bool) → IfSome (then_some asked found) (λ judgement. Finds judgement past)
+    by : (asked : Bool) → IfSome (then_some asked found) (λ judgement. IsJudgementOf judgement past)
     by true = finds
     by false = tt
 
@@ -38,15 +39,16 @@ pub judged_still : (service : RunArguments) (found : Judgement) (judgement : Opt
     → judgement ≡ judgement_for service found → is_some judgement ≡ service.judge
 judged_still service found judgement is = subst (λ j. is_some j ≡ service.judge) (sym is) (judged_for service found)
 
--- the lines are those of what is kept of the trace
+-- the lines are those of a core that fits the trace
 abbrev IsWaiting : List ℕ → List Event → Type 0
-IsWaiting waiting past = (goal : Goal) × (core : CoreState) × FitsAll core goal past × (waiting ≡ waiting_text core)
+IsWaiting waiting past = (goal : Goal) × (core : CoreState) × FitsWithLastStatuses core goal past
+    × (waiting ≡ waiting_text core)
 
--- notes of a trace, and what its judge found
+-- the notes of a trace, with the verdict of its judge
 noted_of_trace : (wanted : Option (List ℕ)) (notes : Notes) (waiting : List ℕ) (judgement : Option Judgement)
     (past : List Event) → notes.wanted ≡ wanted
-    → NotesOf notes past → IsWaiting waiting past → IfSome judgement (λ found. Finds found past)
-    → IsNoted wanted (noted_of notes waiting judgement) past
+    → AreNotesOf notes past → IsWaiting waiting past → IfSome judgement (λ found. IsJudgementOf found past)
+    → AreNotesOfRun wanted (noted_of notes waiting judgement) past
 noted_of_trace wanted notes waiting judgement past same of waits finds = record {
   last = λ id is. of.last id (ap (is_wanted id) same ∙ is);
   running = going notes.complete refl;
@@ -59,7 +61,7 @@ noted_of_trace wanted notes waiting judgement past same of waits finds = record 
     going true all = of.running all
     going false none = tt
 
--- turns are as many behind the end of their log
+-- ending the log does not change the number of turns
 pub served_still : (P : ℕ → Bool → Type 0) (served ended : Served) (logged : Bool)
     → ended ≡ record served { logged = logged } → P served.turns served.drained → P ended.turns ended.drained
 served_still P served ended logged is so = subst (λ (s : Served). P s.turns s.drained) (sym is) so
@@ -68,7 +70,7 @@ pub is_served : (service : RunArguments) (served ended : Served) (logged : Bool)
     → ended ≡ record served { logged = logged } → IsServed service served → IsServed service ended
 is_served service served ended logged is limits = subst (IsServed service) (sym is) limits
 
--- a log that took of a trace what it had not missed has ended so
+-- how a log has ended that took the part of the trace that it did not miss
 module _ (has_ended : Bool → List Event → Type 0) (whole : Bool) (past missed took : List Event)
     (parts : past ≡ missed ++ took) (ends : has_ended whole (reverse took)) where
   log_ends : (logged : Bool) → (logged ≡ true → missed ≡ []) → LogEnds has_ended (logged && whole) (reverse past)
@@ -84,18 +86,20 @@ module _ (has_ended : Bool → List Event → Type 0) (whole : Bool) (past misse
       by true false is none = (reverse took, reverse missed, front, whole, ends)
       by false kept is none = (reverse took, reverse missed, front, whole, ends)
 
--- calls led from the opening on, over a log that had taken nothing of it
+-- the calls led from the opening on, with a log that had taken nothing before
 abbrev pub LedFrom : Option Level → List Entry → CoreState → LogState → LogState → List HostCall → Type 0
-LedFrom level table core old new = UpTo (IsOpening level table) (Went (λ p. []) (LeftBy core) old new)
+LedFrom level table core old new =
+    IfPossibleFrom (IsOpening level table) (Went (λ p. []) (HoldsAfterTurns core) old new)
 
--- what init keeps behind them fits their trace
+-- init's core after the calls fits their trace
 pub led_fits : (level : Option Level) (table : List Entry) (core : CoreState) (old new : LogState)
     (calls : List HostCall) → is_distinct table ≡ true → LedFrom level table core old new calls
-    → TurnsFrom level table calls (FitsAll core (opening_goal level table))
+    → TurnsFrom level table calls (FitsWithLastStatuses core (opening_goal level table))
 led_fits level table core old new calls distinct leads allowed carried =
-    (from_opening level table (Went (λ p. []) (LeftBy core) old new) calls distinct leads allowed carried).fits.0.fits
+    (from_opening level table
+    (Went (λ p. []) (HoldsAfterTurns core) old new) calls distinct leads allowed carried).fits.0.fits
 
--- turns over a log that had taken nothing, which was ended behind them
+-- turns over a log that had taken nothing before, and was ended after them
 pub noted_over : (has_ended : Bool → List Event → Type 0) (notes : Notes) (found : Judgement) (whole : Bool)
     (core : CoreState) (old now : LogState)
     (service : RunArguments) (level : Option Level) (table : List Entry) (served ended : Served)
@@ -103,14 +107,15 @@ pub noted_over : (has_ended : Bool → List Event → Type 0) (notes : Notes) (f
     → ended ≡ record served { logged = served.logged && whole } → judgement ≡ judgement_for service found
     → old.taken [] → old.noted ≡ service.result → notes.wanted ≡ now.noted → served.logged ≡ not now.failed
     → ((trace : List Event) → now.taken trace
-    → NotesOf notes (reverse trace) × Finds found (reverse trace) × has_ended whole trace)
+    → AreNotesOf notes (reverse trace) × IsJudgementOf found (reverse trace) × has_ended whole trace)
     → is_distinct table ≡ true → LedFrom level table core old now calls
-    → TurnsFrom level table calls (λ past. (ended.logged ≡ true → IsNoted service.result
+    → TurnsFrom level table calls (λ past. (ended.logged ≡ true → AreNotesOfRun service.result
     (noted_of notes (waiting_text core) judgement) past) × LogEnds has_ended ended.logged (reverse past))
 noted_over has_ended notes found whole core old now service level table served ended judgement calls goes asked none
     result wanted logged tells distinct leads = λ allowed carried.
-    let went = from_opening level table (Went (λ p. []) (LeftBy core) old now) calls distinct leads allowed carried in
-    let past = (point_after calls (opening_point table)).past in
+    let went =
+    from_opening level table (Went (λ p. []) (HoldsAfterTurns core) old now) calls distinct leads allowed carried in
+    let past = (point_after calls (start_point table)).past in
     let took = went.log (opening_short level table) in
     let takes : Takes old now [] took.came [] = took.log [] none in
     let parts : past ≡ takes.missed ++ takes.took = took.grown ∙ append-nil took.came ∙ takes.parts in
@@ -122,10 +127,10 @@ noted_over has_ended notes found whole core old now service level table served e
           sym (parts ∙ ap (λ m. m ++ takes.took) (all (and_parts served.logged whole (sym so ∙ h)).0)) in
           let same : reverse (reverse takes.took) ≡ past = reverse-reverse takes.took ∙ every in
           noted_of_trace service.result notes (waiting_text core) judgement past (wanted ∙ took.same ∙ result)
-          (subst (NotesOf notes) same of)
+          (subst (AreNotesOf notes) same of)
           (opening_goal level table, core, went.fits.0.fits, refl)
-          (subst (λ j. IfSome j (λ given. Finds given past)) (sym asked)
-          (found_for service found past (subst (Finds found) same finds)))),
+          (subst (λ j. IfSome j (λ given. IsJudgementOf given past)) (sym asked)
+          (found_for service found past (subst (IsJudgementOf found) same finds)))),
       subst (λ b. LogEnds has_ended b (reverse past)) (sym so)
           (log_ends has_ended whole past takes.missed takes.took parts ends served.logged all),
     )

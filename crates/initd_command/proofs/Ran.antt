@@ -1,11 +1,12 @@
--- Which calls a run made, by how it ended: none but where it came to its turns.
+-- Which calls a run made, by how it ended: none, unless it came to its turns.
 use Rattle.initd_command.proofs.Words.{◌≡◌, refl, sym, subst, ℕ, Bool, true, false, is_some, List, [], ◌∷◌, ◌++◌}
 use Rattle.initd_command.proofs.Words.{Option, Some, None, ⊤, Entry, KnownTexts, Event, LogState, HostCall}
-use Rattle.initd_command.proofs.Words.{Since, InitdArguments, judges, runs, simulates, version, RunArguments}
-use Rattle.initd_command.proofs.Words.{IsOpeningOf}
-use Rattle.initd_command.proofs.Words.{OpeningState, Spoken, refused, turned, End, HasInittab, TakesParts, has_no_level}
-use Rattle.initd_command.proofs.Words.{table_in, told_of, AsksArguments, MakesLogged, MakesTraced, LogEnds, RanBy}
-use Rattle.initd_command.proofs.Words.{RunTold}
+use Rattle.initd_command.proofs.Words.{NewCallsSatisfy, InitdArguments, judges, runs, simulates, version, RunArguments}
+use Rattle.initd_command.proofs.Words.{IsStartOver}
+use Rattle.initd_command.proofs.Words.{StartState, RunRemarks, refused, turned, End, HasInittab, TakesParts}
+use Rattle.initd_command.proofs.Words.{has_no_level}
+use Rattle.initd_command.proofs.Words.{table_in, told_of, CommandLineAsks, MakesLogged, MakesTraced, LogEnds, RanBy}
+use Rattle.initd_command.proofs.Words.{RunRecord}
 use Rattle.initd_command.proofs.Words.{HasSettings, HostSettings}
 use Rattle.std.proofs.Common.{true≢false, ◌∙◌}
 use Rattle.std.proofs.lemmas.Option.{none-some}
@@ -16,7 +17,7 @@ use Rattle.initd_command.specs.Ran.{IsWritten, MakesTurns}
 use Rattle.initd_command.specs.Services.{EndsTold}
 use Rattle.initd_command.specs.declared.run.Obstacle.TheVariants.{Memory}
 
--- what is so of a log's end is so of one of which more is said
+-- what follows from how a log has ended holds of the log's end
 log_ends_so : (A B : Bool → List Event → Type 0) (logged : Bool) (trace : List Event)
     → ((whole : Bool) (written : List Event) → A whole written → B whole written)
     → LogEnds A logged trace → LogEnds B logged trace
@@ -29,11 +30,11 @@ brief_ends_so : (A B : Bool → List Event → Type 0) (whole : Bool) (trace : L
 brief_ends_so A B true trace so ends = so true (brief_first trace) ends
 brief_ends_so A B false trace so (written, part, (all, ends)) = (written, part, (all, so all written ends))
 
--- what is so of a value, where there is one, is so of the one that is there
+-- what holds of a value, if there is one, holds of the one that there is
 pub some_known : {A : Type 0} (known : Option A) (x : A) (P : A → Type 0) → known ≡ Some x → IfSome known P → P x
 some_known known x P is so = subst (λ k. IfSome k P) is so
 
--- files whose bytes are these, where they are known, have them at their end
+-- files with these bytes, if their bytes are known, have them at their end
 module _ (known : Option (List ℕ)) (bytes : List ℕ) (is : IfSome known (λ taken. taken ≡ bytes)) where
   known_so : (whole : Bool) (trace : List Event) → KnowsEnd whole trace known → KnowsEnd whole trace (Some bytes)
   known_so whole trace ends = by known is ends
@@ -76,7 +77,7 @@ module _ {L fresh : Type 0} (state : L → LogState) (has_ended : Bool → List 
     ends = made.ends;
   }
 
-  -- in files whose bytes are these
+  -- such turns with files that have these bytes
   pub made_traced : (bytes : List ℕ) (calls : List HostCall) → is_some service.trace ≡ true
       → ((whole : Bool) (trace : List Event) → has_ended whole trace → IsWritten service.brief bytes whole trace)
       → MakesLogged state fresh has_ended service table end calls → MakesTraced service table end bytes calls
@@ -87,32 +88,32 @@ module _ {L fresh : Type 0} (state : L → LogState) (has_ended : Bool → List 
         (ended is allowed carried),
   )
 
-  -- and of a run that writes no trace
+  -- such turns of a run that writes no trace
   pub made_untraced : (calls : List HostCall) → is_some service.trace ≡ false
       → MakesLogged state fresh has_ended service table end calls → MakesTraced service table end [] calls
   made_untraced calls none (made, ended, had) =
       (made_now calls made, λ _. refl, λ some. absurd (true≢false (sym some ∙ none)))
 
--- what a run makes over each table that its opening is of, it makes over the inittab at its paths
+-- what a run makes over each table that is that of its opening, it makes over the inittab at its path
 pub ran_to : (text_at : KnownTexts) (service : RunArguments) (conforms : Option HostSettings → Type 0)
-    (opening : OpeningState) (spoken : Spoken) (end : End) (bytes : List ℕ) (old new : RunTold)
+    (opening : StartState) (spoken : RunRemarks) (end : End) (bytes : List ℕ) (old new : RunRecord)
     → HasInittab text_at service (λ parts. TakesParts service parts
-    × (spoken.unled ≡ has_no_level service.level (table_in parts)) × IsOpeningOf service.level (table_in parts) opening
+    × (spoken.unled ≡ has_no_level service.level (table_in parts)) × IsStartOver service.level (table_in parts) opening
     × EndsTold service (told_of parts) spoken.told end old.out new.out)
-    → Since old.opened new.opened (λ saids. saids ≡ service ∷ [])
+    → NewCallsSatisfy old.opened new.opened (λ saids. saids ≡ service ∷ [])
     → new.trace ≡ old.trace ++ bytes
-    → ((table : List Entry) → IsOpeningOf service.level table opening
-    → Since old.calls new.calls (MakesTraced service table end bytes))
+    → ((table : List Entry) → IsStartOver service.level table opening
+    → NewCallsSatisfy old.calls new.calls (MakesTraced service table end bytes))
     → (known : Option HostSettings) × HasSettings service known × conforms known
     → RanBy text_at service conforms (turned spoken end) old new
 ran_to text_at service conforms opening spoken end bytes old new (parts, are, read, (taken, led, opens, (served, told)))
     by grown made (known, has, is) =
     ((parts, are, read, (taken, led, bytes, grown, made (table_in parts) opens, told)), by, known, has, is)
 
--- where memory ran out nothing is asked, whatever the arguments say
+-- if memory ran out, nothing was asked, whatever the arguments are
 pub none_asked : (text_at : KnownTexts) (options : Option InitdArguments) (conforms : Option HostSettings → Type 0)
-    (now : RunTold)
-    → AsksArguments text_at options conforms (refused Memory) now now
+    (now : RunRecord)
+    → CommandLineAsks text_at options conforms (refused Memory) now now
 none_asked text_at None conforms now = (refl, refl)
 none_asked text_at (Some version) conforms now = (refl, refl)
 none_asked text_at (Some (simulates run)) conforms now = (refl, refl)

@@ -1,17 +1,18 @@
--- Which host the words of a run name, and what is known of the hosts over the operating system.
+-- The host that the arguments of a run describe, and what is known of the hosts over the operating system.
 use Rattle.std.specs.Prelude.{List, [], Option, Some, None, ℕ}
 use Rattle.host_calls.specs.Held.{HeldChildren}
 use Rattle.host_calls.specs.Settings.{HostSettings}
 use Rattle.host_files.specs.Channels.{ChannelCall}
-use Rattle.host_system.specs.Asking.{AreAsked}
-use Rattle.host_system.specs.Hearing.{IsHeard}
+use Rattle.host_system.specs.Asking.{AreSystemCallsFor}
+use Rattle.host_system.specs.Hearing.{AreBytesOfChannel}
 use Rattle.host_system.specs.Hosts.{HostState}
 use Rattle.host_system.specs.Systems.{SystemCall}
 use Rattle.initd_command.specs.Words.{HostCall, RunArguments}
 
--- one that reads their inittab, is strict, tells of its children and passes over the requests from before where the
--- words say so, with its logs and groups where they say; none of its calls failed, it read nothing of its channel, and
--- it holds no child; what its system was asked the words don't say
+-- The state of a new host for the arguments of a run. Its inittab, logs, groups and longest delay are those of the
+-- arguments, and so is whether it is strict, reports what children do, and skips earlier requests. None of its calls
+-- failed, it has read nothing of its channel, it has started nothing, and it holds no child. What it asked of the
+-- system is not determined by the arguments.
 abbrev pub host_with : List SystemCall → RunArguments → HostState
 host_with asked service = record {
   faults = 0;
@@ -20,27 +21,32 @@ host_with asked service = record {
   inittab = service.inittab;
   logs = service.logs;
   groups = service.groups;
+  delays = record { longest = service.respawn_delay; time = 0; starts = [] };
   channel = record { fresh = service.fresh; told = []; rest = [] };
   held = [];
   calls = [];
   asked = asked;
 }
 
--- the calls that a host was asked, those that it asked the system, and what its channel's file answered, the newest
--- first
+-- The calls made to a host, the calls that the host made to the system, and what its channel's file answered, newest
+-- first.
 pub record HostsState : Type 0 where
   pub calls : List HostCall
   pub asked : List SystemCall
   pub heard : List ChannelCall
 
--- The calls are those of a host that held no child before them, of these settings, which are known: it reads this
--- inittab, its logs are in that folder, if any, and its children in groups or not. For them, in their order, behind
--- helpers alone, the system was asked just this. The bytes that they took are those that were read of the channel's
--- file, each once and in order, but for those of the last request that are still to come; and each request was read
--- whole, where the one before it ended.
+-- the system was asked exactly what the calls of a host ask, for some settings
+abbrev pub IsAsked : List HostCall → List SystemCall → Type 0
+IsAsked calls asked = (settings : HostSettings) × (held : HeldChildren) × AreSystemCallsFor settings calls held asked
+
+-- The settings are known, and the calls are those of a host with these settings that held no child before them. For
+-- these calls, in their order, the system was asked exactly this, after helpers that were run before the first call.
+-- The bytes that the calls returned are those read from the channel's file, each once and in order, except the rest of
+-- the last request; and each request was read whole, from where the one before it ended, unless the channel was begun
+-- or created anew in between.
 abbrev pub IsOfSystem : HostsState → Option HostSettings → Type 0
 IsOfSystem hosts None = ⊥
 IsOfSystem hosts (Some settings) =
-    ((held : HeldChildren) × AreAsked settings hosts.calls held hosts.asked)
+    ((held : HeldChildren) × AreSystemCallsFor settings hosts.calls held hosts.asked)
     × ((rest : List ℕ)
-    × IsHeard hosts.calls (record { fresh = settings.fresh; told = hosts.heard; rest = rest }))
+    × AreBytesOfChannel hosts.calls (record { fresh = settings.fresh; told = hosts.heard; rest = rest }))

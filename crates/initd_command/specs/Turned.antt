@@ -1,7 +1,7 @@
 -- How the turns of a run ended: its exit status, and what is reported.
 use Rattle.std.specs.Prelude.{◌≡◌, ◌⊎◌, ◌||◌, ◌==◌, if◌then◌else◌, unwrap_or, ℕ, Bool, true, false, List, [], ◌∷◌, ◌++◌}
 use Rattle.std.specs.Prelude.{codes, decimal, Option, Some, None}
-use Rattle.initd_command.specs.Words.{HasReported, ReportList, DONE, UNLAWFUL, LIMIT_REACHED, DEVICE_FAULT, Judgement}
+use Rattle.initd_command.specs.Words.{AppendsReport, ReportList, DONE, UNLAWFUL, LIMIT_REACHED, DEVICE_FAULT, Judgement}
 use Rattle.initd_command.specs.Words.{Status}
 use Rattle.initd_command.specs.Words.{law_words}
 use Rattle.init_words.specs.declared.children.Status.TheVariants.{Exit, Killed}
@@ -9,129 +9,141 @@ use Rattle.trace_log_wrappers.specs.declared.judgements.Judgement.TheVariants.{L
 use Rattle.initd_command.specs.declared.ends.TheConstants.{KILLED, LIMITED, UNJUDGED, UNLOGGED, UNNAMED}
 use Rattle.initd_command.specs.declared.reports.TheConstants.{NO_MEMORY}
 
--- The entry whose result the run's is, and how its last child that ended did so.
+-- The entry of --result, and how its last child that ended did so, if one ended.
 pub record EntryEnd : Type 0 where
   pub id : List ℕ
   pub last : Option Status
 
--- it ended drained, with an entry's result or without one; it made all its turns, and these children with their numbers
--- go on, or there was no memory to note them all, and these lines tell what init waits for; or its trace was not
--- written whole, it made all its turns or not, and so do these
+-- How turns ended:
+-- - `drained`: the run ended because init is drained; with the end of the entry of --result, if that is given
+-- - `limited`: the run made all its turns. These children, with their numbers, are still running (none if there was no
+--   memory to note all of them), and these lines say what init waits for.
+-- - `unlogged`: the trace was not written whole. The flag says whether the run made all its turns, and the lines say
+--   what init waits for.
 pub data TurnsEnd : Type 0 where
   drained : Option EntryEnd → TurnsEnd
   limited : Option (List (List ℕ × ℕ)) → List ℕ → TurnsEnd
   unlogged : Bool → List ℕ → TurnsEnd
 
--- how the turns ended, whether their trace was written whole, and what was found of them, where they were to be judged
+-- how the turns ended; whether their trace was written whole; and the verdict on them, if they were to be judged
 pub record End : Type 0 where
   pub turns : TurnsEnd
   pub whole : Bool
   pub judgement : Option Judgement
 
--- an entry's result as an exit status
+-- the exit status for the last end of an entry
 abbrev pub result_status : Option Status → ℕ
 result_status (Some (Exit code)) = code
 result_status (Some Killed) = KILLED
 result_status None = DEVICE_FAULT
 
+-- the exit status of a run that ended because init is drained
 abbrev pub drained_status : Option EntryEnd → ℕ
 drained_status None = DONE
 drained_status (Some entry) = result_status entry.last
 
--- a breach, and that not all was judged, as an exit status
+-- the exit status for a verdict: for a breach, and if not everything was judged
 abbrev pub judgement_status : Judgement → Option ℕ
 judgement_status (Lawful count) = None
 judgement_status (Breach position law) = Some UNLAWFUL
 judgement_status Unjudged = Some DEVICE_FAULT
 
--- the exit status of turns that would have this one: what was found of them stands in place of 0, and of the limit
+-- the exit status of a run, given that of its turns: a verdict replaces success and the limit of turns
 abbrev pub judged_status : Option Judgement → ℕ → ℕ
 judged_status None status = status
 judged_status (Some judgement) status =
     if status == DONE || status == LIMIT_REACHED then unwrap_or (judgement_status judgement) status else status
 
--- the exit status of how turns ended, whatever was found of them
+-- the exit status of the turns, without a verdict
 abbrev pub turns_status : TurnsEnd → ℕ
 turns_status (drained result) = drained_status result
 turns_status (limited running waiting) = LIMIT_REACHED
 turns_status (unlogged is_limited waiting) = DEVICE_FAULT
 
+-- the exit status of a run
 abbrev pub end_status : End → ℕ
 end_status end = judged_status end.judgement (turns_status end.turns)
 
--- how the last child of an entry ended
+-- the part of a report that says how the last child of an entry ended
 abbrev pub last_text : Option Status → List ℕ
-last_text (Some (Exit code)) = codes " ended with " ++ (decimal code ++ codes "\n")
+last_text (Some (Exit code)) = codes " exited with status " ++ (decimal code ++ codes "\n")
 last_text (Some Killed) = codes " was killed\n"
 last_text None = codes " never ended\n"
 
+-- the report of how the last child of an entry ended
 abbrev pub result_text : EntryEnd → List ℕ
 result_text entry = codes "initd: " ++ (entry.id ++ last_text entry.last)
 
--- a child that goes on: its id and its number
+-- a child that is still running: its id and its number
 abbrev pub child_text : List ℕ × ℕ → List ℕ
 child_text child = child.0 ++ (codes " " ++ decimal child.1)
 
--- children one after the other, with this text before the first of them
+-- the children, separated by commas, with this text before the first one
 abbrev pub listed_after : List ℕ → List (List ℕ × ℕ) → List ℕ
 listed_after front [] = []
 listed_after front (child ∷ children) = front ++ (child_text child ++ listed_after (codes ", ") children)
 
+-- the report of the children that are still running
 abbrev pub running_text : List (List ℕ × ℕ) → List ℕ
 running_text children = listed_after (codes "initd: still running: ") children ++ codes "\n"
 
--- that so many happenings broke no law: those of the whole run, or those that were judged of one whose log failed
+-- the report that this many happenings broke no law: those of the whole run, or, if its log failed, those that were
+-- judged
 abbrev pub lawful_text : Bool → ℕ → List ℕ
 lawful_text true count = codes "initd: the run was lawful: " ++ (decimal count ++ codes " happenings\n")
 lawful_text false count =
-    codes "initd: what was judged of the run was lawful: " ++ (decimal count ++ codes " happenings\n")
+    codes "initd: the judged part of the run was lawful: " ++ (decimal count ++ codes " happenings\n")
 
+-- the report that the happening at this position breaks a law
 abbrev pub breach_text : ℕ → List ℕ → List ℕ
 breach_text position why =
     codes "initd: the run was unlawful: happening " ++ (decimal position ++ (codes ": " ++ (why ++ codes "\n")))
 
--- what was found of a run, which was logged whole or not, as it is reported
+-- the report of the verdict on a run, given whether its trace was written whole
 abbrev pub judgement_text : Bool → Judgement → List ℕ
 judgement_text whole (Lawful count) = lawful_text whole count
 judgement_text whole (Breach position law) = breach_text position (law_words law)
 judgement_text whole Unjudged = UNJUDGED.now
 
--- the text is reported, as far as the writer takes it, or that there was no memory for it
+-- the text is reported, or that there was no memory for it
 abbrev pub ReportsText : List ℕ → ReportList → ReportList → Type 0
-ReportsText text old new = HasReported old new text ⊎ HasReported old new NO_MEMORY.now
+ReportsText text old new = AppendsReport old new text ⊎ AppendsReport old new NO_MEMORY.now
 
+-- the last end of the entry of --result is reported, if that is given
 abbrev pub ReportsResult : Option EntryEnd → ReportList → ReportList → Type 0
 ReportsResult None old new = new ≡ old
 ReportsResult (Some entry) old new = ReportsText (result_text entry) old new
 
--- what is reported of the children that go on
+-- the children that are still running are reported, if there are any; or that there was no memory to note all of them
 abbrev pub ReportsRunning : Option (List (List ℕ × ℕ)) → ReportList → ReportList → Type 0
-ReportsRunning None old new = HasReported old new UNNAMED.now
+ReportsRunning None old new = AppendsReport old new UNNAMED.now
 ReportsRunning (Some []) old new = new ≡ old
 ReportsRunning (Some (child ∷ children)) old new = ReportsText (running_text (child ∷ children)) old new
 
--- what is reported of a run that was to be judged
+-- the verdict is reported, if the run was to be judged
 abbrev pub ReportsJudgement : Bool → Option Judgement → ReportList → ReportList → Type 0
 ReportsJudgement whole None old new = new ≡ old
 ReportsJudgement whole (Some judgement) old new = ReportsText (judgement_text whole judgement) old new
 
--- what is reported where all turns were made
+-- what is reported if all turns were made: that the limit is reached, the children that are still running, and what
+-- init waits for
 abbrev pub ReportsLimit : Option (List (List ℕ × ℕ)) → List ℕ → ReportList → ReportList → Type 0
 ReportsLimit running waiting old new =
-    (limit : ReportList) × HasReported old limit LIMITED.now
+    (limit : ReportList) × AppendsReport old limit LIMITED.now
     × (mid : ReportList) × ReportsRunning running limit mid × ReportsText waiting mid new
 
--- what is reported of how turns ended; which children are named where the trace was not written whole is not said
+-- what is reported about how the turns ended; if the trace was not written whole, this leaves open which children are
+-- named
 abbrev pub ReportsTurns : TurnsEnd → ReportList → ReportList → Type 0
 ReportsTurns (drained result) old new = ReportsResult result old new
 ReportsTurns (limited running waiting) old new = ReportsLimit running waiting old new
 ReportsTurns (unlogged true waiting) old new =
-    (lost : ReportList) × HasReported old lost UNLOGGED.now
+    (lost : ReportList) × AppendsReport old lost UNLOGGED.now
     × (running : Option (List (List ℕ × ℕ))) × ReportsLimit running waiting lost new
 ReportsTurns (unlogged false waiting) old new =
-    (lost : ReportList) × HasReported old lost UNLOGGED.now × ReportsText waiting lost new
+    (lost : ReportList) × AppendsReport old lost UNLOGGED.now × ReportsText waiting lost new
 
--- what is reported of an end
+-- what is reported about how a run ended
 abbrev pub ReportsEnd : End → ReportList → ReportList → Type 0
 ReportsEnd end old new = (mid : ReportList) × ReportsTurns end.turns old mid
     × ReportsJudgement end.whole end.judgement mid new

@@ -1,4 +1,4 @@
-//! `initd check`: a trace file, judged.
+//! `initd check`: judging the file of a trace.
 
 ghost use Rattle.std.specs.Prelude.{◌≡◌, [], option_map, string_bytes, IfOk};
 ghost use Rattle.initd_command.specs.Words.{check_of};
@@ -21,8 +21,8 @@ use std::rt::Files;
 use trace_pieces::PiecedFiles;
 use trace_verdict::{Breach, Finding, TextJudge};
 
-/// What is told of a trace beside what is found: its path, if it begins within a run; the line at which its last
-/// happening isn't finished, if at any; and how many happenings it has.
+/// What is reported about a trace besides the verdict: its path, if it begins within a run; the line at which its last
+/// happening begins, if that is incomplete; and the number of its complete happenings.
 #[derive(Clone, Copy)]
 struct JudgedTrace<'a> {
     within: Option<&'a str>,
@@ -30,8 +30,8 @@ struct JudgedTrace<'a> {
     count: u64,
 }
 
-/// The judge of a trace whose text is read in pieces, and the text's first byte; and the path of the text, with what tells
-/// that it is compressed.
+/// The judge of a trace whose text is read in pieces, with the first byte of the text, and with its path and the
+/// runtime to report that the text is compressed.
 #[derive(Drop)]
 struct FileJudge<'a, R> {
     judge: TextJudge,
@@ -40,7 +40,7 @@ struct FileJudge<'a, R> {
     rt: &'a R,
 }
 
-/// The program that unpacks a text that begins so, where that is compressed.
+/// Returns the program that decompresses a text with this beginning, if the text is compressed.
 fn unpacker(piece: &[u8]) -> Option<&'static str> {
     match piece {
         [0x1f, 0x8b, ..] => Some("zcat"),
@@ -50,10 +50,10 @@ fn unpacker(piece: &[u8]) -> Option<&'static str> {
     }
 }
 
-/// Tells that the text of a path is compressed, where it begins so.
+/// Reports that the text at a path is compressed, if its beginning shows that.
 fn tell_packed<R: Eprint>(rt: &R, path: &str, piece: &[u8]) {
     if let Some(unpacker) = unpacker(piece) {
-        let _ = eprintln!(rt; "initd: {path} is compressed: {unpacker} {path} | initd check -");
+        let _ = eprintln!(rt; "initd: {path} is compressed; use {unpacker} {path} | initd check -");
     }
 }
 
@@ -74,7 +74,7 @@ impl<R: Eprint> PieceTaker for FileJudge<'_, R> {
     }
 }
 
-/// A judge that has taken none, on the heap: a function that has one in its frame is dear to prove.
+/// Returns a judge that has taken no text, on the heap: proving a function with one in its stack frame is expensive.
 fn file_judge<'a, R>(
     rt: &'a R,
     alloc: Global,
@@ -91,7 +91,7 @@ fn file_judge<'a, R>(
     Ok(Box::new(alloc, judge)?)
 }
 
-/// Reads a trace, with the pieces that were put away before it where they are asked for, and judges it.
+/// Reads a trace, with the pieces that were put away before it if they are asked for, and judges it.
 pub(crate) fn check_files<R: Files<File = File> + Eprint, T: Texts, W: Write, E: Reporter>(
     rt: &R,
     texts: &T,
@@ -134,7 +134,7 @@ fn check_file<R: Eprint, T: Texts, W: Write, E: Reporter>(
     }
 }
 
-/// Hands a trace to a judge that has taken none, and tells what it found.
+/// Hands a trace to a judge that has taken no text, and writes and reports what the judge found.
 fn judge_text<R: Eprint, T: Texts, W: Write, E: Reporter>(
     texts: &T,
     alloc: Global,
@@ -165,7 +165,7 @@ fn judge_text<R: Eprint, T: Texts, W: Write, E: Reporter>(
     }
 }
 
-/// The path of a text that begins within a run: its first happening is not a table's.
+/// Returns the path of a text that begins within a run: its first happening is not a table.
 fn within_of(path: &str, first: Option<u8>, count: u64) -> Option<&str>
     ensures { option_map (λ path. path.now) result ≡ within_of path.now first count }
 {
@@ -175,14 +175,14 @@ fn within_of(path: &str, first: Option<u8>, count: u64) -> Option<&str>
     }
 }
 
-/// The line at which a text isn't finished, where that counts: it isn't growing.
+/// Returns the line at which the last happening is incomplete, unless the trace is growing.
 fn cut_at(growing: bool, open_line: Option<u64>) -> Option<u64>
     ensures { result ≡ cut_at growing open_line }
 {
     if growing { None } else { open_line }
 }
 
-/// Tells what is found of a text, or that it isn't finished.
+/// Writes and reports the finding on a text, or reports that the text is incomplete.
 fn tell_text<W: Write, E: Reporter>(
     alloc: Global,
     growing: bool,
@@ -203,7 +203,7 @@ fn tell_text<W: Write, E: Reporter>(
     }
 }
 
-/// Tells what is found of a text, and beside it what else there is to tell.
+/// Writes the verdict on a text, and reports what else there is to report about it.
 fn tell_finding<W: Write, E: Reporter>(
     alloc: Global,
     finding: &Finding,
@@ -223,7 +223,7 @@ fn tell_finding<W: Write, E: Reporter>(
     }
 }
 
-/// What is reported where the verdict could not be written.
+/// The report if the verdict could not be written.
 const UNWRITTEN: &str = "initd: the verdict could not be written\n";
 
 /// Writes that the trace is lawful.
@@ -245,7 +245,7 @@ fn tell_lawful<W: Write, E: Reporter>(
     DONE
 }
 
-/// Writes where the breach is, and tells a person its line and the law.
+/// Writes the position of the breach, and reports its line and the law in words.
 fn tell_breach<W: Write, E: Reporter>(
     alloc: Global,
     breach: &Breach,
@@ -273,14 +273,14 @@ fn tell_breach<W: Write, E: Reporter>(
     UNLAWFUL
 }
 
-/// The verdict on a trace whose happening of this place, from 0, breaks this law.
+/// Returns the verdict on a trace whose happening at this position, counted from 0, breaks this law.
 fn verdict_text(alloc: Global, position: u64, law: u8) -> Result<String, AllocError>
     ensures { IfOk result (λ text. string_bytes text ≡ verdict_text position law) }
 {
     format!(in alloc; "unlawful: happening {position}, law {law}\n")
 }
 
-/// The verdict by what is found.
+/// Returns the verdict for a finding.
 fn verdict_of(alloc: Global, finding: &Finding) -> Result<String, AllocError>
     ensures { IfOk result (λ text. string_bytes text ≡ verdict_of finding.now) }
 {
@@ -291,7 +291,7 @@ fn verdict_of(alloc: Global, finding: &Finding) -> Result<String, AllocError>
     }
 }
 
-/// The line of the trace at fault with its number, and the law in words.
+/// Returns the line of the trace at which the breach is, with its number, and the law in words.
 fn breach_message(alloc: Global, breach: &Breach) -> Result<Vec<u8>, AllocError>
     ensures { IfOk result (λ text. text.items ≡ breach_message breach.now) }
 {
@@ -307,8 +307,8 @@ fn breach_message(alloc: Global, breach: &Breach) -> Result<Vec<u8>, AllocError>
     Ok(text)
 }
 
-/// Tells of a trace that was judged that it begins within a run, how many happenings it has, and the line at which the
-/// last one isn't finished.
+/// Reports about a trace that was judged: that it begins within a run, the number of its happenings, and the line at
+/// which the last one is incomplete.
 fn report_judged<E: Reporter>(alloc: Global, judged: JudgedTrace, err: &mut E)
     ensures { ReportsJudged (judged_of judged.entry) (E.reports err.old) (E.reports err.new) }
 {
@@ -318,7 +318,7 @@ fn report_judged<E: Reporter>(alloc: Global, judged: JudgedTrace, err: &mut E)
     report_open_line(alloc, judged.open_line, err);
 }
 
-/// Tells that the trace of a path begins within a run.
+/// Reports that the trace at a path begins within a run.
 fn report_within<E: Reporter>(alloc: Global, within: Option<&str>, err: &mut E)
     ensures { ReportsWithin (option_map (λ path. path.now) within.entry)
         (E.reports err.old) (E.reports err.new) }
@@ -331,12 +331,10 @@ fn report_within<E: Reporter>(alloc: Global, within: Option<&str>, err: &mut E)
 fn within_text(alloc: Global, path: &str) -> Result<String, AllocError>
     ensures { IfOk result (λ text. string_bytes text ≡ within_message path.now) }
 {
-    format!(in alloc;
-        "initd: {path} begins within a run: judged as if nothing had come before it\n"
-    )
+    format!(in alloc; "initd: {path} begins within a run; judged as if nothing came before it\n")
 }
 
-/// Tells the line at which the last happening of a trace isn't finished.
+/// Reports the line at which the last happening of a trace is incomplete.
 fn report_open_line<E: Reporter>(alloc: Global, open_line: Option<u64>, err: &mut E)
     ensures { ReportsOpenLine open_line (E.reports err.old) (E.reports err.new) }
 {
@@ -349,11 +347,12 @@ fn left_text(alloc: Global, line: u64) -> Result<String, AllocError>
     ensures { IfOk result (λ text. string_bytes text ≡ left_message line) }
 {
     format!(in alloc;
-        "initd: the happening at trace line {line} is not finished: judged up to the line before it\n"
+        "initd: the happening at trace line {line} is incomplete; judged up to the line before it\n"
     )
 }
 
-/// Reports that the happening at a line of a trace isn't finished, and what is found up to it, and gives the exit status.
+/// Reports that the happening at a line of a trace is incomplete, with the verdict on what comes before it, and returns
+/// the exit status.
 fn report_unfinished<E: Reporter>(alloc: Global, line: u64, finding: &Finding, err: &mut E) -> u8
     ensures status { result ≡ REFUSED }
     ensures reported { ReportsText (unfinished_message line (verdict_of finding.now))
@@ -370,17 +369,17 @@ fn unfinished_text(alloc: Global, line: u64, finding: &Finding) -> Result<String
     let verdict = verdict_of(alloc, finding)?;
     let verdict = verdict.as_str();
     format!(in alloc;
-        "initd: the happening at trace line {line} is not finished: --growing judges what stands before it: {verdict}"
+        "initd: the happening at trace line {line} is incomplete; use --growing to judge what comes before it: {verdict}"
     )
 }
 
-/// Reports that a line of a trace is none, and gives the exit status.
+/// Reports that no happening begins at a line of a trace, and returns the exit status.
 fn report_torn<E: Reporter>(alloc: Global, number: u64, err: &mut E) -> u8
     ensures status { result ≡ REFUSED }
     ensures reported { ReportsText (torn_message number) (E.reports err.old) (E.reports err.new) }
 {
     report_made(
-        format!(in alloc; "initd: trace line {number} is not a line\n"),
+        format!(in alloc; "initd: trace line {number} is not a happening\n"),
         err,
     );
     REFUSED

@@ -1,9 +1,9 @@
-//! The words of `initd`, and which work they ask for.
+//! The arguments of `initd`, and the commands that they name.
 
 ghost use Rattle.std.specs.Prelude.{◌≡◌, map, option_map, string_bytes};
 ghost use Rattle.initd_command.specs.Endings.{Ending, Reports, ReportsAll, ReportsRefused, status_of, usage_named, usage_of};
-ghost use Rattle.initd_command.specs.Ran.{AsksBy};
-ghost use Rattle.initd_command.specs.Runs.{EndsBy, EndsVersion};
+ghost use Rattle.initd_command.specs.Ran.{ArgumentsAsk};
+ghost use Rattle.initd_command.specs.Runs.{ArgumentsEnd, EndsVersion};
 
 use crate::check::check_files;
 use crate::hosts::Hosts;
@@ -21,90 +21,96 @@ use std::process::Processes;
 use std::rt::{Clock, Files};
 use trace_files::Traces;
 
-/// What standard error gets where help with a command is asked for.
+/// The report if help with the command is requested.
 const RUN_USAGE: &str = "usage: initd run [OPTION]..
-  --inittab P      the inittab(5); inittab where it is left out
+  --inittab P      the inittab(5) to read; default: inittab
   --inittab-dir DIR
-                   the folder whose files NAME.tab are read after the inittab;
-                   none where it is left out
-  --initctl P      the file to which telinit appends requests; initctl where it
-                   is left out
-  --fresh          pass over the requests that the file has already
-  --state P        the file that carries init's state where init re-executes
-                   itself; initd.state where it is left out
-  --trace P        the file that the trace of the run is written to; none where
-                   it is left out
+                   also read the files NAME.tab of DIR, after the inittab
+  --initctl P      the file to which telinit appends requests; default: initctl
+  --fresh          skip the requests that the file already holds
+  --state P        the file that carries init's state when init re-executes
+                   itself; default: initd.state
+  --trace P        write a trace of the run to P; default: no trace
   --trace-size SIZE
-                   put the trace's file away as P.1, P.2, .. where it has grown
-                   so long, 4K to 1024G, and go on in a new one; K, M and G are
-                   1024 bytes, 1024 K and 1024 M
-  --trace-keep N   remove the oldest of these where there are more than N
+                   when the trace reaches SIZE, 4K to 1024G, rename it to P.1,
+                   P.2, .. and continue in a new file; K, M and G are 1024
+                   bytes, 1024 K and 1024 M
+  --trace-keep N   remove the oldest of these if there are more than N
   --brief          leave looks that found nothing and idle rounds out of the
-                   trace, of which there has to be one
-  --judge          judge each happening while the run goes on, as check judges a
-                   trace, and tell a breach at once; the run ends with 2 then,
-                   in place of 0 or 3
-  --level L        the runlevel to go to, 0 to 9, S or s; the inittab's
-                   initdefault where it is left out
-  --turns N        the greatest number of turns, 1 to 1000000000; 1000000 where
-                   it is left out
-  --forever        no limit of turns; it is refused beside a limit
-  --drain          end where nothing is left to do and nothing runs
+                   trace; requires --trace
+  --judge          judge each happening during the run, as check judges a trace,
+                   and report a breach at once; the run then exits with status 2
+                   instead of 0 or 3
+  --level L        the runlevel to go to, 0 to 9, S or s; default: the inittab's
+                   initdefault
+  --turns N        stop after N turns, 1 to 1000000000; default: 1000000
+  --forever        do not limit the turns; cannot be combined with --turns
+  --drain          exit when nothing is left to do and nothing runs
   --pause SEC      the longest pause between two turns, 0.01 to 60 seconds, with
-                   at most two digits after the point; 1 where it is left out;
-                   where something happened, and where looks at the children
-                   cost little and the trace has none, it is shorter
-  --result ID      end with the last exit status of the entry of that id, in
-                   place of 0; 137 where it was killed, 4 where it never ended;
-                   an id that the inittab has not is refused
-  --verbose        tell each start, end and signal of a child, each file of the
-                   inittab's folder that is passed over, and each minute for
-                   what an unsettled stage waits
-  --logs DIR       the folder that the output of each entry is written to, a
-                   file an entry
-  --groups         start each child in a session of its own, by setsid(1), and
-                   send TERM and KILL to its process group
-  --strict         take no inittab that has a faulty line: the run is refused at
-                   its opening, and later the inittab before stays in force
-  --stamp          put the time in front of each line that the run prints while
-                   it goes on
-  --bell           make the FIFO that telinit rings, P.bell beside the file of
-                   requests, where there is none: a request is heard at once
-                   then
+                   at most two decimals; default: 1, or 60 with --watch and
+                   --bell; the pause is shorter after something happened, and
+                   while looks at the children cost little and the trace has
+                   none
+  --result ID      exit with the last exit status of the entry ID instead of 0;
+                   137 if it was killed, 4 if it never ended; an id that is not
+                   in the inittab is rejected
+  --verbose        report each start, end and signal of a child, each skipped
+                   file of the inittab's folder, and each minute what an
+                   unsettled stage is waiting for
+  --logs DIR       write the output of each entry to a file of its own in DIR
+  --groups         start each child in its own session, with setsid(1), and send
+                   TERM and KILL to its process group
+  --respawn-delay MAX
+                   start a respawned entry after a delay, in seconds, that
+                   doubles from 1 to MAX, 1 to 3600, until a child has run for
+                   MAX seconds; default: no delay
+  --strict         reject an inittab with faulty lines: at startup the run is
+                   refused, later the previous inittab stays in force
+  --stamp          put the time in front of each line printed during the run
+  --bell           create the FIFO that telinit rings, P.bell beside the file of
+                   requests, if it does not exist; requests are then read at
+                   once
+  --watch          watch the children by waitpid(1) or perl(1), so that the end
+                   of one ends a pause
 ";
 
 const SIMULATE_USAGE: &str = "usage: initd simulate [--level L] TABLE SCRIPT
-  --level L        the runlevel to go to, 0 to 9, S or s; the inittab's
-                   initdefault where it is left out
+  --level L        the runlevel to go to, 0 to 9, S or s; default: the inittab's
+                   initdefault
   TABLE            an inittab(5)
-  SCRIPT           what the system did, one happening a line
+  SCRIPT           what the system did, one happening per line
 ";
 
 const CHECK_USAGE: &str = "usage: initd check [--growing] [--pieces] TRACE
-  --growing        judge a trace that is still written up to its last whole
-                   happening
-  --pieces         judge with the trace the pieces TRACE.1, TRACE.2, .. that
-                   were put away before it
-  TRACE            a trace of init, which is judged
+  --growing        judge a trace that is still being written, up to its last
+                   complete happening
+  --pieces         also judge the pieces TRACE.1, TRACE.2, .. that were rotated
+                   before it
+  TRACE            the trace to judge
 ";
 
-/// What it gets behind them where help with none is asked for.
+/// The end of the report if help without a command is requested; it follows the usage of all commands.
 const VERSION_USAGE: &str = "usage: initd --version\n";
 
-/// What standard error gets of words that are no command line, behind a line that says why.
+/// The usage that is reported for arguments that are not a command line, after the line that says why.
 pub const SHORT_USAGE: &str =
     "usage: initd run [OPTION].. | simulate TABLE SCRIPT | check TRACE | --help\n";
 
-/// What is reported where the version could not be written.
+/// The report if the version could not be written.
 const UNVERSIONED: &str = "initd: the version could not be written\n";
 
-/// Runs initd on a command line without the program's name, and gives its exit status: 0 where it was carried out, 1
-/// where the words, the inittab, the script or the lines of a trace are refused, 2 where a trace, or a run with
-/// `--judge`, is unlawful, 3 where a run used up its turns, 4 where a file can't be read, the channel is in use, the
-/// trace or the output fails or memory runs out; of a run with `--result` that ends drained, the last status of that
-/// entry. The trace of a simulated run, the verdict on a trace, the faults of the inittab of a run or the version are
-/// written on `out`, and a fault is reported on `err`. The turns of a run are made over a host of the source of hosts,
-/// and its trace is written to files of the source of these; each takes back what it gave.
+/// Runs initd with these arguments, without the program's name, and returns its exit status.
+///
+/// - 0: success
+/// - 1: the arguments, the inittab, the script or a line of a trace were rejected
+/// - 2: a trace, or a run with `--judge`, is unlawful
+/// - 3: a run used up its turns
+/// - 4: a file could not be read, the channel is in use, the trace or the output failed, or memory ran out
+/// - for a run with `--result` that ends drained, the last status of that entry
+///
+/// The trace of a simulated run, the verdict on a trace, the faults of the inittab of a run, and the version are
+/// written to `out`; faults are reported on `err`. A run makes its turns over a host from `hosts`, and writes its trace
+/// to files from `traces`; it gives both back.
 pub fn run_words<R, T, H, S, F, W, E>(
     rt: &R,
     texts: &T,
@@ -123,14 +129,19 @@ where
     F: Traces,
     W: Write,
     E: Reporter,
-    // it ends for a reason of which its status, output and report are; of hosts a run asks what its turns ask, and nothing
-    // else asks anything; and the files of a run's trace took the text of the trace of these calls, or where its log
-    // failed a front of that, and nothing else
+    // There is an ending from which everything follows: the exit status (`status_of`), what is written to `out`, given
+    // the arguments and the known texts (`ArgumentsEnd`), and what is reported on `err` (`Reports`). A run that comes to its
+    // turns makes exactly the calls of its turns to its host (`MakesTurns`), and its files of the trace take the text
+    // of the trace of these calls (with `--brief`, of its brief form), or, if its log failed, a prefix of it, and
+    // nothing else. The property `conforms` of the source of hosts then holds; for hosts over the operating system it
+    // states what the system was asked (`IsOfSystem`). Any other ending makes no call to a host and writes no trace
+    // (`ArgumentsAsk`).
     ensures { (ending : Ending) × (result ≡ status_of ending)
-        × EndsBy (T.text_at texts.now) (map string_bytes words.items) ending
+        × ArgumentsEnd (T.text_at texts.now) (map string_bytes words.items) ending
         (W.contents out.old) (W.contents out.new)
         × Reports ending (E.reports err.old) (E.reports err.new)
-        × AsksBy (T.text_at texts.now) (map string_bytes words.items) (S.conforms hosts.new) ending
+        × ArgumentsAsk (T.text_at texts.now) (map string_bytes words.items)
+        (S.conforms hosts.new) ending
         (record {
           opened = S.opened hosts.old;
           calls = S.told hosts.old;
@@ -167,8 +178,8 @@ fn tell_version<W: Write, E: Reporter>(out: &mut W, err: &mut E) -> u8
     DEVICE_FAULT
 }
 
-/// Reports why words are refused, with a line of usage. Where no reason is given, since help is asked for, it reports the
-/// usage of the command that they begin with, or of all.
+/// Reports why the arguments were rejected, with the short usage. If the reason is empty, because help was requested,
+/// it reports the usage of the command that they begin with, or of all commands.
 fn report_refused<E: Reporter>(words: &[String], reason: &str, err: &mut E) -> u8
     ensures status { result ≡ REFUSED }
     ensures reported { ReportsRefused (usage_named (map string_bytes words.now)) reason.now
@@ -181,7 +192,7 @@ fn report_refused<E: Reporter>(words: &[String], reason: &str, err: &mut E) -> u
     }
 }
 
-/// The usage of the command that words begin with.
+/// Returns the usage of the command that the arguments begin with.
 fn usage_named(words: &[String]) -> Option<&'static str>
     ensures { option_map (λ usage. usage.now) result ≡ usage_named (map string_bytes words.now) }
 {

@@ -1,4 +1,4 @@
-//! How the turns of a run ended, as it is reported, and the exit status.
+//! Reports of how the turns of a run ended, and the exit status.
 
 ghost use Rattle.std.specs.Prelude.{◌≡◌, ◌++◌, ◌&&◌, ℕ, List, [], Option, None, Some, option_map, string_bytes, IfOk, OnOk};
 ghost use Rattle.initd_command.specs.Words.{run_of, waiting_text};
@@ -6,33 +6,33 @@ ghost use Rattle.initd_command.specs.Services.{end_of, entry_end, noted_of, turn
 ghost use Rattle.initd_command.specs.Turned.{ReportsEnd, ReportsJudgement, ReportsLimit, ReportsResult, ReportsRunning, ReportsText, ReportsTurns, breach_text, child_text, drained_status, end_status, judged_status, judgement_text, lawful_text, result_status, result_text, running_text, turns_status};
 
 use crate::reports::{report, report_lines, report_made};
-use core_steps::Core;
 use core_waiting::waiting_lines;
 use indexmap::IndexMap;
-use init_turns::Served;
 use init_words::{ChildNumber, Id, Status};
 use initd_options::RunWords;
 use itoa::Buffer;
+use level_core::Core;
 use program_io::{DEVICE_FAULT, DONE, LIMIT_REACHED, Reporter, UNLAWFUL};
 use std::alloc::{AllocError, Global};
+use supervisor::Served;
 use trace_log_wrappers::{Judgement, Numbers, RunNotes};
 
-/// What is reported where a run made all its turns.
-const LIMITED: &str = "initd: the limit of turns is reached\n";
+/// The report if a run made all its turns.
+const LIMITED: &str = "initd: turn limit reached\n";
 
-/// What is reported where the trace was not written whole.
+/// The report if the trace was not written whole.
 const UNLOGGED: &str = "initd: the trace could not be written\n";
 
-/// What is reported in place of the children that go on.
-const UNNAMED: &str = "initd: there was no memory to name all children that go on\n";
+/// The report in place of the children that are still running, if there was no memory to note all of them.
+const UNNAMED: &str = "initd: out of memory: not all children that keep running could be listed\n";
 
-/// What is reported of a run whose judge had no memory to judge it to its end.
-const UNJUDGED: &str = "initd: there was no memory to judge the run to its end\n";
+/// The report on a run whose judge had no memory to judge it to its end.
+const UNJUDGED: &str = "initd: out of memory: the run could not be judged to its end\n";
 
-/// The exit status of a run whose entry's last child was killed.
+/// The exit status of a run if the last child of its entry was killed.
 const KILLED: u8 = 137;
 
-/// Reports how the turns of a run ended, and gives its exit status.
+/// Reports how the turns of a run ended, and returns its exit status.
 pub(crate) fn report_end<E: Reporter>(
     alloc: Global,
     options: &RunWords,
@@ -53,7 +53,7 @@ pub(crate) fn report_end<E: Reporter>(
     judged_status(judgement, status)
 }
 
-/// Reports how turns ended, and gives the exit status that they have by themselves.
+/// Reports how the turns ended, and returns their exit status, without a verdict.
 fn report_turns<E: Reporter>(
     alloc: Global,
     options: &RunWords,
@@ -87,7 +87,7 @@ fn report_turns<E: Reporter>(
     LIMIT_REACHED
 }
 
-/// Reports that all turns were made, the children that go on, and what init waits for.
+/// Reports that all turns were made, the children that are still running, and what init waits for.
 fn report_limit<E: Reporter>(alloc: Global, notes: &RunNotes, core: &Core, err: &mut E)
     ensures { ReportsLimit (noted_of notes.now [] None).running (waiting_text core.now)
         (E.reports err.old) (E.reports err.new) }
@@ -97,7 +97,8 @@ fn report_limit<E: Reporter>(alloc: Global, notes: &RunNotes, core: &Core, err: 
     report_waiting(alloc, core, err);
 }
 
-/// The same where the trace was lost, and with it what is noted of later children: those are named that init has.
+/// Reports the same if the trace was lost, and with it the notes on later children. It names the children in init's
+/// records.
 fn report_lost_limit<E: Reporter>(alloc: Global, core: &Core, err: &mut E)
     ensures { (running : Option (List (List ℕ × ℕ))) × ReportsLimit running
         (waiting_text core.now) (E.reports err.old) (E.reports err.new) }
@@ -108,7 +109,7 @@ fn report_lost_limit<E: Reporter>(alloc: Global, core: &Core, err: &mut E)
     report_waiting(alloc, core, err);
 }
 
-/// The children that init has; None where there is no memory for them.
+/// Returns the children in init's records; `None` if there is no memory for them.
 fn children_of(alloc: Global, core: &Core) -> Option<Numbers> {
     let mut children: Numbers = IndexMap::new(alloc);
     for record in core.slots().as_slice() {
@@ -119,7 +120,7 @@ fn children_of(alloc: Global, core: &Core) -> Option<Numbers> {
     Some(children)
 }
 
-/// Reports these children, where there are any, or that there was no memory for them.
+/// Reports these children, if there are any, or that there was no memory for them.
 fn report_children<E: Reporter>(alloc: Global, children: &Option<Numbers>, err: &mut E)
     ensures { ReportsRunning (option_map (λ numbers. numbers.entries) children.now)
         (E.reports err.old) (E.reports err.new) }
@@ -138,8 +139,7 @@ fn report_waiting<E: Reporter>(alloc: Global, core: &Core, err: &mut E)
     report_lines(waiting_lines(alloc, core), err);
 }
 
-/// The exit status of turns that have this one by themselves: what was found of them stands in place of 0 and of the
-/// limit.
+/// Returns the exit status of a run, given that of its turns: a verdict replaces success and the limit of turns.
 fn judged_status(judgement: Option<Judgement>, status: u8) -> u8
     ensures { result ≡ judged_status judgement status }
 {
@@ -153,7 +153,8 @@ fn judged_status(judgement: Option<Judgement>, status: u8) -> u8
     }
 }
 
-/// Reports what was found of a run that was to be judged, and was logged whole or up to where the log failed.
+/// Reports the verdict on a run that was to be judged; it is that on the whole run, or on the part before its log
+/// failed.
 fn report_judgement<E: Reporter>(
     alloc: Global,
     whole: bool,
@@ -183,7 +184,7 @@ fn lawful_text(alloc: Global, whole: bool, count: u64) -> Result<String, AllocEr
     if whole {
         return format!(in alloc; "initd: the run was lawful: {count} happenings\n");
     }
-    format!(in alloc; "initd: what was judged of the run was lawful: {count} happenings\n")
+    format!(in alloc; "initd: the judged part of the run was lawful: {count} happenings\n")
 }
 
 fn breach_text(alloc: Global, position: u64, why: &str) -> Result<String, AllocError>
@@ -192,7 +193,7 @@ fn breach_text(alloc: Global, position: u64, why: &str) -> Result<String, AllocE
     format!(in alloc; "initd: the run was unlawful: happening {position}: {why}\n")
 }
 
-/// Reports how the last child of an entry ended, where a run has an entry's result, and gives the exit status.
+/// Reports how the last child of the entry of `--result` ended, if that is given, and returns the exit status.
 fn report_result<E: Reporter>(alloc: Global, entry: Option<Id>, notes: &RunNotes, err: &mut E) -> u8
     ensures status { result ≡ drained_status (entry_end (noted_of notes.now [] None).last entry) }
     ensures reported { ReportsResult (entry_end (noted_of notes.now [] None).last entry)
@@ -221,13 +222,13 @@ fn result_text(alloc: Global, id: &str, last: Option<Status>) -> Result<String, 
         string_bytes text ≡ result_text (record { id = id.now; last = last })) }
 {
     match last {
-        Some(Status::Exit(code)) => format!(in alloc; "initd: {id} ended with {code}\n"),
+        Some(Status::Exit(code)) => format!(in alloc; "initd: {id} exited with status {code}\n"),
         Some(Status::Killed) => format!(in alloc; "initd: {id} was killed\n"),
         None => format!(in alloc; "initd: {id} never ended\n"),
     }
 }
 
-/// Reports the children that go on, where there are any, or that there was no memory to note them all.
+/// Reports the children that are still running, if there are any, or that there was no memory to note all of them.
 fn report_running<E: Reporter>(alloc: Global, notes: &RunNotes, err: &mut E)
     ensures { ReportsRunning (noted_of notes.now [] None).running (E.reports err.old)
         (E.reports err.new) }
@@ -252,7 +253,7 @@ fn running_text(alloc: Global, running: &Numbers) -> Result<Vec<u8>, AllocError>
     Ok(text)
 }
 
-/// Adds a child that goes on, after a text.
+/// Adds a child that is still running to a text, after `front`.
 fn add_child(
     text: &mut Vec<u8>,
     front: &[u8],

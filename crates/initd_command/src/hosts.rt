@@ -1,9 +1,9 @@
-//! Where the host of a run comes from.
+//! The source of the host of a run.
 
 ghost use Rattle.std.specs.Prelude.{◌≡◌, ◌∷◌, [], List, Option, IfOk, OnErr, OnOk};
 ghost use Rattle.host_calls.specs.Settings.{HostSettings};
 ghost use Rattle.initd_command.specs.Ran.{HasSettings};
-ghost use Rattle.initd_command.specs.Words.{HostCall, Since, RunArguments, run_of};
+ghost use Rattle.initd_command.specs.Words.{HostCall, NewCallsSatisfy, RunArguments, run_of};
 
 use host_calls::Host;
 use init_words::Memory;
@@ -11,34 +11,36 @@ use initd_options::RunWords;
 use program_io::ChannelLock;
 use std::alloc::Global;
 
-/// Where the host of a run comes from, and who takes it back behind the turns.
+/// A source of hosts, which takes them back after the turns.
 ///
-/// A contract sees of it the calls that its hosts were asked, where they tell them, and what these hosts asked the system
+/// A contract sees the calls that were made to its hosts, if they record them, and what these hosts asked of the system
 /// for them.
 pub trait Hosts<H: Host> {
-    /// The calls of its hosts with their answers, the newest first. None from the first call that isn't told.
+    /// The calls made to its hosts, with their answers, newest first. `None` from the first call that is not recorded.
     ghost told: { Self → Option (List HostCall) };
 
-    /// The arguments by which its hosts were opened, the newest first. None from the first opening that isn't told.
+    /// The arguments with which its hosts were opened, newest first. `None` from the first opening that is not
+    /// recorded.
     ghost opened: { Self → Option (List RunArguments) };
 
-    /// What is so of the calls that its hosts were asked, of these settings where they are known, and of what these asked
-    /// the system for them.
+    /// What holds of the calls made to its hosts, given the settings of the hosts, if they are known, and of what the
+    /// hosts asked of the system for these calls.
     ghost conforms: { Self → Option HostSettings → Type 0 };
 
-    /// The host that the arguments of a run name, under the lock of its channel. It tells what was told before.
+    /// Returns the host that the arguments of a run describe, with the lock of its channel. Its record begins with that
+    /// of the hosts before it.
     fn open(&mut self, alloc: Global, options: &RunWords, lock: ChannelLock) -> Result<H, Memory>
         ensures told { IfOk result (λ host. H.told host ≡ told self.old) }
         ensures settings { IfOk result (λ host.
             HasSettings (run_of options.now) (H.settings host)) }
-        // it tells that it was opened by these arguments, or tells none from here on
-        ensures opened { OnOk result (Since (opened self.old) (opened self.new)
+        // it records that it was opened with these arguments, or records nothing from here on
+        ensures opened { OnOk result (NewCallsSatisfy (opened self.old) (opened self.new)
             (λ saids. saids ≡ run_of options.now ∷ [])) }
         ensures err { OnErr result (told self.new ≡ told self.old) };
 
-    /// Takes a host back. Gives whether all could be printed that it was to print.
+    /// Takes a host back, and returns whether everything was printed that the host was to print.
     fn close(&mut self, host: H) -> bool
-        // it tells what the host told, and what is so of hosts with the settings of this one is so
+        // its record is that of the host, and `conforms` holds for the settings of the host
         ensures told { told self.new ≡ H.told host }
         ensures opened { opened self.new ≡ opened self.old }
         ensures conforms { conforms self.new (H.settings host) };

@@ -1,8 +1,9 @@
-//! What a run inherits of whoever started it, as far as it is told: the signals that it ignores, and so its children.
+//! What a run inherits from the process that started it, as far as it is reported: the signals that it ignores, and
+//! that its children therefore ignore, too.
 
 ghost use Rattle.std.specs.Prelude.{IfErr};
 ghost use Rattle.initd_command.specs.Words.{KnownTexts, RunArguments};
-ghost use Rattle.initd_command.specs.Services.{IsInWay};
+ghost use Rattle.initd_command.specs.Services.{IsRunObstacle};
 
 use crate::run::Obstacle;
 use host_system::{ignored_signals, ignores_children};
@@ -10,7 +11,7 @@ use std::alloc::Global;
 use std::process::Processes;
 use std::rt::Files;
 
-/// The bits of signals in its masks (signal(7)).
+/// The bits of signals in the masks of ignored signals (signal(7)).
 const HUP: u64 = 0x1;
 
 const INT: u64 = 0x2;
@@ -19,10 +20,11 @@ const QUIT: u64 = 0x4;
 
 const TERM: u64 = 0x4000;
 
-/// Refuses a run that can wait for no child, since CHLD is ignored and the system reaps each by itself (wait(2)).
+/// Rejects a run that cannot wait for children, because CHLD is ignored and the system reaps each child by itself
+/// (wait(2)).
 pub(crate) fn refuse_unwaited<R: Files + Processes>(rt: &R, alloc: Global) -> Result<(), Obstacle>
     ensures { (text_at : KnownTexts) (service : RunArguments)
-        → IfErr result (IsInWay text_at service) }
+        → IfErr result (IsRunObstacle text_at service) }
 {
     if ignores_children(rt, alloc) {
         return Err(Obstacle::Unwaited);
@@ -30,7 +32,7 @@ pub(crate) fn refuse_unwaited<R: Files + Processes>(rt: &R, alloc: Global) -> Re
     Ok(())
 }
 
-/// Says which of the signals that are to stop a process each child ignores, since init does.
+/// Reports which of the signals that are meant to stop a process each child ignores, because initd ignores them.
 pub(crate) fn tell_ignored<R: Files + Eprint>(rt: &R, alloc: Global) {
     let ignored = told_of(ignored_signals(rt, alloc).unwrap_or(0));
     let hup = named(ignored, HUP, " HUP");
@@ -38,12 +40,13 @@ pub(crate) fn tell_ignored<R: Files + Eprint>(rt: &R, alloc: Global) {
     let term = named(ignored, TERM, " TERM");
     if ignored != 0 {
         let _ = eprintln!(rt;
-            "initd: each child ignores{hup}{int}{term}, as initd does: start it by env --default-signal"
+            "initd: every child ignores{hup}{int}{term}, because initd does; start initd with env --default-signal"
         );
     }
 }
 
-/// The signals of these that are told: not INT where QUIT is ignored too, as by each background job of a script.
+/// Returns the ignored signals that are reported. INT is not reported if QUIT is ignored, too, as it is for each
+/// background job of a script.
 fn told_of(ignored: u64) -> u64 {
     if ignored & QUIT != 0 {
         ignored & (HUP | TERM)
@@ -52,7 +55,7 @@ fn told_of(ignored: u64) -> u64 {
     }
 }
 
-/// The name of a signal that is ignored.
+/// Returns the name of the signal if it is ignored, otherwise an empty text.
 fn named(ignored: u64, signal: u64, name: &'static str) -> &'static str {
     if ignored & signal != 0 { name } else { "" }
 }

@@ -1,4 +1,4 @@
-//! The work of `initd`: the files that its words name, the run that they ask for, and what is reported of a fault.
+//! The program `initd`: the commands that its arguments name, the files that they use, and the reports of faults.
 #![tactic(auto)]
 
 mod check;
@@ -9,6 +9,7 @@ mod inherited;
 mod laws;
 mod lines;
 mod logs;
+mod on_system;
 mod os_hosts;
 mod reports;
 mod run;
@@ -17,7 +18,8 @@ mod watchers;
 
 pub use command::{SHORT_USAGE, run_words};
 pub use hosts::Hosts;
-pub use laws::{law_of_a_channel, law_of_telinit};
+pub use laws::{law_of_a_channel, law_of_a_run, law_of_telinit};
+pub use on_system::run_on_system;
 pub use os_hosts::OsHosts;
 pub use run::make_turns;
 pub use simulate::simulate_texts;

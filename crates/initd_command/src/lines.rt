@@ -5,7 +5,7 @@ ghost use Rattle.initd_command.specs.Lines.{front_line, line_at, line_told};
 
 use text_lines::{after_lines, cut};
 
-/// The text before the first newline.
+/// Returns the text before the first newline, or all of it if there is none.
 pub(crate) fn front_line(text: &[u8]) -> &[u8]
     ensures { result.now ≡ front_line text.now }
 {
@@ -15,7 +15,7 @@ pub(crate) fn front_line(text: &[u8]) -> &[u8]
     }
 }
 
-/// The line of this number, counted from 1.
+/// Returns the line with this number, counted from 1; empty if there is none.
 pub(crate) fn line_at(number: u64, text: &[u8]) -> &[u8]
     ensures { result.now ≡ line_at number text.now }
 {
@@ -25,7 +25,7 @@ pub(crate) fn line_at(number: u64, text: &[u8]) -> &[u8]
     }
 }
 
-/// A script line as it is told: of a table the first word alone.
+/// Returns a script line as it is reported: of a table only the first word.
 pub(crate) fn line_told(line: &[u8]) -> &[u8]
     ensures { result.now ≡ line_told line.now }
 {

@@ -4,7 +4,7 @@ use std::alloc::Allocator;
 use trace_events::HappeningIn;
 use trace_log::{EndedLog, Log, LogFault};
 
-/// A log that takes all and keeps nothing.
+/// A log that accepts everything and keeps nothing.
 #[derive(Drop)]
 pub(crate) struct NoLog {}
 

@@ -1,16 +1,17 @@
-//! The hosts over the operating system.
+//! The source of hosts over the operating system.
 
 ghost use Rattle.std.specs.Prelude.{◌≡◌, [], IfOk};
 ghost use Rattle.initd_command.specs.Words.{run_of};
-ghost use Rattle.initd_command.specs.Hosts.{host_with};
+ghost use Rattle.initd_command.specs.Hosts.{IsAsked, host_with};
 
 use crate::hosts::Hosts;
 use crate::run::{folder_of, trace_of};
 use host_files::{ChannelCallList, nothing_read};
 use host_lines::TellingRuntime;
 use host_messages::{StampedPrinter, Worded};
-use host_system::{HostOptions, OsHost, OsSystem, Pace, SystemCallList, nothing_asked};
-use host_telling::{CallList, no_calls};
+use host_system::{
+    CallList, HostOptions, OsHost, OsSystem, Pace, SystemCallList, no_calls, nothing_asked,
+};
 use init_words::Memory;
 use initd_options::RunWords;
 use program_io::{ChannelLock, Noted};
@@ -20,27 +21,27 @@ use std::marker::Model;
 use std::process::Processes;
 use std::rt::{Clock, Files};
 
-/// The host that asks the operating system: one, which tells the calls that it was asked, those that it asked the system
-/// for them, and what it read of its channel. Proofs alone can read them.
+/// A source of one host, which asks the operating system. It has the records of the calls made to the host, of those
+/// that the host made to the system for them, and of what the host read of its channel. Only proofs can read them.
 ///
-/// It is opened once. Another would hold none of the children of the first, so there is none: it is refused, as where
-/// memory is lacking, and so it is behind an opening that failed.
+/// The host is opened once. Another host would hold none of the children of the first, so opening another one fails,
+/// with the error for lack of memory. Opening also fails after an opening that failed.
 #[derive(Drop)]
 pub struct OsHosts<R: Processes + Files<File = File> + Clock + Print + Eprint + Clone + Drop> {
-    /// The runtime of the host, before that is opened.
+    /// The runtime of the host, until the host is opened.
     rt: Option<R>,
     calls: Noted<CallList>,
     asked: Noted<SystemCallList>,
     heard: Noted<ChannelCallList>,
 }
 
-/// The host.
+/// The type of the host.
 type RunHost<R> = OsHost<TellingRuntime<R, Worded<StampedPrinter<R>>>, OsSystem<R>>;
 
 impl<R: Processes + Files<File = File> + Clock + Print + Eprint + Clone + Drop> Model
     for OsHosts<R> {
     ghost use Rattle.std.specs.Prelude.{◌≡◌, [], IsSome};
-    ghost use Rattle.initd_command.specs.Hosts.{HostsState};
+    ghost use Rattle.initd_command.specs.Hosts.{HostsState, IsAsked};
 
     ghost Value = { HostsState };
 
@@ -50,11 +51,12 @@ impl<R: Processes + Files<File = File> + Clock + Print + Eprint + Clone + Drop> 
       heard = hosts.heard.value;
     } };
 
-    ghost invariant = { λ hosts. IsSome hosts.rt → hosts.calls.value ≡ [] };
+    ghost invariant = { λ hosts. (IsSome hosts.rt → hosts.calls.value ≡ [])
+        × IsAsked hosts.calls.value hosts.asked.value };
 }
 
 impl<R: Processes + Files<File = File> + Clock + Print + Eprint + Clone + Drop> OsHosts<R> {
-    /// The host, of which no call was asked yet.
+    /// Returns the source of a host to which no call was made yet.
     pub fn new(rt: R) -> OsHosts<R>
         ensures { result ≡ record { calls = []; asked = []; heard = [] } }
     {
@@ -64,6 +66,14 @@ impl<R: Processes + Files<File = File> + Clock + Print + Eprint + Clone + Drop> 
             asked: nothing_asked(),
             heard: nothing_read(),
         }
+    }
+
+    /// Returns what the host asked the system: exactly what its calls ask.
+    pub fn asked(&self) -> Noted<SystemCallList>
+        ensures value { result.value ≡ self.now.asked }
+        ensures own { IsAsked self.now.calls self.now.asked }
+    {
+        self.asked.again()
     }
 }
 
@@ -104,7 +114,7 @@ impl<R: Processes + Files<File = File> + Clock + Print + Eprint + Clone + Drop> 
     }
 }
 
-/// The host that words name.
+/// Returns the host that the arguments describe.
 fn host_of<R>(rt: R, alloc: Global, run_options: &RunWords) -> Result<RunHost<R>, Memory>
 where
     R: Processes + Files<File = File> + Clock + Print + Eprint + Clone + Drop,
@@ -122,8 +132,10 @@ where
         spared: Some(trace_of(run_options)),
         logs: run_options.logs.as_ref().map(String::as_str),
         groups: run_options.groups,
+        respawn_delay: run_options.respawn_delay,
         pace,
         bell: run_options.bell,
+        watch: run_options.watch,
         fresh: run_options.fresh,
         verbose: run_options.verbose,
         strict: run_options.strict,
@@ -134,7 +146,7 @@ where
     OsHost::new(telling, rt, alloc, &options)
 }
 
-/// The trace of the run has its looks: there is one, and it isn't brief.
+/// Returns whether the trace of the run has its looks: there is a trace, and it is not brief.
 fn writes_looks(run_options: &RunWords) -> bool {
     run_options.trace.is_some() && !run_options.brief
 }

@@ -2,8 +2,8 @@
 
 ghost use Rattle.std.specs.Prelude.{◌≡◌, true, ℕ, List, None, Some, OnOk, OnErr, option_map, string_bytes, IfOk, ◌++◌};
 ghost use Rattle.std.specs.Io.KnownBytes.{Appends};
-ghost use Rattle.initd_command.specs.Words.{AppendsPrefix, HasReported};
-ghost use Rattle.initd_command.specs.Endings.{ReportsCannot, ReportsFlawed, ReportsWhere, busy_message, fault_message, fault_status, reason_message, shared_message, unlisted_message};
+ghost use Rattle.initd_command.specs.Words.{AppendsPrefix, AppendsReport};
+ghost use Rattle.initd_command.specs.Endings.{ReportsCannot, ReportsFlawed, ReportsIf, busy_message, fault_message, fault_status, reason_message, shared_message, unlisted_message};
 ghost use Rattle.initd_command.specs.Turned.{ReportsText};
 
 use crate::lines::{line_at, line_told};
@@ -14,21 +14,20 @@ use std::alloc::{AllocError, Global};
 use std::io;
 use std::io::Write;
 
-/// What is reported where memory runs out, also for the message itself.
+/// The report if memory runs out, for example for the message itself.
 pub(crate) const NO_MEMORY: &str = "initd: out of memory\n";
 
-/// What is reported where the inittab has too many files.
-pub(crate) const TOO_MANY: &str = "initd: inittab has more than 256 files: put some together\n";
+/// The report if the inittab has too many files.
+pub(crate) const TOO_MANY: &str = "initd: inittab has more than 256 files; merge some\n";
 
-/// What is reported where CHLD is ignored.
-const UNWAITED: &str = "initd: SIGCHLD is ignored, so no child can be waited for: start init by \
-    env --default-signal=CHLD initd run ..\n";
+/// The report if CHLD is ignored.
+const UNWAITED: &str = "initd: SIGCHLD is ignored, so no child can be waited for; start init \
+    with env --default-signal=CHLD initd run ..\n";
 
-/// What is reported behind the faults of an inittab that is to have none.
-const FLAWED: &str =
-    "initd: the inittab has faulty lines and is not taken, as --strict says: mend them\n";
+/// The report after the faults of an inittab that must have none.
+const FLAWED: &str = "initd: the inittab has faulty lines, which --strict rejects; fix them\n";
 
-/// Reports a fault of a run over a script, and gives the exit status.
+/// Reports a fault of a simulated run over a script, and returns the exit status.
 pub(crate) fn report_fault<E: Reporter>(
     alloc: Global,
     script: &[u8],
@@ -46,7 +45,8 @@ pub(crate) fn report_fault<E: Reporter>(
     }
 }
 
-/// The fault in words, and the line at fault with the reason where it is one that may not come.
+/// Returns the text of a fault, followed by the script line and the reason if the fault is a line that may not come
+/// there.
 fn fault_message(alloc: Global, script: &[u8], fault: &SimFault) -> Result<Vec<u8>, AllocError>
     ensures { IfOk result (λ text. text.items ≡ fault_message script.now fault.now) }
 {
@@ -59,7 +59,7 @@ fn fault_message(alloc: Global, script: &[u8], fault: &SimFault) -> Result<Vec<u
     Ok(text)
 }
 
-/// Adds a script line that may not come, and why.
+/// Adds a script line that may not come there, and the reason.
 fn add_reason(
     alloc: Global,
     text: &mut Vec<u8>,
@@ -77,7 +77,7 @@ fn add_reason(
     Ok(())
 }
 
-/// Reports what could not be done with a file, by a verb as `read`, and gives the exit status.
+/// Reports that an operation on a file failed, named by a verb such as `read`, and returns the exit status.
 pub(crate) fn report_cannot<E: Reporter>(
     alloc: Global,
     verb: &str,
@@ -99,8 +99,8 @@ pub(crate) fn report_cannot<E: Reporter>(
     DEVICE_FAULT
 }
 
-/// Reports that another process has the channel of requests or the trace, by its name and number where they are known,
-/// and gives the exit status.
+/// Reports that another process holds the channel or the trace, with the name and number of the process if they are
+/// known, and returns the exit status.
 pub(crate) fn report_busy<E: Reporter>(
     alloc: Global,
     path: &str,
@@ -121,33 +121,33 @@ fn busy_message(alloc: Global, path: &str, holder: &Option<String>) -> Result<St
 {
     match holder {
         Some(holder) => format!(in alloc;
-            "initd: {path} is in use by {holder}: end that one, or give this one a file of its own\n"
+            "initd: {path} is in use by {holder}; stop that process, or use another file\n"
         ),
         None => format!(in alloc;
-            "initd: {path} is in use by another initd run: end that one, or give this one a file of its own\n"
+            "initd: {path} is in use by another initd run; stop that run, or use another file\n"
         ),
     }
 }
 
-/// Reports that two of a run's files are one, and gives the exit status.
+/// Reports that two of a run's paths lead to the same file, and returns the exit status.
 pub(crate) fn report_shared<E: Reporter>(alloc: Global, one: &str, other: &str, err: &mut E) -> u8
     ensures status { result ≡ REFUSED }
     ensures reported { ReportsText (shared_message one.now other.now) (E.reports err.old)
         (E.reports err.new) }
 {
     report_made(
-        format!(in alloc; "initd: {one} and {other} are one file: give each its own\n"),
+        format!(in alloc; "initd: {one} and {other} are the same file; use two different files\n"),
         err,
     );
     REFUSED
 }
 
-/// Reports a message that was made, or that there was no memory to make it.
+/// Reports a message, or that there was no memory to create it.
 pub(crate) fn report_made<E: Reporter>(message: Result<String, AllocError>, err: &mut E)
     ensures made { IfOk message (λ text.
-        HasReported (E.reports err.old) (E.reports err.new) (string_bytes text)) }
+        AppendsReport (E.reports err.old) (E.reports err.new) (string_bytes text)) }
     ensures unmade { OnErr message
-        (HasReported (E.reports err.old) (E.reports err.new) NO_MEMORY.now) }
+        (AppendsReport (E.reports err.old) (E.reports err.new) NO_MEMORY.now) }
 {
     match &message {
         Ok(text) => report(text.as_str(), err),
@@ -155,12 +155,12 @@ pub(crate) fn report_made<E: Reporter>(message: Result<String, AllocError>, err:
     }
 }
 
-/// Reports lines that may not be text, or that there was no memory to make them.
+/// Reports lines, which need not be UTF-8, or that there was no memory to create them.
 pub(crate) fn report_lines<E: Reporter>(message: Result<Vec<u8>, AllocError>, err: &mut E)
     ensures made { IfOk message (λ text.
-        HasReported (E.reports err.old) (E.reports err.new) text.items) }
+        AppendsReport (E.reports err.old) (E.reports err.new) text.items) }
     ensures unmade { OnErr message
-        (HasReported (E.reports err.old) (E.reports err.new) NO_MEMORY.now) }
+        (AppendsReport (E.reports err.old) (E.reports err.new) NO_MEMORY.now) }
 {
     match &message {
         Ok(text) => report_bytes(text, err),
@@ -170,14 +170,14 @@ pub(crate) fn report_lines<E: Reporter>(message: Result<Vec<u8>, AllocError>, er
 
 /// Reports a text.
 pub(crate) fn report<E: Reporter>(text: &str, err: &mut E)
-    ensures { HasReported (E.reports err.old) (E.reports err.new) text.now }
+    ensures { AppendsReport (E.reports err.old) (E.reports err.new) text.now }
 {
     report_bytes(text.as_bytes(), err);
 }
 
-/// Reports a text where that is so.
+/// Reports a text if the condition is true.
 pub(crate) fn report_where<E: Reporter>(is_so: bool, text: &str, err: &mut E)
-    ensures { ReportsWhere is_so text.now (E.reports err.old) (E.reports err.new) }
+    ensures { ReportsIf is_so text.now (E.reports err.old) (E.reports err.new) }
 {
     if is_so {
         report(text, err);
@@ -186,39 +186,39 @@ pub(crate) fn report_where<E: Reporter>(is_so: bool, text: &str, err: &mut E)
 
 /// Reports bytes.
 pub(crate) fn report_bytes<E: Reporter>(text: &[u8], err: &mut E)
-    ensures { HasReported (E.reports err.old) (E.reports err.new) text.now }
+    ensures { AppendsReport (E.reports err.old) (E.reports err.new) text.now }
 {
     err.report(text);
 }
 
-/// Reports that memory ran out, and gives the exit status.
+/// Reports that memory ran out, and returns the exit status.
 pub(crate) fn report_memory<E: Reporter>(err: &mut E) -> u8
     ensures status { result ≡ DEVICE_FAULT }
-    ensures reported { HasReported (E.reports err.old) (E.reports err.new) NO_MEMORY.now }
+    ensures reported { AppendsReport (E.reports err.old) (E.reports err.new) NO_MEMORY.now }
 {
     report(NO_MEMORY, err);
     DEVICE_FAULT
 }
 
-/// Reports that no child can be waited for, and gives the exit status.
+/// Reports that no child can be waited for, and returns the exit status.
 pub(crate) fn report_unwaited<E: Reporter>(err: &mut E) -> u8
     ensures status { result ≡ DEVICE_FAULT }
-    ensures reported { HasReported (E.reports err.old) (E.reports err.new) UNWAITED.now }
+    ensures reported { AppendsReport (E.reports err.old) (E.reports err.new) UNWAITED.now }
 {
     report(UNWAITED, err);
     DEVICE_FAULT
 }
 
-/// Reports that the inittab has too many files, and gives the exit status.
+/// Reports that the inittab has too many files, and returns the exit status.
 pub(crate) fn report_too_many<E: Reporter>(err: &mut E) -> u8
     ensures status { result ≡ REFUSED }
-    ensures reported { HasReported (E.reports err.old) (E.reports err.new) TOO_MANY.now }
+    ensures reported { AppendsReport (E.reports err.old) (E.reports err.new) TOO_MANY.now }
 {
     report(TOO_MANY, err);
     REFUSED
 }
 
-/// Reports the faults of an inittab that is to have none, by these lines, and gives the exit status.
+/// Reports the faults of an inittab that must have none, which are these lines, and returns the exit status.
 pub(crate) fn report_flawed<E: Reporter>(faults: &[u8], err: &mut E) -> u8
     ensures status { result ≡ REFUSED }
     ensures reported { ReportsFlawed faults.now (E.reports err.old) (E.reports err.new) }
@@ -228,7 +228,7 @@ pub(crate) fn report_flawed<E: Reporter>(faults: &[u8], err: &mut E) -> u8
     REFUSED
 }
 
-/// Reports that an inittab has no entry of the id, and gives the exit status.
+/// Reports that an inittab has no entry with this id, and returns the exit status.
 pub(crate) fn report_unlisted<E: Reporter>(alloc: Global, id: &Id, err: &mut E) -> u8
     ensures status { result ≡ REFUSED }
     ensures reported { ReportsText (unlisted_message id.now) (E.reports err.old)
@@ -241,10 +241,10 @@ pub(crate) fn report_unlisted<E: Reporter>(alloc: Global, id: &Id, err: &mut E) 
 fn unlisted_message(alloc: Global, id: &str) -> Result<String, AllocError>
     ensures { IfOk result (λ text. string_bytes text ≡ unlisted_message id.now) }
 {
-    format!(in alloc; "initd: no entry has the id {id}: give --result an id of the inittab\n")
+    format!(in alloc; "initd: no entry has the id {id}; use --result with an id of the inittab\n")
 }
 
-/// Writes a text and sees that it is out.
+/// Writes a text and flushes the writer, and returns whether that worked.
 pub(crate) fn tell<W: Write>(text: &[u8], out: &mut W) -> bool
     ensures whole { result ≡ true → Appends (W.contents out.old) (W.contents out.new) text.now }
     ensures part { AppendsPrefix (W.contents out.old) (W.contents out.new) text.now }

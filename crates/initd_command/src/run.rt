@@ -1,11 +1,11 @@
-//! `initd run`: what it stands on, and its turns.
+//! `initd run`: what it needs before its first turn, and its turns.
 
 ghost use Rattle.std.specs.Prelude.{not, ◌≡◌, ◌≢◌, ◌∷◌, ◌++◌, ◌&&◌, if◌then◌else◌, ℕ, true, List, None, Some, [], is_some, option_map, unwrap_or, IfErr, IfOk, IfSome, OnErr, OnOk};
-ghost use Rattle.initd_command.specs.Words.{KnownTexts, NamedText, Entry, Since, IsOpeningOf, RunArguments, run_of};
-ghost use Rattle.initd_command.specs.Endings.{Ending, Reports, ReportsObstacle, Spoken, obstacle_status, status_of, turned};
+ghost use Rattle.initd_command.specs.Words.{KnownTexts, NamedText, Entry, NewCallsSatisfy, IsStartOver, RunArguments, run_of};
+ghost use Rattle.initd_command.specs.Endings.{Ending, Reports, ReportsObstacle, RunRemarks, obstacle_status, status_of, turned};
 ghost use Rattle.initd_command.specs.Ran.{HasSettings, MakesLogged, MakesTraced, RanBy};
 ghost use Rattle.initd_command.specs.Turned.{End, ReportsEnd, end_status};
-ghost use Rattle.initd_command.specs.Services.{AreApart, AreFiles, EndsRun, EndsServed, EndsTold, HasInittab, IsInWay, IsInittab, IsReadOf, StandBy, TakesParts, is_taken, has_no_level, own_paths, table_in, told_of};
+ghost use Rattle.initd_command.specs.Services.{AreDistinctPaths, AreFiles, EndsRun, EndsServed, EndsTold, HasInittab, IsRunObstacle, IsInittab, IsReadOf, AppearInOrder, TakesParts, is_taken, has_no_level, run_paths, table_in, told_of};
 
 use crate::ends::report_end;
 use crate::hosts::Hosts;
@@ -17,11 +17,9 @@ use crate::reports::{
 };
 use crate::watchers::Progress;
 use host_calls::Host;
-use host_files::{FolderFault, HearsPassed, with_folder};
+use host_files::{FolderFault, SkippedFileListener, with_folder};
 use host_lines::TellingRuntime;
 use host_messages::{StampedPrinter, faults_text, tell_passed};
-use host_trace::Edge;
-use init_turns::{Opening, Served};
 use init_words::{Id, Level, Memory, Part};
 use initd_options::RunWords;
 use inittab_text::{Table, TableFault, read_parts};
@@ -37,51 +35,53 @@ use std::io::{ErrorKind, Write};
 use std::os::unix::fs::OpenOptionsExt;
 use std::process::Processes;
 use std::rt::{Clock, Files};
+use supervisor::{Edge, Opening, Served};
 use trace_files::{FileLog, TraceFiles, Traces, takes_lock};
 use trace_log::EndedLog;
 use trace_log_wrappers::{BriefLog, NotingLog};
 
-/// What is reported where the faults of inittab's lines could not be written.
+/// The report if the faults of the inittab's lines could not be written.
 const UNTOLD: &str = "initd: the faults of the inittab could not be written\n";
 
-/// What is reported at the end of a run where not all could be printed that its host was to print.
-const UNPRINTED: &str = "initd: not all that init announces could be written\n";
+/// The report at the end of a run if not everything was printed that its host was to print.
+const UNPRINTED: &str = "initd: some announcements could not be written\n";
 
-/// What is reported at the opening where nothing names a level.
-const UNLED: &str = "initd: the inittab names no level (initdefault), and --level is not given: \
-    init goes to level S\n";
+/// The report at the start if nothing names a level.
+const UNLED: &str = "initd: the inittab has no initdefault level and --level is not given; going \
+    to level S\n";
 
-/// What is reported at the opening where no word names the end of the run.
-const CAPPED: &str = "initd: this run ends after 1000000 turns, a day or more at rest: \
-    --forever has no limit\n";
+/// The report at the start if no option specifies the end of the run.
+const CAPPED: &str = "initd: this run stops after 1000000 turns (a day or more when idle); use \
+    --forever to remove the limit\n";
 
-/// The mode of a trace that is made: who can read one can take its lock.
+/// The mode of a new trace: a user who can read a trace can take its lock.
 const MODE: u32 = 0o600;
 
-/// Why a command is refused, or can't go on, before it writes anything.
+/// An obstacle: the reason why a command is rejected, or cannot continue, before it writes anything.
 #[derive(Drop)]
 pub(crate) enum Obstacle {
-    /// No child can be waited for, since CHLD is ignored.
+    /// No child can be waited for, because CHLD is ignored.
     Unwaited,
-    /// The file or the folder of this path was not read.
+    /// The file or the folder at this path was not read.
     Unread(String, io::Error),
-    /// Out of memory.
+    /// Memory allocation failed.
     Memory,
     /// The inittab has too many files.
     TooMany,
     /// The inittab is too long.
     TooLong,
-    /// These lines tell faults of an inittab that is to have none.
+    /// An inittab that must have no faults has those that these lines report.
     Flawed(Vec<u8>),
-    /// The inittab has no entry of the id whose result the run's is to be.
+    /// The inittab has no entry with this id, which `--result` names.
     Unlisted(Id),
-    /// Another process has the file of this path, the channel or the trace; its name and number, where they are known.
+    /// Another process holds the file at this path, the channel or the trace; with the name and number of the process
+    /// if they are known.
     Busy(String, Option<String>),
-    /// These two paths of the run lead to one file.
+    /// These two paths of the run lead to the same file.
     Shared(String, String),
-    /// The channel of this path could not be made, opened or locked.
+    /// The channel at this path could not be created, opened or locked.
     Unlocked(String, io::Error),
-    /// The trace of this path could not be opened or made.
+    /// The trace at this path could not be opened or created.
     Uncreated(String, io::Error),
 }
 
@@ -96,7 +96,7 @@ impl From<AllocError> for Obstacle {
     }
 }
 
-/// An inittab that was read: its table, and the lines that tell its faults.
+/// An inittab that was read: its table, and the lines that report its faults.
 #[derive(Drop)]
 struct Inittab {
     table: Table,
@@ -108,16 +108,16 @@ struct Inittab {
 struct Run<H> {
     opening: Opening,
     host: H,
-    /// The file of the trace, where one is to be written.
+    /// The file of the trace, if one is to be written.
     trace: Option<File>,
-    /// The lines that tell the faults of the inittab.
+    /// The lines that report the faults of the inittab.
     faults: Vec<u8>,
-    /// Nothing names a level.
+    /// Whether nothing names a level.
     has_no_level: bool,
 }
 
-/// Runs init over the operating system: reads the inittab, opens the trace, takes the lock of the channel, and makes the
-/// turns.
+/// Runs init over the operating system: reads the inittab, opens the trace, takes the lock of the channel, and makes
+/// the turns.
 pub(crate) fn run_files<R, T: Texts, H: Host + Drop, S: Hosts<H>, F: Traces, W: Write, E: Reporter>(
     rt: &R,
     texts: &T,
@@ -154,7 +154,7 @@ where
     }
 }
 
-/// A run with all that it stands on. A run that is refused leaves what was there: no channel and no trace is made, and
+/// Prepares a run. If the run is rejected, everything stays as it was: no channel and no trace is left behind, and
 /// nothing is written.
 fn open_run<R, T: Texts, H: Host + Drop, S: Hosts<H>>(
     rt: &R,
@@ -169,16 +169,16 @@ where
         (λ parts. (run.faults.items ≡ told_of parts)
         × (run.has_no_level ≡ has_no_level options.now.level (table_in parts))
         × TakesParts (run_of options.now) parts
-        × IsOpeningOf options.now.level (table_in parts) run.opening)) }
-    ensures apart { OnOk result (AreApart (own_paths (run_of options.now))) }
+        × IsStartOver options.now.level (table_in parts) run.opening)) }
+    ensures apart { OnOk result (AreDistinctPaths (run_paths (run_of options.now))) }
     ensures host { IfOk result (λ run. H.told run.host ≡ S.told hosts.old) }
     ensures settings { IfOk result (λ run.
         HasSettings (run_of options.now) (H.settings run.host)) }
-    ensures opened { OnOk result (Since (S.opened hosts.old) (S.opened hosts.new)
+    ensures opened { OnOk result (NewCallsSatisfy (S.opened hosts.old) (S.opened hosts.new)
         (λ saids. saids ≡ run_of options.now ∷ [])) }
     ensures trace { IfOk result (λ run.
         is_some run.trace ≡ is_some (run_of options.now).trace) }
-    ensures err { IfErr result (IsInWay (T.text_at texts.now) (run_of options.now)) }
+    ensures err { IfErr result (IsRunObstacle (T.text_at texts.now) (run_of options.now)) }
     ensures unasked { OnErr result (S.told hosts.new ≡ S.told hosts.old) }
 {
     refuse_unwaited(rt, alloc)?;
@@ -205,7 +205,7 @@ where
     })
 }
 
-/// The host under the lock of the channel.
+/// Opens the host, with the lock of the channel.
 fn open_host<R: Files<File = File> + Alloc, H: Host + Drop, S: Hosts<H>>(
     rt: &R,
     hosts: &mut S,
@@ -214,10 +214,11 @@ fn open_host<R: Files<File = File> + Alloc, H: Host + Drop, S: Hosts<H>>(
 ) -> Result<H, Obstacle>
     ensures host { IfOk result (λ host. H.told host ≡ S.told hosts.old) }
     ensures settings { IfOk result (λ host. HasSettings (run_of options.now) (H.settings host)) }
-    ensures opened { OnOk result (Since (S.opened hosts.old) (S.opened hosts.new)
+    ensures opened { OnOk result (NewCallsSatisfy (S.opened hosts.old) (S.opened hosts.new)
         (λ saids. saids ≡ run_of options.now ∷ [])) }
     ensures unasked { OnErr result (S.told hosts.new ≡ S.told hosts.old) }
-    ensures err { (text_at : KnownTexts) → IfErr result (IsInWay text_at (run_of options.now)) }
+    ensures err { (text_at : KnownTexts)
+        → IfErr result (IsRunObstacle text_at (run_of options.now)) }
 {
     let path = options.initctl.as_str();
     let lock = match lock_channel(rt, path) {
@@ -238,7 +239,7 @@ fn open_host<R: Files<File = File> + Alloc, H: Host + Drop, S: Hosts<H>>(
     }
 }
 
-/// Removes a file that the run made, where it did. Where a link leads to it, the link stays.
+/// Removes a file if the run created it. If a symbolic link leads to the file, the link stays.
 fn remove_made<R: Files + Alloc>(rt: &R, path: &str, was_made: bool) {
     if !was_made {
         return;
@@ -248,7 +249,7 @@ fn remove_made<R: Files + Alloc>(rt: &R, path: &str, was_made: bool) {
     }
 }
 
-/// Nothing names a level: neither the words nor the table.
+/// Returns whether nothing names a level: neither the arguments nor the table.
 fn has_no_level(level: Option<Level>, table: &Table) -> bool
     ensures { result ≡ has_no_level level table.now }
 {
@@ -258,10 +259,11 @@ fn has_no_level(level: Option<Level>, table: &Table) -> bool
     }
 }
 
-/// Refuses two paths of the run that lead to one file: what is written to one would be lost in the other.
+/// Rejects a run if two of its paths lead to the same file, because what is written to one would be lost in the other.
 fn refuse_shared<R: Files>(rt: &R, alloc: Global, options: &RunWords) -> Result<(), Obstacle>
-    ensures refused { (text_at : KnownTexts) → IfErr result (IsInWay text_at (run_of options.now)) }
-    ensures apart { OnOk result (AreApart (own_paths (run_of options.now))) }
+    ensures refused { (text_at : KnownTexts)
+        → IfErr result (IsRunObstacle text_at (run_of options.now)) }
+    ensures apart { OnOk result (AreDistinctPaths (run_paths (run_of options.now))) }
 {
     let inittab = options.inittab.as_str();
     let initctl = options.initctl.as_str();
@@ -275,11 +277,11 @@ fn refuse_shared<R: Files>(rt: &R, alloc: Global, options: &RunWords) -> Result<
     refuse_pair(rt, alloc, state, trace)
 }
 
-/// Refuses two paths that lead to one file.
+/// Rejects two paths that lead to the same file.
 fn refuse_pair<R: Files>(rt: &R, alloc: Global, one: &str, other: &str) -> Result<(), Obstacle>
     ensures refused { (text_at : KnownTexts) (service : RunArguments)
-        → StandBy one.now other.now (own_paths service)
-        → IfErr result (IsInWay text_at service) }
+        → AppearInOrder one.now other.now (run_paths service)
+        → IfErr result (IsRunObstacle text_at service) }
     ensures apart { OnOk result (one.now ≢ other.now) }
 {
     if !are_one_file(rt, one, other) {
@@ -290,7 +292,7 @@ fn refuse_pair<R: Files>(rt: &R, alloc: Global, one: &str, other: &str) -> Resul
     Err(Obstacle::Shared(one, other))
 }
 
-/// The folder of the inittab's further files, where words name one.
+/// Returns the folder of the inittab's further files, if the arguments name one.
 pub(crate) fn folder_of(options: &RunWords) -> Option<&str>
     ensures { option_map (λ path. path.now) result ≡ (run_of options.now).inittab_dir }
 {
@@ -300,13 +302,13 @@ pub(crate) fn folder_of(options: &RunWords) -> Option<&str>
     }
 }
 
-/// What tells which files of the inittab's folder are passed over, where that is asked for.
+/// Reports which files of the inittab's folder are ignored, if that is asked for.
 #[derive(Clone, Copy)]
-struct PassedFiles {
+struct SkippedFileReporter {
     is_told: bool,
 }
 
-impl<R: Eprint> HearsPassed<R> for PassedFiles {
+impl<R: Eprint> SkippedFileListener<R> for SkippedFileReporter {
     fn hear(&mut self, rt: &R, folder: &str, name: &[u8]) {
         if self.is_told {
             tell_passed(rt, folder, name);
@@ -314,7 +316,7 @@ impl<R: Eprint> HearsPassed<R> for PassedFiles {
     }
 }
 
-/// The files of the inittab.
+/// Reads the files of the inittab.
 fn files_of<R: Files + Eprint, T: Texts>(
     rt: &R,
     texts: &T,
@@ -323,7 +325,7 @@ fn files_of<R: Files + Eprint, T: Texts>(
 ) -> Result<Vec<Part>, Obstacle>
     ensures ok { IfOk result (λ parts.
         AreFiles (T.text_at texts.now) (run_of options.now) parts.items) }
-    ensures err { IfErr result (IsInWay (T.text_at texts.now) (run_of options.now)) }
+    ensures err { IfErr result (IsRunObstacle (T.text_at texts.now) (run_of options.now)) }
 {
     let bytes = match texts.read_file(alloc, options.inittab.as_str()) {
         Ok(bytes) => bytes,
@@ -334,7 +336,7 @@ fn files_of<R: Files + Eprint, T: Texts>(
     };
     let name = String::from_str(alloc, options.inittab.as_str())?;
     let main_part = Part { name, bytes };
-    let mut passed = PassedFiles {
+    let mut passed = SkippedFileReporter {
         is_told: options.verbose,
     };
     match with_folder(rt, alloc, main_part, folder_of(options), &mut passed) {
@@ -344,25 +346,25 @@ fn files_of<R: Files + Eprint, T: Texts>(
     }
 }
 
-/// Why the inittab wasn't read, with what to do where a run was meant for the files of its folder alone.
+/// Returns the reason why the inittab was not read, with what to do if only the files of the folder were meant.
 fn with_hint(options: &RunWords, error: io::Error) -> io::Error {
     if options.inittab_dir.is_none() || error.kind() != ErrorKind::NotFound {
         return error;
     }
     io::Error::new(
         ErrorKind::NotFound,
-        "no such file, and it is read before those of --inittab-dir: an empty one will do",
+        "no such file; --inittab-dir needs it too, but it may be empty",
     )
 }
 
-/// The inittab, where the run takes it: one with faults where it is not strict, and one that has an entry of the id
-/// whose result the run's is to be.
+/// Returns the inittab if the run accepts it: it has no faults, or the run is not strict; and it has an entry with the
+/// id of `--result`, if that is given.
 fn taken(options: &RunWords, inittab: Inittab) -> Result<Inittab, Obstacle>
     ensures ok { IfOk result (λ given. (given ≡ inittab)
         × (is_taken (run_of options.now) inittab.faults.items inittab.table ≡ true)) }
     ensures err { (text_at : KnownTexts) (parts : List NamedText)
         → AreFiles text_at (run_of options.now) parts → IsReadOf parts inittab
-        → IfErr result (IsInWay text_at (run_of options.now)) }
+        → IfErr result (IsRunObstacle text_at (run_of options.now)) }
 {
     if options.strict && !inittab.faults.is_empty() {
         return Err(Obstacle::Flawed(inittab.faults));
@@ -376,12 +378,12 @@ fn taken(options: &RunWords, inittab: Inittab) -> Result<Inittab, Obstacle>
     Ok(inittab)
 }
 
-/// The table of the files of an inittab, and the lines that tell their faults.
+/// Returns the table of the files of an inittab, and the lines that report their faults.
 fn inittab_of(alloc: Global, parts: &[Part]) -> Result<Inittab, Obstacle>
     ensures ok { IfOk result (IsReadOf parts.now) }
     ensures err { (text_at : KnownTexts) (service : RunArguments)
         → AreFiles text_at service parts.now
-        → IfErr result (IsInWay text_at service) }
+        → IfErr result (IsRunObstacle text_at service) }
 {
     match read_parts(alloc, parts) {
         Ok((table, faults)) => Ok(Inittab {
@@ -401,14 +403,15 @@ fn read_inittab<R: Files + Eprint, T: Texts>(
     options: &RunWords,
 ) -> Result<Inittab, Obstacle>
     ensures ok { IfOk result (IsInittab (T.text_at texts.now) (run_of options.now)) }
-    ensures err { IfErr result (IsInWay (T.text_at texts.now) (run_of options.now)) }
+    ensures err { IfErr result (IsRunObstacle (T.text_at texts.now) (run_of options.now)) }
 {
     let parts = files_of(rt, texts, alloc, options)?;
     let inittab = inittab_of(alloc, &parts)?;
     taken(options, inittab)
 }
 
-/// The file of the trace as it is, under its lock, where one is to be written, and whether it was made.
+/// Opens the file of the trace without changing it, and takes its lock, if a trace is to be written. Also returns
+/// whether the file was created.
 fn open_trace<R: Files<File = File>>(
     rt: &R,
     alloc: Global,
@@ -418,7 +421,7 @@ fn open_trace<R: Files<File = File>>(
         is_some opened.0 ≡ is_some (run_of options.now).trace) }
     ensures err { (text_at : KnownTexts)
         → HasInittab text_at (run_of options.now) (TakesParts (run_of options.now))
-        → IfErr result (IsInWay text_at (run_of options.now)) }
+        → IfErr result (IsRunObstacle text_at (run_of options.now)) }
 {
     let Some(path) = &options.trace else {
         return Ok((None, false));
@@ -430,8 +433,10 @@ fn open_trace<R: Files<File = File>>(
     }
 }
 
-/// A file to write to, as it is, and whether it was made; no file where another run holds its lock. Outside of `/dev/` a
-/// FIFO is refused, since it would wait for its reader, and a device.
+/// Opens a file for writing without changing it, and returns it with whether it was created; without the file if
+/// another run holds its lock.
+///
+/// Outside of `/dev/`, a FIFO is rejected, because opening it would block until it has a reader, and so is a device.
 fn opened<R: Files<File = File>>(rt: &R, path: &str) -> io::Result<(Option<File>, bool)> {
     if !path.starts_with("/dev/") {
         refuse_special(rt, path)?;
@@ -448,7 +453,7 @@ fn opened<R: Files<File = File>>(rt: &R, path: &str) -> io::Result<(Option<File>
     Ok((Some(file), was_missing))
 }
 
-/// Reports what is in the way, and gives the exit status.
+/// Reports an obstacle, and returns the exit status.
 fn report_obstacle<E: Reporter>(alloc: Global, why: &Obstacle, err: &mut E) -> u8
     ensures status { result ≡ obstacle_status why.now }
     ensures reported { ReportsObstacle why.now (E.reports err.old) (E.reports err.new) }
@@ -470,7 +475,7 @@ fn report_obstacle<E: Reporter>(alloc: Global, why: &Obstacle, err: &mut E) -> u
     }
 }
 
-/// The path of the trace; nothing where none is to be written.
+/// Returns the path of the trace; empty if none is to be written.
 pub(crate) fn trace_of(options: &RunWords) -> &str
     ensures { result.now ≡ unwrap_or (run_of options.now).trace [] }
 {
@@ -480,7 +485,7 @@ pub(crate) fn trace_of(options: &RunWords) -> &str
     }
 }
 
-/// Tells the faults of the inittab's lines, and makes the turns. Where these faults, or what the host was to print, could
+/// Writes the faults of the inittab's lines, and makes the turns. If these faults, or what the host was to print, could
 /// not be written, the exit status is 4.
 fn make_run<R, H: Host + Drop, S: Hosts<H>, F: Traces, W: Write, E: Reporter>(
     rt: &R,
@@ -495,15 +500,15 @@ fn make_run<R, H: Host + Drop, S: Hosts<H>, F: Traces, W: Write, E: Reporter>(
 where
     R: Files<File = File> + Alloc + Eprint + Clock,
     requires { is_some run.trace ≡ is_some (run_of options.now).trace }
-    ensures ended { (spoken : Spoken) × (spoken.unled ≡ run.has_no_level)
+    ensures ended { (spoken : RunRemarks) × (spoken.unled ≡ run.has_no_level)
         × (spoken.capped ≡ not options.now.names_end) × (end : End)
         × (result ≡ status_of (turned spoken end))
         × EndsTold (run_of options.now) run.faults.items spoken.told end
         (W.contents out.old) (W.contents out.new)
         × Reports (turned spoken end) (E.reports err.old) (E.reports err.new)
         × (bytes : List ℕ) × (F.told traces.new ≡ F.told traces.old ++ bytes)
-        × ((table : List Entry) → IsOpeningOf (run_of options.now).level table run.opening
-        → Since (H.told run.host) (S.told hosts.new)
+        × ((table : List Entry) → IsStartOver (run_of options.now).level table run.opening
+        → NewCallsSatisfy (H.told run.host) (S.told hosts.new)
         (MakesTraced (run_of options.now) table end bytes)) }
     ensures conforms { S.conforms hosts.new (H.settings run.host) }
     ensures opened { S.opened hosts.new ≡ S.opened hosts.old }
@@ -529,7 +534,7 @@ where
     status_where(is_told, is_printed, status)
 }
 
-/// The exit status where all was told and printed, and where not.
+/// Returns this exit status if the faults were written and everything was printed, otherwise 4.
 fn status_where(is_told: bool, is_printed: bool, status: u8) -> u8
     ensures { result ≡ (if is_told && is_printed then status else DEVICE_FAULT) }
 {
@@ -540,20 +545,20 @@ fn status_where(is_told: bool, is_printed: bool, status: u8) -> u8
     }
 }
 
-/// Says of a run that is to give an entry's result, and isn't ended where it is drained, that it goes on behind that.
+/// Reports that a run with `--result` and without `--drain` continues after its entry has ended.
 fn tell_endless(rt: &impl Eprint, options: &RunWords) {
     match &options.result {
         Some(id) if !options.drain => {
             let id = id.as_str();
             let _ = eprintln!(rt;
-                "initd: --result {id}: without --drain the run goes on when {id} has ended"
+                "initd: --result {id}: the run continues after {id} has ended; use --drain to end it"
             );
         }
         _ => {}
     }
 }
 
-/// Says of a trace that is not put away before the limit of file sizes that it ends there.
+/// Reports that the file size limit ends the trace, unless its files are put away before that.
 fn tell_limit(rt: &impl Eprint, options: &RunWords, trace: &Option<File>) {
     let (Some(file), Some(limit)) = (trace, file_size_limit()) else {
         return;
@@ -562,12 +567,12 @@ fn tell_limit(rt: &impl Eprint, options: &RunWords, trace: &Option<File>) {
     if !is_put_away && file.metadata().is_ok_and(|found| found.is_file()) {
         let path = trace_of(options);
         let _ = eprintln!(rt;
-            "initd: {path}: ulimit -f ends it at {limit} bytes: give a --trace-size below that"
+            "initd: {path}: ulimit -f limits it to {limit} bytes; use a smaller --trace-size"
         );
     }
 }
 
-/// Makes the turns, and writes the trace where there is a file for it.
+/// Makes the turns, and writes the trace if there is a file for it.
 fn make_traced<R: Files + Eprint, H: Host, F: Traces, E: Reporter>(
     rt: &R,
     traces: &mut F,
@@ -582,8 +587,8 @@ fn make_traced<R: Files + Eprint, H: Host, F: Traces, E: Reporter>(
     ensures ended { (end : End) × (result.0 ≡ end_status end) × EndsServed (run_of options.now) end
         × ReportsEnd end (E.reports err.old) (E.reports err.new)
         × (bytes : List ℕ) × (F.told traces.new ≡ F.told traces.old ++ bytes)
-        × ((table : List Entry) → IsOpeningOf (run_of options.now).level table opening
-        → Since (H.told host) (H.told result.1)
+        × ((table : List Entry) → IsStartOver (run_of options.now).level table opening
+        → NewCallsSatisfy (H.told host) (H.told result.1)
         (MakesTraced (run_of options.now) table end bytes)) }
     ensures settings { H.settings result.1 ≡ H.settings host }
 {
@@ -597,7 +602,7 @@ fn make_traced<R: Files + Eprint, H: Host, F: Traces, E: Reporter>(
     (status, host)
 }
 
-/// Makes the turns over a log in the files of their trace, and gives these back.
+/// Makes the turns with a log in the files of their trace, and returns these files, too.
 fn make_over<R: Files + Eprint, H: Host, S: TraceFiles, E: Reporter>(
     rt: &R,
     alloc: Global,
@@ -612,8 +617,8 @@ fn make_over<R: Files + Eprint, H: Host, S: TraceFiles, E: Reporter>(
     ensures ended { (end : End) × (result.0 ≡ end_status end) × EndsServed (run_of options.now) end
         × ReportsEnd end (E.reports err.old) (E.reports err.new)
         × ((bytes : List ℕ) → IfSome (S.contents result.2) (λ taken. taken ≡ bytes)
-        → (table : List Entry) → IsOpeningOf (run_of options.now).level table opening
-        → Since (H.told host) (H.told result.1)
+        → (table : List Entry) → IsStartOver (run_of options.now).level table opening
+        → NewCallsSatisfy (H.told host) (H.told result.1)
         (MakesTraced (run_of options.now) table end bytes)) }
     ensures settings { H.settings result.1 ≡ H.settings host }
 {
@@ -624,10 +629,12 @@ fn make_over<R: Files + Eprint, H: Host, S: TraceFiles, E: Reporter>(
     make_turns(rt, alloc, options, opening, host, log, err)
 }
 
-/// Makes the turns of a run, from its opening on, ends its log, and reports how they ended: the exit status is 0, or that
-/// of the entry whose result the run's is, where it ended drained, 3 at the limit of turns, and 4 where the log failed. A
-/// run that is judged and breaks a law has 2 in place of 0 and 3, and 4 where memory ran out for the judge. Gives the host
-/// back, and what is left of the log.
+/// Makes the turns of a run from its opening on, ends its log, reports how they ended, and returns the exit status, the
+/// host, and what is left of the log.
+///
+/// The exit status is 0, or that of the entry of `--result`, if the run ended drained, 3 at the limit of turns, and 4
+/// if the log failed. With `--judge`, 0 and 3 are replaced by 2 if the run breaks a law, and by 4 if the judge ran out
+/// of memory.
 pub fn make_turns<R: Files + Eprint, H: Host, L: EndedLog, E: Reporter>(
     rt: &R,
     alloc: Global,
@@ -637,13 +644,14 @@ pub fn make_turns<R: Files + Eprint, H: Host, L: EndedLog, E: Reporter>(
     log: L,
     err: &mut E,
 ) -> (u8, H, L::Left)
-    // the exit status and what is reported are those of an end of turns; over the table of the opening the calls made are
-    // those of init's turns, which ended so; and if the log was fresh, so has it, and when each call was made, it had
-    // taken the whole trace until then, or had failed
+    // There is an end of turns that determines the exit status and what is reported. Over the table of the opening, the
+    // calls made to the host are those of init's turns, which ended like this. If the log was fresh, it ended like
+    // this, too, and when each call was made, it had taken the whole trace up to that moment, or had failed.
     ensures ended { (end : End) × (result.0 ≡ end_status end) × EndsServed (run_of options.now) end
         × ReportsEnd end (E.reports err.old) (E.reports err.new)
-        × ((table : List Entry) → IsOpeningOf (run_of options.now).level table opening
-        → Since (H.told host) (H.told result.1) (MakesLogged L.state ((L.state log).taken [])
+        × ((table : List Entry) → IsStartOver (run_of options.now).level table opening
+        → NewCallsSatisfy (H.told host) (H.told result.1)
+        (MakesLogged L.state ((L.state log).taken [])
         (L.has_ended result.2) (run_of options.now) table end)) }
     ensures settings { H.settings result.1 ≡ H.settings host }
 {
@@ -668,7 +676,7 @@ pub fn make_turns<R: Files + Eprint, H: Host, L: EndedLog, E: Reporter>(
     (status, host, log_end)
 }
 
-/// Turns whose log was ended, with all that it took or not.
+/// Returns how the turns ended once their log was ended, with everything that it took or not.
 fn ended_with(served: Served, whole: bool) -> Served
     ensures { result ≡ record served { logged = served.logged && whole } }
 {

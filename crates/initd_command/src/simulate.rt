@@ -1,4 +1,4 @@
-//! `initd simulate`: init over a script.
+//! `initd simulate`: running init over a script.
 
 ghost use Rattle.std.specs.Prelude.{◌≡◌};
 ghost use Rattle.initd_command.specs.Words.{simulation_of, scenario};
@@ -38,8 +38,8 @@ pub(crate) fn simulate_files<T: Texts, W: Write, E: Reporter>(
     }
 }
 
-/// Runs init over the texts of an inittab and a script, sees that what was written is out, reports a fault, and gives the
-/// exit status.
+/// Runs init over the texts of an inittab and a script, flushes the output, reports a fault, and returns the exit
+/// status.
 pub fn simulate_texts<W: Write, E: Reporter>(
     alloc: Global,
     inittab: &[u8],

@@ -1,32 +1,34 @@
-//! What is said between turns, on standard error: of waited entries that failed, of a channel whose folder is gone, and,
-//! on request, of a stage that isn't settled for long.
+//! Reports between turns, on standard error: failed entries that init waited for, a channel whose folder is gone, and,
+//! on request, what a stage waits for that is not settled for long.
 
 ghost use Rattle.std.specs.Prelude.{◌≡◌};
-ghost use Rattle.initd_command.specs.Watching.{bad_end, failure_of, holds_child, is_let_end};
+ghost use Rattle.initd_command.specs.Watching.{failed_end, failure_of, holds_child, was_not_stopped};
 
-use core_steps::{Core, Record};
 use core_waiting::waiting_lines;
-use init_turns::TurnObserver;
 use init_words::{Act, ChildNumber, Entry, Id, Stage, Status, lives};
+use level_core::{Core, Slot};
 use std::alloc::Global;
 use std::io::ErrorKind;
 use std::rt::Files;
 use std::{fs, str};
+use supervisor::TurnObserver;
 
-/// How long a stage may go on unsettled, in seconds, before it is said what it waits for.
+/// How long a stage may be unsettled, in seconds, before it is reported what it waits for.
 const PATIENCE: u64 = 60;
 
-/// Looks at init between its turns.
+/// Observes init between its turns.
 #[derive(Drop)]
 pub(crate) struct Progress<'a, R> {
     rt: &'a R,
     alloc: Global,
-    /// Each end of a child is told by itself, and what an unsettled stage waits for.
+    /// Whether each end of a child is reported anyway, so that failures need no report of their own; and whether it is
+    /// reported what an unsettled stage waits for.
     is_verbose: bool,
     stage: Option<Stage>,
-    /// The time, in seconds, from which on the stage has been unsettled, or what it waits for was said.
+    /// The time, in seconds, since which the stage has been unsettled, or at which it was last reported what it waits
+    /// for.
     since: u64,
-    /// The children of waited entries, as they were behind the turn before.
+    /// The children of entries that init waits for, as they were after the turn before.
     waited: Vec<(Id, ChildNumber)>,
     /// The folder of the channel.
     folder: &'a str,
@@ -34,7 +36,8 @@ pub(crate) struct Progress<'a, R> {
 }
 
 impl<'a, R: Files + Eprint> Progress<'a, R> {
-    /// One that looks for the folder of the channel at this path. Where all ends are told it tells no failure.
+    /// Returns an observer that looks for the folder of the channel at this path. With `is_verbose`, when all ends are
+    /// reported, it reports no failures.
     pub(crate) fn new(
         rt: &'a R,
         alloc: Global,
@@ -53,7 +56,7 @@ impl<'a, R: Files + Eprint> Progress<'a, R> {
         }
     }
 
-    /// Notes the children that init waits for. Those that there is no memory for aren't told.
+    /// Notes the children that init waits for. Children for which there is no memory are not reported.
     fn note_waited(&mut self, core: &Core) {
         self.waited.clear();
         for slot in core.slots().as_slice() {
@@ -65,8 +68,8 @@ impl<'a, R: Files + Eprint> Progress<'a, R> {
         }
     }
 
-    /// Tells what a stage waits for that has gone on for a minute and is not announced settled; and again after each
-    /// further minute.
+    /// Reports what a stage waits for that is not announced settled after a minute, and again after each further
+    /// minute.
     fn tell_waiting(&mut self, core: &Core) {
         let fields = core.fields();
         let is_same = fields.stage == self.stage && !fields.announced;
@@ -83,12 +86,12 @@ impl<'a, R: Files + Eprint> Progress<'a, R> {
         }
     }
 
-    /// Tells how each child that init waited for ended, where it failed.
+    /// Reports how each child that init waited for ended, if it failed.
     fn tell_failures(&self, core: &Core) {
         for (id, number) in &self.waited {
             let _ = match failure(core, id, *number) {
                 Some(Status::Exit(code)) => {
-                    eprint!(self.rt; "initd: {}: ended with {code}\n", id.as_str())
+                    eprint!(self.rt; "initd: {}: exited with status {code}\n", id.as_str())
                 }
                 Some(Status::Killed) => eprint!(self.rt; "initd: {}: killed\n", id.as_str()),
                 None => Ok(()),
@@ -96,7 +99,7 @@ impl<'a, R: Files + Eprint> Progress<'a, R> {
         }
     }
 
-    /// Tells once that the folder of the channel is gone, and once that it is there again.
+    /// Reports once that the folder of the channel is gone, and once that it is there again.
     fn tell_folder(&mut self) {
         let is_gone = match fs::metadata(self.rt, self.folder) {
             Ok(_) => false,
@@ -108,14 +111,11 @@ impl<'a, R: Files + Eprint> Progress<'a, R> {
         self.is_gone = is_gone;
         let _ = if is_gone {
             eprint!(self.rt;
-                "initd: the folder of the channel is gone: no request comes until {} is made again\n",
+                "initd: the folder of the channel is gone; no request arrives until {} exists again\n",
                 self.folder
             )
         } else {
-            eprint!(self.rt;
-                "initd: {} is there again: requests are heard\n",
-                self.folder
-            )
+            eprint!(self.rt; "initd: {} exists again; requests are read\n", self.folder)
         };
     }
 }
@@ -137,8 +137,8 @@ impl<'a, R: Files + Eprint> TurnObserver<Global> for Progress<'a, R> {
     }
 }
 
-/// How the child of this number that init waited for ended, where it failed: nothing where it goes on, or where a
-/// reading of inittab or another level stopped it.
+/// Returns how the child with this number, for which init waited, ended, if it failed. Returns `None` if the child is
+/// still running, or if a reading of inittab or another level stopped it.
 fn failure(core: &Core, id: &Id, number: ChildNumber) -> Option<Status>
     ensures { result ≡ failure_of core.now id.now number }
 {
@@ -148,11 +148,11 @@ fn failure(core: &Core, id: &Id, number: ChildNumber) -> Option<Status>
     if is_child(slot, number) || !is_meant(entry, stage) {
         return None;
     }
-    bad_end(slot.last())
+    failed_end(slot.last())
 }
 
-/// The child of the record has this number.
-fn is_child(slot: &Record, number: ChildNumber) -> bool
+/// Returns whether the record has a child with this number.
+fn is_child(slot: &Slot, number: ChildNumber) -> bool
     ensures { result ≡ holds_child number slot.now }
 {
     match slot.child() {
@@ -161,9 +161,9 @@ fn is_child(slot: &Record, number: ChildNumber) -> bool
     }
 }
 
-/// Another end than by 0.
-fn bad_end(last: Option<Status>) -> Option<Status>
-    ensures { result ≡ bad_end last }
+/// Returns an end other than exit status 0.
+fn failed_end(last: Option<Status>) -> Option<Status>
+    ensures { result ≡ failed_end last }
 {
     match last {
         Some(Status::Exit(0)) => None,
@@ -171,14 +171,15 @@ fn bad_end(last: Option<Status>) -> Option<Status>
     }
 }
 
-/// No stop of the stage was for the entry's child: it lives there, or belongs to stages that init leaves behind its end.
+/// Returns whether the entry's child was not stopped by the stage: it may live in it, or the entry's action is one
+/// after whose end init goes to the next stage.
 fn is_meant(entry: &Entry, stage: Stage) -> bool
-    ensures { result ≡ is_let_end entry.now stage }
+    ensures { result ≡ was_not_stopped entry.now stage }
 {
     matches!(entry.act, Act::Sysinit | Act::Bootwait) || lives(entry, stage)
 }
 
-/// The folder of a path.
+/// Returns the folder of a path.
 fn folder_of(path: &str) -> &str {
     match path.rsplit_once('/') {
         Some(("", _)) => "/",

@@ -1,4 +1,4 @@
--- The commands' lines use no more of clap than what is known of it.
+-- The command lines use only the part of clap whose behaviour is specified.
 use Rattle.std.proofs.Common.{◌≡◌, refl, true}
 use Rattle.clap.specs.Words.{is_simple_and_free}
 use Rattle.clap.proofs.OnLiterals.{clap_on_literals}

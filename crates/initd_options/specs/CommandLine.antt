@@ -1,5 +1,5 @@
--- The command lines `initd simulate [--level L] TABLE SCRIPT`, `initd check [--growing] [--pieces] TRACE` and `initd
--- run ..`, and `initd --version`.
+-- The command lines `initd simulate [--level L] TABLE SCRIPT`, `initd check [--growing] [--pieces] TRACE`, `initd run`
+-- with its options, and `initd --version`.
 use Rattle.std.specs.Prelude.{Bool, if◌then◌else◌, List, [], ◌∷◌, codes, Option, Some, None, option_and_then}
 use Rattle.std.specs.Prelude.{option_map, string_bytes}
 use Rattle.std.specs.Str.{bytes_eq}
@@ -29,13 +29,13 @@ pub record SimulateArguments : Type 0 where
   pub table : Text
   pub script : Text
 
--- whether the trace may be unfinished, whether it is read with the pieces before it, and its path
+-- whether the trace may end in an incomplete happening, whether it is judged with the pieces before it, and its path
 pub record CheckArguments : Type 0 where
   pub growing : Bool
   pub pieces : Bool
   pub trace : Text
 
--- the version, a simulated run of init, a trace that is judged, or a run over the operating system
+-- print the version, simulate a run of init, judge a trace, or run init over the operating system
 pub data InitdArguments : Type 0 where
   version : InitdArguments
   simulates : SimulateArguments → InitdArguments
@@ -55,7 +55,7 @@ arguments_of (Simulate words) = simulates (simulation_of words)
 arguments_of (Check words) = judges (check_of words)
 arguments_of (Serve arguments) = runs (run_of arguments)
 
--- what the words after `simulate` say
+-- the arguments of `initd simulate`, given the values of its rows; none if the level is not valid
 abbrev pub simulation_arguments : List Row → Option SimulateArguments
 simulation_arguments rows =
     option_map (λ level. record {
@@ -65,10 +65,11 @@ simulation_arguments rows =
     })
     (level_option rows)
 
+-- the arguments after `simulate`; none if they are not valid
 abbrev pub simulation_read_of : List Text → Option SimulateArguments
 simulation_read_of words = option_and_then simulation_arguments (given_by simulate_line words)
 
--- what the words after `check` say
+-- the arguments of `initd check`, given the values of its rows
 abbrev pub check_arguments : List Row → CheckArguments
 check_arguments rows = record {
   growing = is_set (codes "--growing") rows;
@@ -76,14 +77,15 @@ check_arguments rows = record {
   trace = value_said (codes "TRACE") rows;
 }
 
+-- the arguments after `check`; none if they are not valid
 abbrev pub check_read_of : List Text → Option CheckArguments
 check_read_of words = option_map check_arguments (given_by check_line words)
 
--- what the words after `run` say
+-- the arguments after `run`; none if they are not valid
 abbrev pub run_read_of : List Text → Option RunArguments
 run_read_of words = option_and_then run_arguments (given_by run_line words)
 
--- what a command says by the words behind it; where it is none, or they are none of its, nothing
+-- the arguments of a command; none if there is no such command, or its arguments are not valid
 abbrev pub command_arguments : Text → List Text → Option InitdArguments
 command_arguments command words =
     if bytes_eq command (codes "simulate") then option_map simulates (simulation_read_of words)
@@ -91,10 +93,11 @@ command_arguments command words =
     else if bytes_eq command (codes "run") then option_map runs (run_read_of words)
     else None
 
+-- the arguments of `initd` other than `--version`
 abbrev pub line_arguments : List Text → Option InitdArguments
 line_arguments [] = None
 line_arguments (command ∷ words) = command_arguments command words
 
--- what words say
+-- the arguments of `initd`; none if they are not valid
 abbrev pub initd_read_of : List Text → Option InitdArguments
 initd_read_of words = if asks_version words then Some version else line_arguments words

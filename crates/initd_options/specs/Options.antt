@@ -1,4 +1,4 @@
--- What the options of `initd run` say.
+-- The options of `initd run` and their values.
 use Rattle.std.specs.Prelude.{ℕ, Bool, true, false, ◌+◌, ◌-◌, ◌*◌, ◌^◌, ◌==◌, ◌&&◌, if◌then◌else◌, nat_lt, nat_le, List}
 use Rattle.std.specs.Prelude.{[], ◌∷◌, ◌++◌, length, codes, Option, Some, None, option_and_then, option_map}
 use Rattle.std.specs.Prelude.{string_bytes, is_some, ◌||◌}
@@ -11,8 +11,9 @@ use Rattle.init_words.specs.Ids.{id_read}
 use Rattle.text_lines.specs.Lines.{cut}
 use Rattle.text_lines.specs.Numbers.{number_read}
 use Rattle.initd_options.specs.declared.options.RunWords.{RunWords}
-use Rattle.initd_options.specs.declared.options.TheConstants.{FOREVER, KEEP_LIMIT, PAUSE_LIMIT, PAUSE_SECONDS}
-use Rattle.initd_options.specs.declared.options.TheConstants.{SIZE_LEAST, SIZE_MOST, TURNS_DEFAULT}
+use Rattle.initd_options.specs.declared.options.TheConstants.{DELAY_LIMIT, FOREVER, KEEP_LIMIT, PAUSE_DEFAULT}
+use Rattle.initd_options.specs.declared.options.TheConstants.{PAUSE_LIMIT}
+use Rattle.initd_options.specs.declared.options.TheConstants.{PAUSE_SECONDS, SIZE_LEAST, SIZE_MOST, TURNS_DEFAULT}
 use Rattle.initd_options.specs.declared.options.TheConstants.{TURNS_LIMIT, UNITS_LIMIT}
 use Rattle.init_words.specs.Levels.{level_read}
 use Rattle.program_io.specs.Arguments.{only_byte}
@@ -21,52 +22,54 @@ use Rattle.program_io.specs.Arguments.{only_byte}
 abbrev pub level_word_read : Text → Option Level
 level_word_read word = option_and_then level_read (only_byte word)
 
--- the level that is given, if one is; nothing where it is none
+-- the level of a word, if one is given; none if it is not valid
 abbrev pub level_in : Option Text → Option (Option Level)
 level_in None = Some None
 level_in (Some word) = option_map Some (level_word_read word)
 
+-- the value of `--level`, checked
 abbrev pub level_option : List Row → Option (Option Level)
 level_option rows = level_in (first_of (codes "--level") rows)
 
--- a word without the zeros in front of it
+-- a word without its leading zeros
 abbrev pub without_zeros : Text → Text
 without_zeros [] = []
 without_zeros (byte ∷ word) = if byte == 48 then without_zeros word else byte ∷ word
 
--- a number of turns: 1 to the limit
+-- a number of turns, from 1 to the limit
 abbrev pub turns_read : Text → Option ℕ
 turns_read word =
     option_and_then (λ turns. if nat_lt 0 turns then Some turns else None)
     (number_read (TURNS_LIMIT + 1) (without_zeros word))
 
--- the greatest number of turns, by whether it has no limit and by the word that is given, of which one may be
+-- the maximum number of turns, given whether there is no limit and the word for a number; only one of them may be given
 abbrev pub turns_in : Bool → Option Text → Option ℕ
 turns_in false None = Some TURNS_DEFAULT
 turns_in false (Some word) = turns_read word
 turns_in true None = Some FOREVER
 turns_in true (Some word) = None
 
+-- the maximum number of turns according to `--turns` and `--forever`
 abbrev pub turns_option : List Row → Option ℕ
 turns_option rows = turns_in (is_set (codes "--forever") rows) (first_of (codes "--turns") rows)
 
--- the end of a run is named: by a number of turns, as none, or as where nothing is left to do
+-- the end of the run is specified, by `--turns`, `--forever` or `--drain`
 abbrev pub names_end : List Row → Bool
 names_end rows =
     is_some (first_of (codes "--turns") rows) || is_set (codes "--forever") rows || is_set (codes "--drain") rows
 
--- the number of a digit
+-- the value of a digit
 abbrev pub digit_read : ℕ → Option ℕ
 digit_read byte = if is_ascii_digit byte then Some (byte - 48) else None
 
--- the hundredths of one or two digits after a point
+-- the hundredths of one or two digits after the point
 abbrev pub part_read : List ℕ → Option ℕ
 part_read (tenth ∷ []) = option_map (λ t. t * 10) (digit_read tenth)
 part_read (tenth ∷ hundredth ∷ []) =
     option_and_then (λ t. option_map (λ h. t * 10 + h) (digit_read hundredth)) (digit_read tenth)
 part_read _ = None
 
--- the number in front of a point, at most the longest pause; 0 where nothing is
+-- the number before the point, at most the longest pause; 0 if there is none
 abbrev pub whole_read : List ℕ → Option ℕ
 whole_read [] = Some 0
 whole_read digits = number_read (PAUSE_SECONDS + 1) digits
@@ -80,41 +83,55 @@ hundredths_in word (Some parts) =
 abbrev pub hundredths_read : List ℕ → Option ℕ
 hundredths_read word = hundredths_in word (cut 46 word)
 
--- the hundredths of a decimal number of seconds, 0.01 to the longest pause
+-- the hundredths of a decimal number of seconds, from 0.01 to the longest pause
 abbrev pub pause_read : Text → Option ℕ
 pause_read word = option_and_then
     (λ length. if nat_lt 0 length && nat_le length PAUSE_LIMIT then Some length else None) (hundredths_read word)
 
-abbrev pub pause_option : List Row → Option ℕ
-pause_option rows = pause_read (value_said (codes "--pause") rows)
+-- the longest pause if none is given: a minute if the children are watched and a request rings the bell, else a second
+abbrev pub pause_default : List Row → ℕ
+pause_default rows =
+    if is_set (codes "--watch") rows && is_set (codes "--bell") rows then PAUSE_LIMIT else PAUSE_DEFAULT
 
--- the entry whose last status is the run's, if one is given; nothing where it is no id
+-- the longest pause, which has this default
+abbrev pub pause_in : ℕ → Option Text → Option ℕ
+pause_in default None = Some default
+pause_in default (Some word) = pause_read word
+
+-- the value of `--pause`, checked
+abbrev pub pause_option : List Row → Option ℕ
+pause_option rows = pause_in (pause_default rows) (first_of (codes "--pause") rows)
+
+-- the id of a word, if one is given; none if it is not an id
 abbrev pub result_in : Option Text → Option (Option (List ℕ))
 result_in None = Some None
 result_in (Some word) = option_map Some (id_read word)
 
+-- `--result`: the id whose last status becomes the status of the run
 abbrev pub result_option : List Row → Option (Option (List ℕ))
 result_option rows = result_in (first_of (codes "--result") rows)
 
--- whether the trace is brief, which is said of a trace alone
+-- whether the trace is brief, which requires a trace
 abbrev pub brief_in : Bool → Option Text → Option Bool
 brief_in true None = None
 brief_in brief trace = Some brief
 
+-- the value of `--brief`, checked
 abbrev pub brief_option : List Row → Option Bool
 brief_option rows = brief_in (is_set (codes "--brief") rows) (first_of (codes "--trace") rows)
 
--- the bytes of so many units, of which the word has the number and behind it the letter
+-- the bytes of this many units; the digits must be followed by the letter only
 abbrev pub in_units : ℕ → Option (List ℕ × List ℕ) → Option ℕ
 in_units unit None = None
 in_units unit (Some parts) =
     option_and_then (λ number. if length parts.1 == 0 then Some (number * unit) else None)
     (number_read UNITS_LIMIT parts.0)
 
+-- the bytes of a number of units: the word is the number followed by the letter
 abbrev pub units_read : ℕ → ℕ → Text → Option ℕ
 units_read letter unit word = in_units unit (cut letter word)
 
--- a number of bytes, or of kibibytes (K), mebibytes (M) or gibibytes (G), from the least to the greatest length
+-- a number of bytes, or of kibibytes (K), mebibytes (M) or gibibytes (G), within the limits
 abbrev pub size_read : Text → Option ℕ
 size_read word =
     option_and_then (λ size. if nat_le SIZE_LEAST size && nat_le size SIZE_MOST then Some size else None)
@@ -122,38 +139,54 @@ size_read word =
     (option_or (option_or (number_read (2 ^ 64) word) (units_read 75 1024 word)) (units_read 77 1048576 word))
     (units_read 71 1073741824 word))
 
--- the length at which a trace is put away, if one is given, of a trace that is to be written
+-- the length at which a trace is put away, if one is given, which requires a trace
 abbrev pub size_in : Option Text → Option Text → Option (Option ℕ)
 size_in None trace = Some None
 size_in (Some word) None = None
 size_in (Some word) (Some trace) = option_map Some (size_read word)
 
+-- the value of `--trace-size`, checked
 abbrev pub size_given : List Row → Option (Option ℕ)
 size_given rows = size_in (first_of (codes "--trace-size") rows) (first_of (codes "--trace") rows)
 
--- a number of files, from one on
+-- a number of files, at least one
 abbrev pub keep_read : Text → Option ℕ
 keep_read word =
     option_and_then (λ keep. if nat_lt 0 keep then Some keep else None) (number_read (KEEP_LIMIT + 1) word)
 
--- how many files that were put away are kept, if it is given, of a trace that is put away
+-- the number of files put away that are kept, if it is given, which requires a length at which they are
 abbrev pub keep_in : Option Text → Option Text → Option (Option ℕ)
 keep_in None size = Some None
 keep_in (Some word) None = None
 keep_in (Some word) (Some size) = option_map Some (keep_read word)
 
+-- the value of `--trace-keep`, checked
 abbrev pub keep_given : List Row → Option (Option ℕ)
 keep_given rows = keep_in (first_of (codes "--trace-keep") rows) (first_of (codes "--trace-size") rows)
 
--- The paths of the inittab, of the folder of its further files, if it is given, of the channel of requests and of the
--- text of init's state; whether the requests that the channel has already are left out; the path of the trace, if it
--- is given, whether it is brief, the length at which it is put away, if it is, and how many files are kept then, if not
--- all are; whether each happening is judged;
--- the level to go to, if it is given; the greatest number of turns; whether the run ends where it is drained, and
--- whether words name its end; the seconds of a pause; the entry whose last status is the run's, if one is given;
--- whether each start and end is told; the folder of the children's output, if it is given; whether signals go to the
--- groups of children; whether an inittab with a faulty line is not taken; whether lines have the time in front; and
--- whether the channel's bell is made.
+-- a delay in seconds, from 1 to the limit
+abbrev pub delay_read : Text → Option ℕ
+delay_read word =
+    option_and_then (λ delay. if nat_lt 0 delay then Some delay else None) (number_read (DELAY_LIMIT + 1) word)
+
+-- the longest delay of a start, if one is given; none if it is not valid
+abbrev pub delay_in : Option Text → Option (Option ℕ)
+delay_in None = Some None
+delay_in (Some word) = option_map Some (delay_read word)
+
+-- the value of `--respawn-delay`, checked
+abbrev pub delay_given : List Row → Option (Option ℕ)
+delay_given rows = delay_in (first_of (codes "--respawn-delay") rows)
+
+-- The arguments of `initd run`. First the paths of the inittab, of the folder of its further files, if given, of the
+-- channel of requests, and of the state file; and whether to skip the requests that the channel already has. For the
+-- trace: its path, if given; whether it is brief; the length at which it is put away, if any; the number of files kept,
+-- if not all; and whether each happening is judged. For the run: the level to go to, if given; the maximum number of
+-- turns; whether it ends when nothing is left to do and nothing runs; whether its end is specified; the longest pause,
+-- in hundredths of a second; and the id whose last status becomes its own, if given. The others: whether each start and
+-- end of a child is reported; the folder of the children's output, if given; whether signals go to process groups; the
+-- longest delay of a start in seconds, if starts are delayed; whether an inittab with a faulty line is rejected;
+-- whether lines begin with the time; whether the bell is created; and whether the children are watched.
 pub record RunArguments : Type 0 where
   pub inittab : Text
   pub inittab_dir : Option Text
@@ -174,10 +207,13 @@ pub record RunArguments : Type 0 where
   pub verbose : Bool
   pub logs : Option Text
   pub groups : Bool
+  pub respawn_delay : Option ℕ
   pub strict : Bool
   pub stamp : Bool
   pub bell : Bool
+  pub watch : Bool
 
+-- the arguments as the parser returns them
 abbrev pub run_of : RunWords → RunArguments
 run_of arguments = record {
   inittab = string_bytes arguments.inittab;
@@ -199,15 +235,17 @@ run_of arguments = record {
   verbose = arguments.verbose;
   logs = option_map (λ (path : _). string_bytes path) arguments.logs;
   groups = arguments.groups;
+  respawn_delay = arguments.respawn_delay;
   strict = arguments.strict;
   stamp = arguments.stamp;
   bell = arguments.bell;
+  watch = arguments.watch;
 }
 
--- what the words say, with these values of the options that may be refused
-abbrev pub service_with
-    : List Row → Option Level → ℕ → ℕ → Option (List ℕ) → Bool → Option ℕ → Option ℕ → RunArguments
-service_with rows level turns pause result brief size keep = record {
+-- the arguments, given the values of the options that can be rejected
+abbrev pub service_with : List Row → Option Level → ℕ → ℕ → Option (List ℕ) → Bool → Option ℕ → Option ℕ → Option ℕ
+    → RunArguments
+service_with rows level turns pause result brief size keep delay = record {
   inittab = value_said (codes "--inittab") rows;
   inittab_dir = first_of (codes "--inittab-dir") rows;
   initctl = value_said (codes "--initctl") rows;
@@ -227,13 +265,15 @@ service_with rows level turns pause result brief size keep = record {
   verbose = is_set (codes "--verbose") rows;
   logs = first_of (codes "--logs") rows;
   groups = is_set (codes "--groups") rows;
+  respawn_delay = delay;
   strict = is_set (codes "--strict") rows;
   stamp = is_set (codes "--stamp") rows;
   bell = is_set (codes "--bell") rows;
+  watch = is_set (codes "--watch") rows;
 }
 
--- what the words after `run` say; nothing where the level, the turns, the pause, the entry, the length or the number of
--- files are none, or a trace that is brief or put away is
+-- the arguments after `run`; none if the level, the turns, the pause, the id, the length, the number of files or the
+-- delay is not valid, or if an option lacks the one that it requires
 abbrev pub run_arguments : List Row → Option RunArguments
 run_arguments rows =
     option_and_then
@@ -242,7 +282,9 @@ run_arguments rows =
     (λ pause. option_and_then
     (λ result. option_and_then
     (λ brief. option_and_then
-    (λ size. option_map (λ keep. service_with rows level turns pause result brief size keep) (keep_given rows))
+    (λ size. option_and_then
+    (λ keep. option_map (λ delay. service_with rows level turns pause result brief size keep delay) (delay_given rows))
+    (keep_given rows))
     (size_given rows))
     (brief_option rows))
     (result_option rows))

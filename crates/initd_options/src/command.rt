@@ -10,10 +10,10 @@ use command_words::{Row, WordFault, is_set, is_version, meant_of, read_line, val
 use init_words::Level;
 use std::alloc::{AllocError, Global};
 
-/// What a command line of `initd simulate` says.
+/// The arguments of `initd simulate`.
 #[derive(Drop)]
 pub struct SimulateWords {
-    /// The runlevel to go to, where one is given.
+    /// The runlevel to go to, if one is given.
     pub level: Option<Level>,
     /// The path of the inittab(5).
     pub table: String,
@@ -21,21 +21,21 @@ pub struct SimulateWords {
     pub script: String,
 }
 
-/// What a command line of `initd check` says.
+/// The arguments of `initd check`.
 #[derive(Drop)]
 pub struct CheckWords {
-    /// The trace is still written: it is judged up to its last whole happening.
+    /// Whether the trace is still being written, so that it is judged up to its last complete happening.
     pub growing: bool,
-    /// The pieces that were put away before it are judged with it.
+    /// Whether the pieces that were put away before it are judged with it.
     pub pieces: bool,
     /// The path of the trace.
     pub trace: String,
 }
 
-/// What a command line of `initd` says.
+/// The arguments of `initd`.
 #[derive(Drop)]
 pub enum Words {
-    /// Write the version. The words are `--version` alone.
+    /// Print the version. The only argument is `--version`.
     Version,
     /// Run init over an inittab and a script.
     Simulate(SimulateWords),
@@ -48,17 +48,17 @@ pub enum Words {
 /// The commands.
 const COMMANDS: &[&str] = &["run", "simulate", "check"];
 
-/// The option and the words of `initd simulate`.
+/// The options and arguments of `initd simulate`.
 const SIMULATE: &[Row] = &[("--level", "L", ""), ("TABLE", "", ""), ("SCRIPT", "", "")];
 
-/// The options and the word of `initd check`.
+/// The options and arguments of `initd check`.
 const CHECK: &[Row] = &[
     ("--growing", "", ""),
     ("--pieces", "", ""),
     ("TRACE", "", ""),
 ];
 
-/// Reads a command line, without the program's name in front. `Usage` says why it is none.
+/// Parses a command line, given without the program's name. `Usage` gives the reason why it is not valid.
 pub fn read_words(alloc: Global, words: &[String]) -> Result<Words, WordFault>
     ensures ok { IfOk result (λ arguments.
         initd_read_of (map string_bytes words.now) ≡ Some (arguments_of arguments)) }
@@ -70,11 +70,11 @@ pub fn read_words(alloc: Global, words: &[String]) -> Result<Words, WordFault>
     }
     match words {
         [command, rest @ ..] => read_command(alloc, command.as_str(), rest),
-        [] => Err(WordFault::Usage(String::from_str(alloc, "a word is missing")?)),
+        [] => Err(WordFault::Usage(String::from_str(alloc, "missing argument")?)),
     }
 }
 
-/// Reads the words behind a command.
+/// Parses the arguments after a command.
 fn read_command(alloc: Global, command: &str, words: &[String]) -> Result<Words, WordFault>
     ensures ok { IfOk result (λ arguments.
         command_arguments command.now (map string_bytes words.now)
@@ -90,13 +90,13 @@ fn read_command(alloc: Global, command: &str, words: &[String]) -> Result<Words,
     }
 }
 
-/// Why a word that is no command is refused. It is empty where help is asked for.
+/// Returns the reason for rejecting a word that is not a command. It is empty if help was requested.
 fn unknown_command(alloc: Global, word: &str) -> Result<String, AllocError> {
     match (word, meant_of(COMMANDS, word)) {
         ("--help" | "-h" | "help", _) => Ok(String::new(alloc)),
-        (_, Some(meant)) => format!(in alloc; "no such command: {word}: {meant}?"),
-        _ if word.starts_with('-') => format!(in alloc; "no such option: {word}"),
-        _ => format!(in alloc; "no such command: {word}"),
+        (_, Some(meant)) => format!(in alloc; "unknown command: {word}; did you mean {meant}?"),
+        _ if word.starts_with('-') => format!(in alloc; "unknown option: {word}"),
+        _ => format!(in alloc; "unknown command: {word}"),
     }
 }
 

@@ -1,4 +1,4 @@
-//! The words of `initd`: what a command line says, and which are refused (init(8)).
+//! The command line of `initd`: its commands, options and arguments, and which of them are rejected; see initd(8).
 #![tactic(auto)]
 
 mod command;

@@ -1,9 +1,9 @@
-//! The options of `initd run`, and what their words may be.
+//! The options of `initd run` and their values.
 
 ghost use Rattle.std.specs.Prelude.{◌≡◌, ◌<◌, ◌≤◌, IfErr, IfOk, IfSome, IsSome, None, Some};
 ghost use Rattle.clap.specs.Words.{found_of, rows_of};
 ghost use Rattle.command_words.specs.Faults.{reason_of};
-ghost use Rattle.initd_options.specs.Options.{brief_option, digit_read, hundredths_read, level_option, level_word_read, names_end, part_read, pause_read, pause_option, result_option, run_of, run_arguments, keep_given, keep_read, size_given, size_read, turns_read, turns_option, units_read, whole_read, without_zeros};
+ghost use Rattle.initd_options.specs.Options.{brief_option, delay_given, delay_read, digit_read, hundredths_read, level_option, level_word_read, names_end, part_read, pause_default, pause_read, pause_option, result_option, run_of, run_arguments, keep_given, keep_read, size_given, size_read, turns_read, turns_option, units_read, whole_read, without_zeros};
 
 use clap::ArgMatches;
 use command_words::{Row, WordFault, checked, is_set, read_path, refused, value_of, word_of};
@@ -12,80 +12,91 @@ use program_io::only_byte;
 use std::alloc::Global;
 use text_lines::{cut, read_below, read_number};
 
-/// What a command line of `initd run` says.
+/// The arguments of `initd run`.
 #[derive(Drop)]
 pub struct RunWords {
     /// The path of the inittab(5).
     pub inittab: String,
-    /// The folder of the inittab's further files, where one is given.
+    /// The folder of the inittab's further files, if one is given.
     pub inittab_dir: Option<String>,
     /// The path of the channel of requests (initreq.h).
     pub initctl: String,
-    /// The requests that the channel has already are left out.
+    /// Whether to skip the requests that the channel already has.
     pub fresh: bool,
-    /// The path of the text of init's state, by which init re-executes itself.
+    /// The path of the state file, which init needs to re-execute itself.
     pub state: String,
-    /// The path of the trace, where one is to be written.
+    /// The path of the trace, if one is to be written.
     pub trace: Option<String>,
-    /// The trace is brief: rounds in which nothing happened are left out of it.
+    /// Whether the trace is brief, which omits rounds in which nothing happened.
     pub brief: bool,
-    /// The length in bytes at which the file of the trace is put away, where it is.
+    /// The length in bytes at which the file of the trace is put away, if it is.
     pub trace_size: Option<u64>,
-    /// How many files that were put away are kept, where not all are.
+    /// The number of files put away that are kept, if not all are.
     pub trace_keep: Option<u64>,
-    /// Each happening is judged by the laws of traces while the run goes on.
+    /// Whether each happening is judged by the laws of traces during the run.
     pub judge: bool,
-    /// The runlevel to go to, where one is given.
+    /// The runlevel to go to, if one is given.
     pub level: Option<Level>,
-    /// The greatest number of turns; without a limit it is `u64::MAX`.
+    /// The maximum number of turns; `u64::MAX` means no limit.
     pub turns: u64,
-    /// It ends where nothing is left to do and nothing runs.
+    /// Whether the run ends when nothing is left to do and nothing runs.
     pub drain: bool,
-    /// Its end is named: by a number of turns, as none, or as where nothing is left to do.
+    /// Whether the end of the run is specified by `--turns`, `--forever` or `--drain`.
     pub names_end: bool,
     /// The longest pause, in hundredths of a second, 1 to 6,000.
     pub pause: u64,
-    /// The entry whose last status is the run's, where one is given.
+    /// The id whose last status becomes the status of the run, if one is given.
     pub result: Option<Id>,
-    /// Each start and each end of a child is told.
+    /// Whether each start and each end of a child is reported.
     pub verbose: bool,
-    /// The folder that the children's output is written to, where one is given.
+    /// The folder to which the output of the children is written, if one is given.
     pub logs: Option<String>,
-    /// Each child is in a session of its own, and a signal goes to its process group.
+    /// Whether each child is in a session of its own, and signals go to its process group.
     pub groups: bool,
-    /// An inittab with a faulty line is not taken.
+    /// The longest delay of a start in seconds, 1 to 3,600, if starts that follow each other too soon are delayed.
+    pub respawn_delay: Option<u16>,
+    /// Whether an inittab with a faulty line is rejected.
     pub strict: bool,
-    /// Each line that the run prints has the time in front.
+    /// Whether each line that the run prints begins with the time.
     pub stamp: bool,
-    /// The bell of the channel is made, where there is none.
+    /// Whether the bell of the channel is created if it does not exist.
     pub bell: bool,
+    /// Whether the children are watched by a helper, so that the end of one ends a pause.
+    pub watch: bool,
 }
 
-/// The greatest number of turns that may be asked for.
+/// The greatest number of turns that can be given.
 const TURNS_LIMIT: u64 = 1_000_000_000;
 
-/// The greatest number of turns where none is said.
+/// The default number of turns.
 const TURNS_DEFAULT: u64 = 1_000_000;
 
-/// The greatest number of turns of a run without a limit.
+/// The number of turns of a run without a limit.
 const FOREVER: u64 = u64::MAX;
 
-/// The least length at which a trace may be put away, in bytes, and the greatest.
+/// The least length in bytes at which a trace can be put away.
 const SIZE_LEAST: u64 = 4_096;
 
+/// The greatest length in bytes at which a trace can be put away.
 const SIZE_MOST: u64 = 1_099_511_627_776;
 
-/// One more than the greatest number of units of such a length.
+/// One more than the greatest number of units in such a length.
 const UNITS_LIMIT: u64 = 1_073_741_825;
 
-/// The greatest number of files that may be kept.
+/// The greatest number of files that can be kept.
 const KEEP_LIMIT: u64 = 1_000_000_000;
 
 /// The longest pause, in seconds.
 const PAUSE_SECONDS: u64 = 60;
 
+/// The default of the longest pause, in hundredths of a second, unless the children are watched and there is a bell.
+const PAUSE_DEFAULT: u64 = 100;
+
 /// The longest pause, in hundredths of a second.
 const PAUSE_LIMIT: u64 = 6_000;
+
+/// The greatest delay of a start, in seconds.
+const DELAY_LIMIT: u64 = 3_600;
 
 /// The options of `initd run`.
 pub(crate) const OPTIONS: &[Row] = &[
@@ -103,17 +114,19 @@ pub(crate) const OPTIONS: &[Row] = &[
     ("--turns", "N", ""),
     ("--forever", "", ""),
     ("--drain", "", ""),
-    ("--pause", "SEC", "1"),
+    ("--pause", "SEC", ""),
     ("--result", "ID", ""),
     ("--verbose", "", ""),
     ("--logs", "DIR", ""),
     ("--groups", "", ""),
+    ("--respawn-delay", "MAX", ""),
     ("--strict", "", ""),
     ("--stamp", "", ""),
     ("--bell", "", ""),
+    ("--watch", "", ""),
 ];
 
-/// What the words after `run` say.
+/// Reads the arguments after `run`.
 pub(crate) fn read_matches(alloc: Global, matches: &ArgMatches) -> Result<RunWords, WordFault>
     ensures ok { IfOk result (λ arguments.
         run_arguments (rows_of (found_of matches.now)) ≡ Some (run_of arguments)) }
@@ -127,6 +140,7 @@ pub(crate) fn read_matches(alloc: Global, matches: &ArgMatches) -> Result<RunWor
     let brief = read_brief(alloc, matches)?;
     let trace_size = read_trace_size(alloc, matches)?;
     let trace_keep = read_trace_keep(alloc, matches)?;
+    let respawn_delay = read_respawn_delay(alloc, matches)?;
     Ok(RunWords {
         inittab: String::from_str(alloc, value_of(matches, "--inittab"))?,
         inittab_dir: read_path(alloc, matches, "--inittab-dir")?,
@@ -147,13 +161,15 @@ pub(crate) fn read_matches(alloc: Global, matches: &ArgMatches) -> Result<RunWor
         verbose: is_set(matches, "--verbose"),
         logs: read_path(alloc, matches, "--logs")?,
         groups: is_set(matches, "--groups"),
+        respawn_delay,
         strict: is_set(matches, "--strict"),
         stamp: is_set(matches, "--stamp"),
         bell: is_set(matches, "--bell"),
+        watch: is_set(matches, "--watch"),
     })
 }
 
-/// The level that is given, where one is.
+/// Reads `--level`, if it is given.
 pub(crate) fn read_level_option(
     alloc: Global,
     matches: &ArgMatches,
@@ -170,14 +186,14 @@ pub(crate) fn read_level_option(
     Ok(Some(level))
 }
 
-/// The runlevel of a word of one character.
+/// Reads a runlevel of one character.
 fn read_level(word: &str) -> Option<Level>
     ensures { result ≡ level_word_read word.now }
 {
     Level::read(only_byte(word)?)
 }
 
-/// The greatest number of turns, by `--turns` or `--forever`, of which one may be given.
+/// Reads the maximum number of turns from `--turns` or `--forever`, which cannot be combined.
 fn read_turns_option(alloc: Global, matches: &ArgMatches) -> Result<u64, WordFault>
     ensures ok { IfOk result (λ turns.
         turns_option (rows_of (found_of matches.now)) ≡ Some turns) }
@@ -187,18 +203,23 @@ fn read_turns_option(alloc: Global, matches: &ArgMatches) -> Result<u64, WordFau
     let forever = is_set(matches, "--forever");
     match word_of(matches, "--turns") {
         None => Ok(if forever { FOREVER } else { TURNS_DEFAULT }),
-        Some(word) if forever => Err(refused(alloc, "--turns", word, "not with --forever")),
+        Some(word) if forever => Err(refused(
+            alloc,
+            "--turns",
+            word,
+            "cannot be combined with --forever",
+        )),
         Some(word) => checked(
             alloc,
             "--turns",
             word,
             read_turns(word),
-            "not 1 to 1000000000",
+            "not a number from 1 to 1000000000",
         ),
     }
 }
 
-/// Whether the end of the run is named.
+/// Returns whether the end of the run is specified.
 fn names_end(matches: &ArgMatches) -> bool
     ensures { result ≡ names_end (rows_of (found_of matches.now)) }
 {
@@ -207,7 +228,7 @@ fn names_end(matches: &ArgMatches) -> bool
         || is_set(matches, "--drain")
 }
 
-/// A word without the zeros in front of it.
+/// Returns a word without its leading zeros.
 fn without_zeros(word: &[u8]) -> &[u8]
     ensures { result.now ≡ without_zeros word.now }
 {
@@ -218,7 +239,7 @@ fn without_zeros(word: &[u8]) -> &[u8]
     rest
 }
 
-/// The number of turns of a word, 1 to 1,000,000,000.
+/// Reads a number of turns, 1 to 1,000,000,000.
 fn read_turns(word: &str) -> Option<u64>
     ensures { result ≡ turns_read word.now }
 {
@@ -226,24 +247,37 @@ fn read_turns(word: &str) -> Option<u64>
     if turns > 0 { Some(turns) } else { None }
 }
 
-/// The longest pause, in hundredths of a second.
+/// Reads `--pause`, and returns hundredths of a second.
 fn read_pause_option(alloc: Global, matches: &ArgMatches) -> Result<u64, WordFault>
     ensures ok { IfOk result (λ pause.
         pause_option (rows_of (found_of matches.now)) ≡ Some pause) }
     ensures usage { IfErr result (λ fault. IsSome (reason_of fault)
         → pause_option (rows_of (found_of matches.now)) ≡ None) }
 {
-    let word = value_of(matches, "--pause");
+    let Some(word) = word_of(matches, "--pause") else {
+        return Ok(pause_default(matches));
+    };
     checked(
         alloc,
         "--pause",
         word,
         read_pause(word.as_bytes()),
-        "not 0.01 to 60 seconds",
+        "not between 0.01 and 60 seconds",
     )
 }
 
-/// The hundredths of a decimal number of seconds, 0.01 to 60, with at most two digits after a point.
+/// Returns the longest pause if none is given, in hundredths of a second.
+fn pause_default(matches: &ArgMatches) -> u64
+    ensures { result ≡ pause_default (rows_of (found_of matches.now)) }
+{
+    if is_set(matches, "--watch") && is_set(matches, "--bell") {
+        PAUSE_LIMIT
+    } else {
+        PAUSE_DEFAULT
+    }
+}
+
+/// Reads a decimal number of seconds, 0.01 to 60, with at most two digits after the point, and returns hundredths.
 fn read_pause(word: &[u8]) -> Option<u64>
     ensures { result ≡ pause_read word.now }
 {
@@ -255,7 +289,7 @@ fn read_pause(word: &[u8]) -> Option<u64>
     }
 }
 
-/// The hundredths of a second of a word.
+/// Reads a decimal number of seconds, and returns hundredths.
 fn read_hundredths(word: &[u8]) -> Option<u64>
     ensures { result ≡ hundredths_read word.now }
 {
@@ -266,7 +300,7 @@ fn read_hundredths(word: &[u8]) -> Option<u64>
     Some(seconds * 100 + read_part(part)?)
 }
 
-/// The number in front of a point, 0 where nothing is.
+/// Reads the number before the point, which is 0 if there is none.
 fn read_whole(digits: &[u8]) -> Option<u64>
     ensures bound { IfSome result (λ whole. whole ≤ 60) }
     ensures value { result ≡ whole_read digits.now }
@@ -277,7 +311,7 @@ fn read_whole(digits: &[u8]) -> Option<u64>
     }
 }
 
-/// The hundredths of one or two digits after a point.
+/// Reads one or two digits after the point, and returns hundredths.
 fn read_part(digits: &[u8]) -> Option<u64>
     ensures bound { IfSome result (λ part. part < 100) }
     ensures value { result ≡ part_read digits.now }
@@ -289,7 +323,7 @@ fn read_part(digits: &[u8]) -> Option<u64>
     }
 }
 
-/// The number of a digit.
+/// Reads a digit.
 fn read_digit(byte: u8) -> Option<u64>
     ensures bound { IfSome result (λ number. number < 10) }
     ensures value { result ≡ digit_read byte }
@@ -301,7 +335,7 @@ fn read_digit(byte: u8) -> Option<u64>
     }
 }
 
-/// The trace is brief, where one is to be written.
+/// Reads `--brief`, which requires `--trace`.
 fn read_brief(alloc: Global, matches: &ArgMatches) -> Result<bool, WordFault>
     ensures ok { IfOk result (λ brief.
         brief_option (rows_of (found_of matches.now)) ≡ Some brief) }
@@ -310,13 +344,13 @@ fn read_brief(alloc: Global, matches: &ArgMatches) -> Result<bool, WordFault>
 {
     let brief = is_set(matches, "--brief");
     if brief && word_of(matches, "--trace").is_none() {
-        let reason = String::from_str(alloc, "--brief: not without --trace")?;
+        let reason = String::from_str(alloc, "--brief requires --trace")?;
         return Err(WordFault::Usage(reason));
     }
     Ok(brief)
 }
 
-/// The length at which a trace is put away, where one is given, of a trace that is to be written.
+/// Reads `--trace-size`, if it is given, which requires `--trace`.
 fn read_trace_size(alloc: Global, matches: &ArgMatches) -> Result<Option<u64>, WordFault>
     ensures ok { IfOk result (λ size.
         size_given (rows_of (found_of matches.now)) ≡ Some size) }
@@ -327,19 +361,19 @@ fn read_trace_size(alloc: Global, matches: &ArgMatches) -> Result<Option<u64>, W
         return Ok(None);
     };
     if word_of(matches, "--trace").is_none() {
-        return Err(refused(alloc, "--trace-size", word, "not without --trace"));
+        return Err(refused(alloc, "--trace-size", word, "requires --trace"));
     }
     let size = checked(
         alloc,
         "--trace-size",
         word,
         read_size(word.as_bytes()),
-        "not 4K to 1024G",
+        "not a size from 4K to 1024G",
     )?;
     Ok(Some(size))
 }
 
-/// How many files that were put away are kept, where a number is given, of a trace that is put away.
+/// Reads `--trace-keep`, if it is given, which requires `--trace-size`.
 fn read_trace_keep(alloc: Global, matches: &ArgMatches) -> Result<Option<u64>, WordFault>
     ensures ok { IfOk result (λ keep.
         keep_given (rows_of (found_of matches.now)) ≡ Some keep) }
@@ -350,19 +384,19 @@ fn read_trace_keep(alloc: Global, matches: &ArgMatches) -> Result<Option<u64>, W
         return Ok(None);
     };
     if word_of(matches, "--trace-size").is_none() {
-        return Err(refused(alloc, "--trace-keep", word, "not without --trace-size"));
+        return Err(refused(alloc, "--trace-keep", word, "requires --trace-size"));
     }
     let keep = checked(
         alloc,
         "--trace-keep",
         word,
         read_keep(word.as_bytes()),
-        "not 1 to 1000000000",
+        "not a number from 1 to 1000000000",
     )?;
     Ok(Some(keep))
 }
 
-/// A number of files, at least one.
+/// Reads a number of files, which is at least one.
 fn read_keep(word: &[u8]) -> Option<u64>
     ensures { result ≡ keep_read word.now }
 {
@@ -370,7 +404,7 @@ fn read_keep(word: &[u8]) -> Option<u64>
     if 0 < keep { Some(keep) } else { None }
 }
 
-/// A number of bytes, or of kibibytes, mebibytes or gibibytes where K, M or G stands behind it.
+/// Reads a number of bytes, or of kibibytes, mebibytes or gibibytes if followed by K, M or G.
 fn read_size(word: &[u8]) -> Option<u64>
     ensures { result ≡ size_read word.now }
 {
@@ -385,7 +419,7 @@ fn read_size(word: &[u8]) -> Option<u64>
     }
 }
 
-/// The bytes of so many units, of which the word has the number and behind it the letter.
+/// Reads a number followed by a letter, and returns that number of units in bytes.
 fn read_units(word: &[u8], letter: u8, unit: u64) -> Option<u64>
     requires { unit ≤ 1073741824 }
     ensures { result ≡ units_read letter unit word.now }
@@ -399,7 +433,35 @@ fn read_units(word: &[u8], letter: u8, unit: u64) -> Option<u64>
     }
 }
 
-/// The entry whose last status is the run's, where one is given.
+/// Reads `--respawn-delay`, if it is given.
+fn read_respawn_delay(alloc: Global, matches: &ArgMatches) -> Result<Option<u16>, WordFault>
+    ensures ok { IfOk result (λ delay.
+        delay_given (rows_of (found_of matches.now)) ≡ Some delay) }
+    ensures usage { IfErr result (λ fault. IsSome (reason_of fault)
+        → delay_given (rows_of (found_of matches.now)) ≡ None) }
+{
+    let Some(word) = word_of(matches, "--respawn-delay") else {
+        return Ok(None);
+    };
+    let delay = checked(
+        alloc,
+        "--respawn-delay",
+        word,
+        read_delay(word.as_bytes()),
+        "not a number from 1 to 3600",
+    )?;
+    Ok(Some(delay))
+}
+
+/// Reads a delay in seconds, which is at least one.
+fn read_delay(word: &[u8]) -> Option<u16>
+    ensures { result ≡ delay_read word.now }
+{
+    let delay = read_below(word, DELAY_LIMIT + 1)?;
+    if 0 < delay { Some(delay as u16) } else { None }
+}
+
+/// Reads `--result`, if it is given.
 fn read_result(alloc: Global, matches: &ArgMatches) -> Result<Option<Id>, WordFault>
     ensures ok { IfOk result (λ entry.
         result_option (rows_of (found_of matches.now)) ≡ Some entry) }
@@ -409,6 +471,12 @@ fn read_result(alloc: Global, matches: &ArgMatches) -> Result<Option<Id>, WordFa
     let Some(word) = word_of(matches, "--result") else {
         return Ok(None);
     };
-    let id = checked(alloc, "--result", word, Id::read(word.as_bytes()), "no id")?;
+    let id = checked(
+        alloc,
+        "--result",
+        word,
+        Id::read(word.as_bytes()),
+        "not an id",
+    )?;
     Ok(Some(id))
 }

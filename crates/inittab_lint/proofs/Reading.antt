@@ -1,4 +1,4 @@
--- A process read on from one character to the next.
+-- Lemmas on reading one more character of a process.
 use Rattle.inittab_lint.proofs.Words.{◌≡◌, refl, ap, sym, ◌∙◌, ℕ, Bool, true, false, not, List, ◌∷◌, None}
 use Rattle.inittab_lint.proofs.Words.{operator_in, operator_of}
 use Rattle.inittab_lint.specs.Shell.{innermost, is_comment, is_deep, is_two, next_in, operator_at, parts_after}

@@ -1,9 +1,9 @@
--- Processes whose operators count, and such as stand in quotes, in parts or in a comment: `refl` computes them.
+-- Examples: processes with operators, and with operators in quotes, parts or comments. `refl` computes the answers.
 use Rattle.inittab_lint.proofs.Words.{◌≡◌, refl, codes, true, false, None, Some, operator_of}
 use Rattle.inittab_lint.specs.Shell.{expands_early}
 use Rattle.inittab_lint.specs.declared.shell.Operator.TheVariants.{Chain, Pipe, Unclosed}
 
--- a backslash takes the quote that follows with it
+-- a backslash is read with the quote after it
 quoted : operator_of (codes "sh -c \"echo \\\"hi\\\"; exec sleep 9\"") ≡ None
 quoted = refl
 
@@ -16,19 +16,19 @@ backquoted = refl
 parenthesis : operator_of (codes "echo $(a \\) ; b)") ≡ None
 parenthesis = refl
 
--- so this one is open
+-- so this quote is not closed
 unfinished : operator_of (codes "\"exec\\\"") ≡ Some Unclosed
 unfinished = refl
 
--- two of them are one
+-- two backslashes are read as one
 behind_two : operator_of (codes "echo \"a\\\\\" ; b") ≡ Some Chain
 behind_two = refl
 
--- none does within single quotes
+-- a backslash means nothing within single quotes
 single : operator_of (codes "echo 'a\\' ; b'") ≡ Some Chain
 single = refl
 
--- parts within parts
+-- nested parts
 nested : operator_of (codes "a $(cat $(which b); echo) | c") ≡ Some Pipe
 nested = refl
 
@@ -44,15 +44,15 @@ default = refl
 open_within : operator_of (codes "a $( ( b )") ≡ Some Unclosed
 open_within = refl
 
--- what stands in a comment counts for nothing; # within a word begins none
+-- operators in a comment are ignored, and # within a word does not begin a comment
 comment : operator_of (codes "a >b 2>&1 # it's the web; c") ≡ None
 comment = refl
 
 hash : operator_of (codes "a b#c ${#d} $# ; e") ≡ Some Chain
 hash = refl
 
--- a command in double quotes is expanded before the shell that gets it reads it, unless a backslash stands before the $
--- or the quotes are single ones; and one that no shell gets is meant so
+-- A command in double quotes is expanded before the shell that is given it, unless there is a backslash before the $ or
+-- the quotes are single ones. If no shell is given it, the expansion is intended.
 handed : expands_early (codes "env A=b /bin/sh -c \"echo $A\"") ≡ true
 handed = refl
 

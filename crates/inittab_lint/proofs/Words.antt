@@ -1,4 +1,4 @@
--- The words of the proofs of this crate.
+-- Names that all proofs of this crate import.
 pub use Rattle.std.proofs.Common.{◌≡◌, refl, ap, sym, ◌∙◌, ℕ, Bool, true, false, not, List, ◌∷◌, Option, None, codes}
 pub use Rattle.std.proofs.Common.{Some, ◌++◌, ◌&&◌}
 pub use Rattle.std.proofs.Common.{◌+◌, ◌≤◌, length, rules, arith, [], option_copied, slice_get, map, filter}

@@ -11,28 +11,32 @@ use Rattle.inittab_lint.specs.declared.traps.Warning.TheVariants as warning
 use Rattle.inittab_lint.specs.Shell.{begins_with, first_word, is_assigned, is_shell_word, is_special}
 use Rattle.inittab_lint.specs.Warnings.{run_by}
 
--- the first word of the process names a program, unless a shell reads more out of it
+-- the word is not just the name of a program: it has a character that the shell interprets, it is a word of the shell
+-- or an assignment, or it begins with @
 abbrev pub is_read : List ℕ → Bool
 is_read word = list_any is_special word || is_shell_word word || is_assigned word || begins_with 64 word
 
+-- the word, if it is just the name of a program; otherwise no characters
 abbrev pub named_by : List ℕ → List ℕ
 named_by word = if is_read word then [] else word
 
--- of a line that has the fields of an entry and an action that needs a process; else none
+-- the program of an entry, if its action is known and needs a process; otherwise no characters
 abbrev pub program_with : Option Act → FieldBytes → List ℕ
 program_with None f = []
 program_with (Some action) f = named_by (first_word (run_by action f.process))
 
+-- the program of a line with these fields; none if it does not have those of an entry
 abbrev pub program_at : Option FieldBytes → List ℕ
 program_at None = []
 program_at (Some f) = program_with (act_read f.action) f
 
+-- the program that a line starts; none if the line is empty or a comment
 abbrev pub program_of : List ℕ → List ℕ
 program_of line =
     let text = skip_blanks line in
     if is_ignored text then [] else program_at (fields_of text)
 
--- a warning is that the program isn't found, which is the file system's to say
+-- the warning is that the program was not found, which depends on the file system
 abbrev pub is_missing_program : Warning → Bool
 is_missing_program warning.Missing = true
 is_missing_program _ = false

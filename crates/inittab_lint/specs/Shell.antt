@@ -1,4 +1,6 @@
--- What of a process the shell does otherwise than it seems, since it is started by `sh -c "exec PROCESS"` (inittab(5)).
+-- How the shell reads a process, which init starts with `sh -c "exec PROCESS"` (inittab(5)): the quotes and parentheses
+-- of it, its operators, comments and expansions. A *part* is a quoted, parenthesized or braced section; it is
+-- represented by the character that closes it.
 use Rattle.std.specs.Prelude.{ℕ, Bool, true, false, not, ◌&&◌, ◌||◌, ◌==◌, ◌-◌, nat_le, if◌then◌else◌, List, [], ◌∷◌}
 use Rattle.std.specs.Prelude.{◌++◌, codes, length, take, slice_get, Option, Some, None, is_some, unwrap_or}
 use Rattle.std.specs.Prelude.{option_to_list}
@@ -12,25 +14,26 @@ use Rattle.init_words.specs.declared.entries.TheConstants.{PROCESS_LIMIT}
 use Rattle.inittab_lint.specs.declared.shell.Operator.{Operator}
 use Rattle.inittab_lint.specs.declared.shell.Operator.TheVariants.{Chain, Pipe, Background, Unclosed}
 
--- the innermost part that is open is closed by this character
+-- the innermost open part is closed by this character
 abbrev pub is_part : ℕ → Option ℕ → Bool
 is_part close None = false
 is_part close (Some b) = b == close
 
--- commands are read: outside all parts, or in a parenthesis
+-- the text is read as commands: outside all parts, or directly in a parenthesis
 abbrev pub in_commands : Option ℕ → Bool
 in_commands None = true
 in_commands (Some close) = close == 41
 
--- within quotes that are read as they stand
+-- the text is read literally: within single quotes or backquotes
 abbrev pub is_literal : Option ℕ → Bool
 is_literal part = is_part 39 part || is_part 96 part
 
--- $( or ${ begins here
+-- $( or ${ begins with these two characters
 abbrev pub is_dollar : Option ℕ → ℕ → ℕ → Bool
 is_dollar part b c = b == 36 && ((c == 40 || c == 123) && not (is_literal part))
 
--- what closes the part that begins here: $( and ${, a parenthesis among commands, a quote or a backquote
+-- the closing character of the part that begins here: by $( or ${, a parenthesis among commands, a backquote, or a
+-- quote; none if no part begins
 abbrev pub opened : Option ℕ → ℕ → ℕ → Option ℕ
 opened part b c =
     if is_dollar part b c then (if c == 40 then Some 41 else Some 125)
@@ -39,23 +42,25 @@ opened part b c =
     else if (b == 34 || b == 39) && (in_commands part || is_part 125 part) then Some b
     else None
 
--- two characters that are read as one: a backslash and any other, but not within single quotes; $( and ${; and among
--- commands <& and >& and >|
+-- the two characters are read as one: a backslash, outside single quotes, with any character; $( and ${; and, among
+-- commands, <& and >& and >|
 abbrev pub is_two : Option ℕ → ℕ → ℕ → Bool
 is_two part b c =
     b == 92 && not (is_part 39 part)
     || (is_dollar part b c || in_commands part && (b == 60 && c == 38 || b == 62 && (c == 38 || c == 124)))
 
--- behind it a word begins: a blank, an operator, a parenthesis
+-- a word begins after this character: a blank, one of ;&|<>( or the $ of $( and ${, or a ) that does not close the
+-- innermost part
 abbrev pub starts_word : Option ℕ → ℕ → ℕ → Bool
 starts_word part b c =
     is_blank b || (list_any (λ d. d == b) (codes ";&|<>(") || (is_dollar part b c || b == 41 && not (is_part 41 part)))
 
--- a comment begins: # at the beginning of a word of commands
+-- a comment begins: # at the beginning of a word, among commands
 abbrev pub is_comment : Option ℕ → Bool → ℕ → Bool
 is_comment part start b = start && (b == 35 && in_commands part)
 
--- the operator that begins here, outside parts: ; && || chain programs, | is a pipe, & puts into the background
+-- the operator that begins here, outside all parts: ; && || chain commands, | is a pipe, & runs a command in the
+-- background
 abbrev pub operator_at : Option ℕ → ℕ → ℕ → Option Operator
 operator_at None b c =
     if b == 59 then Some Chain
@@ -64,31 +69,33 @@ operator_at None b c =
     else None
 operator_at (Some close) b c = None
 
--- a part that is open at the end
+-- `Unclosed` if a part is open
 abbrev pub unclosed : Option ℕ → Option Operator
 unclosed None = None
 unclosed (Some close) = Some Unclosed
 
--- of what closes the parts that are open, the outermost first, the last
+-- the innermost of the open parts, which are listed from the outermost to the innermost
 abbrev pub innermost : List ℕ → Option ℕ
 innermost parts = slice_get parts (length parts - 1)
 
--- those that are open behind two characters that are read as one, or behind the first
+-- the open parts after this character, or after both characters if they are read as one
 abbrev pub parts_after : List ℕ → ℕ → ℕ → List ℕ
 parts_after parts b c =
     if is_part b (innermost parts) then take (length parts - 1) parts
     else parts ++ option_to_list (opened (innermost parts) b c)
 
--- more parts within each other than a process has characters
+-- a part begins here although as many parts are open as a process has characters at most
 abbrev pub is_deep : List ℕ → ℕ → ℕ → Bool
 is_deep parts b c =
     not (is_part b (innermost parts)) && (is_some (opened (innermost parts) b c) && length parts == PROCESS_LIMIT)
 
+-- the first character of a text, or 0
 abbrev pub next_in : List ℕ → ℕ
 next_in text = unwrap_or (slice_get text 0) 0
 
--- the first operator of a text that stands outside parts, and before a comment: with the parts that are open, whether
--- its first character was read with the one before it, and whether a word begins with it
+-- The first operator of a text that is outside all parts and before a comment; `Unclosed` if a part is open at the end
+-- of the text or where a comment begins. The arguments are the open parts, whether the first character was read with
+-- the one before it, and whether a word begins with it.
 abbrev pub operator_in : List ℕ → Bool → Bool → List ℕ → Option Operator
 operator_in parts was_read start [] = unclosed (innermost parts)
 operator_in parts true start (b ∷ text) = operator_in parts false start text
@@ -100,10 +107,11 @@ operator_in parts false start (b ∷ text) =
     (if is_deep parts b c then None
     else operator_in (parts_after parts b c) (is_two part b c) (starts_word part b c) text)
 
+-- the operator of a process
 abbrev pub operator_of : List ℕ → Option Operator
 operator_of process = operator_in [] false true process
 
--- one of these has init start the process by the shell
+-- init starts a process that contains one of these characters with the shell
 abbrev pub is_special : ℕ → Bool
 is_special b = list_any (λ c. c == b) (codes "~`!$^&*()=|\\{}[];\"'<>?")
 
@@ -123,11 +131,12 @@ abbrev pub is_name_byte : ℕ → Bool
 is_name_byte b =
     nat_le 48 b && nat_le b 57 || (nat_le 65 b && nat_le b 90 || (nat_le 97 b && nat_le b 122 || b == 95))
 
--- a $ before this character stands for something else: a name, or one of these
+-- the shell expands a $ before this character: the beginning of a name, or one of these
 abbrev pub is_expansion : ℕ → Bool
 is_expansion b = is_name_byte b || list_any (λ c. c == b) (codes "{(@*#?-$!")
 
--- within double quotes, up to the one that closes them, such a $ stands, and no backslash before it
+-- within double quotes, before the closing one, there is such a $ that has no backslash before it; the first argument
+-- says that the first character has a backslash before it
 abbrev pub expands : Bool → List ℕ → Bool
 expands was_read [] = false
 expands true (b ∷ text) = expands false text
@@ -135,29 +144,32 @@ expands false (b ∷ text) =
     if b == 34 then false
     else b == 36 && is_expansion (next_in text) || expands (b == 92) text
 
+-- the text begins with a double quote, within which the shell that init starts expands something
 abbrev pub quote_expands : List ℕ → Bool
 quote_expands [] = false
 quote_expands (b ∷ text) = b == 34 && expands false text
 
--- the words that are behind a shell are a flag that ends with c, and a command in double quotes that init's shell
--- expands before that shell reads it
+-- a flag such as -c or -ec: it begins with - and ends with c
 abbrev pub is_command_flag : List ℕ → Bool
 is_command_flag word = begins_with 45 word && ends_with 99 word
 
+-- the text, cut at its first blank, is such a flag and then such a command, in which the shell that init starts expands
+-- something before the other shell reads it
 abbrev pub flag_expands : Option (List ℕ × List ℕ) → Bool
 flag_expands None = false
 flag_expands (Some parts) = is_command_flag parts.0 && quote_expands (skip_blanks parts.1)
 
--- the first word is a shell: it ends with sh, and is nothing else by quotes and such
+-- the first word is a shell: it ends with sh and has no character that the shell interprets
 abbrev pub is_shell : List ℕ → Bool
 is_shell word = not (list_any is_special word) && list.ends_with (λ a b. a == b) word (codes "sh")
 
+-- the text, cut at its first blank, is a shell, followed by such a flag and command
 abbrev pub shell_expands : Option (List ℕ × List ℕ) → Bool
 shell_expands None = false
 shell_expands (Some parts) = is_shell parts.0 && flag_expands (cut 32 (skip_blanks parts.1))
 
--- so behind a word of a text's commands, with the parts that are open, whether its first character was read with the
--- one before it, and whether a word begins with it
+-- such words begin at a word among the commands of a text. The arguments are the open parts, whether the first
+-- character was read with the one before it, and whether a word begins with it.
 abbrev pub early_in : List ℕ → Bool → Bool → List ℕ → Bool
 early_in parts was_read start [] = false
 early_in parts true start (b ∷ text) = early_in parts false start text
@@ -169,59 +181,65 @@ early_in parts false start (b ∷ text) =
     else if is_deep parts b c then false
     else early_in (parts_after parts b c) (is_two part b c) (starts_word part b c) text
 
+-- some shell among the commands of a process is given such a command
 abbrev pub expands_early : List ℕ → Bool
 expands_early process = early_in [] false true process
 
--- a word begins with #, at the beginning or behind a blank
+-- a word begins with #; the first argument says that a word can begin with the first character
 abbrev pub has_hash : Bool → List ℕ → Bool
 has_hash before [] = false
 has_hash before (b ∷ text) = before && b == 35 || has_hash (is_blank b) text
 
--- where no shell reads it, that is no comment
+-- a word begins with # although init starts the process without a shell, so that it does not begin a comment
 abbrev pub has_comment : List ℕ → Bool
 has_comment process = not (list_any is_special process) && has_hash true process
 
--- the first word, where there is one
+-- the first word, or no characters
 abbrev pub first_of : List (List ℕ) → List ℕ
 first_of [] = []
 first_of (word ∷ words) = word
 
+-- the first word of a process, or no characters
 abbrev pub first_word : List ℕ → List ℕ
 first_word process = first_of (words_of process)
 
--- the reserved words of sh(1), and its builtins that are no programs
+-- the reserved words of sh(1)
 abbrev pub reserved_words : List (List ℕ)
 reserved_words =
     codes "if" ∷ codes "then" ∷ codes "elif" ∷ codes "else" ∷ codes "fi" ∷ codes "for" ∷ codes "while"
     ∷ codes "until" ∷ codes "do" ∷ codes "done" ∷ codes "case" ∷ codes "esac" ∷ codes "in" ∷ codes "function"
     ∷ codes "{" ∷ codes "}" ∷ codes "!" ∷ codes "[[" ∷ []
 
+-- the special builtins of sh(1), and those of other shells
 abbrev pub special_builtins : List (List ℕ)
 special_builtins =
     codes "." ∷ codes ":" ∷ codes "source" ∷ codes "exec" ∷ codes "eval" ∷ codes "exit" ∷ codes "return" ∷ codes "break"
     ∷ codes "continue" ∷ codes "export" ∷ codes "readonly" ∷ codes "local" ∷ codes "set" ∷ codes "unset" ∷ codes "shift"
     ∷ codes "trap" ∷ codes "times" ∷ []
 
+-- other builtins of sh(1) that are not programs
 abbrev pub builtins : List (List ℕ)
 builtins =
     codes "cd" ∷ codes "command" ∷ codes "wait" ∷ codes "read" ∷ codes "ulimit" ∷ codes "umask" ∷ codes "type"
     ∷ codes "hash" ∷ codes "getopts" ∷ codes "alias" ∷ codes "unalias" ∷ codes "jobs" ∷ codes "fg" ∷ codes "bg"
     ∷ codes "fc" ∷ []
 
--- one of these, or a parenthesis
+-- one of these words, or one that begins with a parenthesis
 abbrev pub is_shell_word : List ℕ → Bool
 is_shell_word word =
     begins_with 40 word
     || (list_any (bytes_eq word) reserved_words
     || (list_any (bytes_eq word) special_builtins || list_any (bytes_eq word) builtins))
 
+-- a text of such characters that is not empty
 abbrev pub is_name : List ℕ → Bool
 is_name text = not (is_empty text) && list_all is_name_byte text
 
--- the text up to the first = is a name: the shell takes it for an assignment
+-- the text before the first = is a name
 abbrev pub is_name_cut : Option (List ℕ × List ℕ) → Bool
 is_name_cut None = false
 is_name_cut (Some parts) = is_name parts.0
 
+-- the shell reads the word as an assignment
 abbrev pub is_assigned : List ℕ → Bool
 is_assigned word = is_name_cut (cut 61 word)

@@ -1,4 +1,4 @@
--- What a line that is kept does otherwise than it seems to (inittab(5)).
+-- The warnings about a line that init keeps but that does not do what it seems to (inittab(5)).
 use Rattle.std.specs.Prelude.{ℕ, Bool, true, false, not, ◌&&◌, ◌||◌, ◌==◌, ◌-◌, ◌+◌, if◌then◌else◌, List, [], ◌∷◌, ◌++◌}
 use Rattle.std.specs.Prelude.{map, filter, length, slice_get, Option, Some, None, is_some}
 use Rattle.std.specs.List.{list_any, starts_with}
@@ -18,25 +18,27 @@ use Rattle.inittab_lint.specs.declared.traps.Warning.TheVariants as warning
 use Rattle.inittab_lint.specs.Shell.{begins_with, ends_with, expands_early, first_word, has_comment, is_assigned}
 use Rattle.inittab_lint.specs.Shell.{is_shell_word, operator_of}
 
--- a character of the runlevels counts: a letter of ondemand entries, none of sysinit, boot and bootwait, else a level
+-- a character of the runlevels has a meaning: for an ondemand entry a letter, for sysinit, boot and bootwait none,
+-- otherwise a level
 abbrev pub counts : Act → ℕ → Bool
 counts action b =
     if ignores_levels action then false
     else if is_ondemand action then is_some (letter_read b)
     else is_some (level_read b)
 
--- one counts for nothing
+-- some character of the runlevels is ignored
 abbrev pub has_idle : Act → List ℕ → Bool
 has_idle action levels = list_any (λ b. not (counts action b)) levels
 
--- none counts
+-- no character of the runlevels, or of their default, has a meaning
 abbrev pub counts_none : Act → List ℕ → Bool
 counts_none action levels = not (list_any (counts action) (levels_meant action levels))
 
--- the process of an entry that starts one
+-- the process of an entry whose action starts one, without a leading +; otherwise no characters
 abbrev pub run_by : Act → List ℕ → List ℕ
 run_by action process = if needs_process action then without_plus process else []
 
+-- the operator that was found is this one
 abbrev pub is_operator : Operator → Option Operator → Bool
 is_operator operator.Chain (Some operator.Chain) = true
 is_operator operator.Pipe (Some operator.Pipe) = true
@@ -44,7 +46,7 @@ is_operator operator.Background (Some operator.Background) = true
 is_operator operator.Unclosed (Some operator.Unclosed) = true
 is_operator _ _ = false
 
--- the warnings about a process
+-- the warning applies to a process
 abbrev pub holds_of : Warning → List ℕ → Bool
 holds_of warning.Return process = ends_with 13 process
 holds_of warning.At process = begins_with 64 (first_word process)
@@ -58,7 +60,7 @@ holds_of warning.Comment process = has_comment process
 holds_of warning.Early process = expands_early process
 holds_of _ process = false
 
--- the warnings about an action, its runlevels and its process
+-- the warning applies to an entry with this action, these runlevels and this process
 abbrev pub holds : Act → List ℕ → List ℕ → Warning → Bool
 holds action levels process warning.Runlevel =
     (needs_process action || same_act action act.Initdefault) && has_idle action levels
@@ -68,51 +70,54 @@ holds action levels process warning.NoLetter = is_ondemand action && counts_none
 holds action levels process warning.Boot = same_act action act.Boot
 holds action levels process kind = holds_of kind (run_by action process)
 
--- all warnings of which the line itself says whether they hold, in the order in which they are told
+-- the warnings that depend on the line alone, in the order in which they are reported
 abbrev pub all_warnings : List Warning
 all_warnings =
     warning.Runlevel ∷ warning.NoLevel ∷ warning.NoLetter ∷ warning.Boot ∷ warning.Return ∷ warning.At
     ∷ warning.ShellWord ∷ warning.Assignment ∷ warning.Chain ∷ warning.Pipe ∷ warning.Background
     ∷ warning.Unclosed ∷ warning.Comment ∷ warning.Early ∷ []
 
--- those that hold
+-- the warnings that apply to an entry with this action and these fields
 abbrev pub warnings_by : Act → FieldBytes → List Warning
 warnings_by action f = filter (holds action f.levels f.process) all_warnings
 
--- of a line that has the fields of an entry and a known action; of any other none
+-- the warnings about an entry with these fields; none if its action is unknown
 abbrev pub warnings_with : Option Act → FieldBytes → List Warning
 warnings_with None f = []
 warnings_with (Some action) f = warnings_by action f
 
+-- the warnings about a line with these fields; none if it does not have those of an entry
 abbrev pub warnings_at : Option FieldBytes → List Warning
 warnings_at None = []
 warnings_at (Some f) = warnings_with (act_read f.action) f
 
--- a byte order mark, which editors put before a text
+-- the text begins with a byte order mark (UTF-8), which some editors write
 abbrev pub begins_marked : List ℕ → Bool
 begins_marked line = starts_with (λ a b. a == b) line (239 ∷ 187 ∷ 191 ∷ [])
 
--- where a line begins with one, it is no other line than the one that was meant: this alone
+-- the warnings about a line: if it begins with a byte order mark, that one only; none if it is empty or a comment
 abbrev pub warnings_of_line : List ℕ → List Warning
 warnings_of_line line =
     let text = skip_blanks line in
     if begins_marked line then warning.Marked ∷ []
     else if is_ignored text then [] else warnings_at (fields_of text)
 
--- a warning about the line of a number, in the file of a number
+-- a warning about a line and a file, both given by number
 abbrev pub at_line : ℕ → ℕ → Warning → LineWarning
 at_line part line kind = record { part = part; line = line; kind = kind }
 
--- those of lines from a number on, and of all texts from a number on: lines count from 1, texts from 0
+-- the warnings about the lines of a text, the first of which has this number; lines are counted from 1
 abbrev pub warnings_of_lines : ℕ → ℕ → List (List ℕ) → List LineWarning
 warnings_of_lines part number [] = []
 warnings_of_lines part number (line ∷ lines) =
     map (at_line part number) (warnings_of_line line) ++ warnings_of_lines part (number + 1) lines
 
+-- the warnings about several texts, the first of which has this number; texts are counted from 0
 abbrev pub warnings_of_texts : ℕ → List (List ℕ) → List LineWarning
 warnings_of_texts part [] = []
 warnings_of_texts part (text ∷ texts) =
     warnings_of_lines part 1 (lines_of text) ++ warnings_of_texts (part + 1) texts
 
+-- the warnings about the files of an inittab
 abbrev pub warnings_of : List (List ℕ) → List LineWarning
 warnings_of texts = warnings_of_texts 0 texts

@@ -1,5 +1,5 @@
-//! What a person is warned of in an inittab(5) that is not in force yet: lines that are kept and don't do what they seem
-//! to; and which action an unknown word was probably meant to be.
+//! Checks an inittab(5) that is not in force yet: warns about lines that init keeps but that do not do what they seem
+//! to, and suggests the action that was probably meant by an unknown word.
 #![tactic(auto)]
 
 mod linting;

@@ -1,4 +1,4 @@
-//! The program that a line starts.
+//! The program that a line of an inittab starts.
 
 ghost use Rattle.std.specs.Prelude.{◌≡◌};
 ghost use Rattle.std.specs.List.{list_any};
@@ -11,7 +11,7 @@ use init_words::Act;
 use inittab_text::Fields;
 use text_lines::without_blanks;
 
-/// A shell reads more out of the word.
+/// Reports whether the word is more than the name of a program: the shell interprets it, or it begins with `@`.
 fn is_read(word: &[u8]) -> bool
     ensures { result ≡ is_read word.now }
 {
@@ -24,8 +24,8 @@ fn named_by(word: &[u8]) -> &[u8]
     if is_read(word) { b"" } else { word }
 }
 
-/// The program that a line starts: the first word of an entry's process. None, no byte, where the line has no process,
-/// or a shell reads more out of that word.
+/// Returns the program that a line starts, which is the first word of its process. Returns no bytes if the line has no
+/// process or that word is not just the name of a program.
 pub fn program_of(line: &[u8]) -> &[u8]
     ensures { result.now ≡ program_of line.now }
 {

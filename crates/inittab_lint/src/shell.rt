@@ -1,4 +1,5 @@
-//! What of a process the shell does otherwise than it seems, since init has it execute the process (inittab(5)).
+//! What the shell makes of a process that init starts with `exec` (inittab(5)), where that differs from what the line
+//! seems to say.
 
 ghost use Rattle.std.specs.Prelude.{◌≡◌, ◌&&◌, ◌||◌, ◌==◌, not, true, false, IsTrue};
 ghost use Rattle.std.specs.List.{list_all, list_any};
@@ -15,19 +16,19 @@ use arrayvec::ArrayVec;
 use init_words::PROCESS_LIMIT;
 use text_lines::{cut, is_blank, next_word, without_blanks};
 
-/// What closes each part of a process that is open, the outermost first.
+/// The closing characters of the open quotes and parentheses of a process, the outermost first.
 type Parts = ArrayVec<u8, PROCESS_LIMIT>;
 
-/// An operator of the shell, which `exec` before the process has do something else.
+/// A shell operator whose effect changes because init puts `exec` before the process.
 #[derive(Clone, Copy, PartialEq, Eq)]
 pub enum Operator {
-    /// `;`, `&&` or `||`: the shell has become what stands before it.
+    /// `;`, `&&` or `||`: `exec` replaces the shell by the command before the operator, so the rest never runs.
     Chain,
-    /// `|`: the child is the shell, and no signal reaches what it runs.
+    /// `|`: the child is the shell, and signals do not reach the programs that it runs.
     Pipe,
-    /// `&`: the shell ends at once.
+    /// `&`: the shell exits immediately.
     Background,
-    /// None, but a quote or a parenthesis that isn't closed: the shell refuses the process.
+    /// No operator, but a quote or a parenthesis that is not closed: the shell rejects the process.
     Unclosed,
 }
 
@@ -40,7 +41,7 @@ fn is_part(close: u8, part: Option<u8>) -> bool
     }
 }
 
-/// Commands are read: outside all parts, or in a parenthesis.
+/// Reports whether the text here is read as commands: outside all quotes and parentheses, or directly in a parenthesis.
 fn in_commands(part: Option<u8>) -> bool
     ensures { result ≡ in_commands part }
 {
@@ -50,21 +51,21 @@ fn in_commands(part: Option<u8>) -> bool
     }
 }
 
-/// Within quotes that are read as they stand.
+/// Reports whether the text here is read literally: within single quotes or backquotes.
 fn is_literal(part: Option<u8>) -> bool
     ensures { result ≡ is_literal part }
 {
     is_part(b'\'', part) || is_part(b'`', part)
 }
 
-/// `$(` or `${` begins here.
+/// Reports whether `$(` or `${` begins here.
 fn is_dollar(part: Option<u8>, byte: u8, next: u8) -> bool
     ensures { result ≡ is_dollar part byte next }
 {
     byte == b'$' && (next == b'(' || next == b'{') && !is_literal(part)
 }
 
-/// What closes the part that begins here.
+/// Returns the closing character of the quote, parenthesis or `${` that begins here.
 fn opened(part: Option<u8>, byte: u8, next: u8) -> Option<u8>
     ensures { result ≡ opened part byte next }
 {
@@ -84,7 +85,7 @@ fn opened(part: Option<u8>, byte: u8, next: u8) -> Option<u8>
     None
 }
 
-/// Two bytes that are read as one.
+/// Reports whether two bytes are read as one.
 fn is_two(part: Option<u8>, byte: u8, next: u8) -> bool
     ensures { result ≡ is_two part byte next }
 {
@@ -92,14 +93,14 @@ fn is_two(part: Option<u8>, byte: u8, next: u8) -> bool
         || (is_dollar(part, byte, next) || in_commands(part) && is_redirection(byte, next))
 }
 
-/// `<&`, `>&` or `>|`.
+/// Reports whether two bytes are `<&`, `>&` or `>|`.
 fn is_redirection(byte: u8, next: u8) -> bool
     ensures { result ≡ (byte == 60 && next == 38 || byte == 62 && (next == 38 || next == 124)) }
 {
     byte == b'<' && next == b'&' || byte == b'>' && (next == b'&' || next == b'|')
 }
 
-/// Behind it a word begins.
+/// Reports whether a word begins after this byte.
 fn starts_word(part: Option<u8>, byte: u8, next: u8) -> bool
     ensures { result ≡ starts_word part byte next }
 {
@@ -108,14 +109,14 @@ fn starts_word(part: Option<u8>, byte: u8, next: u8) -> bool
             || (is_dollar(part, byte, next) || byte == b')' && !is_part(b')', part)))
 }
 
-/// A comment begins.
+/// Reports whether a comment begins here.
 fn is_comment(part: Option<u8>, start: bool, byte: u8) -> bool
     ensures { result ≡ is_comment part start byte }
 {
     start && (byte == b'#' && in_commands(part))
 }
 
-/// The operator that begins here.
+/// Returns the operator that begins here.
 fn operator_at(part: Option<u8>, byte: u8, next: u8) -> Option<Operator>
     ensures { result ≡ operator_at part byte next }
 {
@@ -132,7 +133,7 @@ fn operator_at(part: Option<u8>, byte: u8, next: u8) -> Option<Operator>
     }
 }
 
-/// A part is open.
+/// Returns `Unclosed` if a quote or a parenthesis is open.
 fn unclosed(part: Option<u8>) -> Option<Operator>
     ensures { result ≡ unclosed part }
 {
@@ -142,7 +143,7 @@ fn unclosed(part: Option<u8>) -> Option<Operator>
     }
 }
 
-/// What closes the innermost part that is open.
+/// Returns the closing character of the innermost open quote or parenthesis.
 fn innermost(parts: &Parts) -> Option<u8>
     ensures { result ≡ innermost parts.now.items }
 {
@@ -155,7 +156,7 @@ fn next_in(text: &[u8]) -> u8
     text.first().copied().unwrap_or(0)
 }
 
-/// Reads on behind these bytes, where the parts are not too many.
+/// Updates the open quotes and parentheses for these bytes. Returns false if there are too many.
 fn read_on(parts: &mut Parts, byte: u8, next: u8) -> bool
     ensures deep { result ≡ not (is_deep parts.old.items byte next) }
     ensures parts { IsTrue result → parts.new.items ≡ parts_after parts.old.items byte next }
@@ -171,7 +172,7 @@ fn read_on(parts: &mut Parts, byte: u8, next: u8) -> bool
     }
 }
 
-/// The first operator of a process that stands outside quotes, parentheses, `${..}` and a comment.
+/// Returns the first operator of a process outside quotes, parentheses, `${..}` and comments.
 pub fn operator_of(process: &[u8]) -> Option<Operator>
     ensures { result ≡ operator_of process.now }
 {
@@ -203,7 +204,7 @@ pub fn operator_of(process: &[u8]) -> Option<Operator>
     unclosed(innermost(&parts))
 }
 
-/// The byte has init start the process by the shell.
+/// Reports whether init starts a process with the shell because it contains this byte.
 fn is_special(byte: u8) -> bool
     ensures { result ≡ is_special byte }
 {
@@ -216,7 +217,7 @@ pub(crate) fn has_special(process: &[u8]) -> bool
     process.iter().any(|byte| is_special(*byte))
 }
 
-/// A word begins with `#`.
+/// Reports whether a word begins with `#`.
 fn has_hash(process: &[u8]) -> bool
     ensures { result ≡ has_hash true process.now }
 {
@@ -232,14 +233,14 @@ fn has_hash(process: &[u8]) -> bool
     false
 }
 
-/// What stands behind `#` is no comment: no shell reads it.
+/// Reports whether a word begins with `#` although no shell reads the process, so that it does not begin a comment.
 pub(crate) fn has_comment(process: &[u8]) -> bool
     ensures { result ≡ has_comment process.now }
 {
     !has_special(process) && has_hash(process)
 }
 
-/// The first word of a process, up to a blank.
+/// Returns the first word of a process, up to a blank.
 pub(crate) fn first_word(process: &[u8]) -> &[u8]
     ensures { result.now ≡ first_word process.now }
 {
@@ -255,14 +256,14 @@ pub(crate) fn is(word: &[u8], known: &[u8]) -> bool
     word == known
 }
 
-/// A word that the shell knows and that is no program.
+/// Reports whether a word is known to the shell and is not a program.
 pub(crate) fn is_shell_word(word: &[u8]) -> bool
     ensures { result ≡ is_shell_word word.now }
 {
     begins_with(b'(', word) || (is_reserved(word) || (is_special_builtin(word) || is_builtin(word)))
 }
 
-/// A reserved word of sh(1).
+/// Reports whether a word is a reserved word of sh(1).
 fn is_reserved(word: &[u8]) -> bool
     ensures { result ≡ list_any (bytes_eq word.now) reserved_words }
 {
@@ -286,7 +287,7 @@ fn is_reserved(word: &[u8]) -> bool
         || is(word, b"[[")
 }
 
-/// A special builtin of sh(1), or one that other shells have as such.
+/// Reports whether a word is a special builtin of sh(1), or of another shell.
 fn is_special_builtin(word: &[u8]) -> bool
     ensures { result ≡ list_any (bytes_eq word.now) special_builtins }
 {
@@ -309,7 +310,7 @@ fn is_special_builtin(word: &[u8]) -> bool
         || is(word, b"times")
 }
 
-/// Another builtin of sh(1) that is no program.
+/// Reports whether a word is another builtin of sh(1) that is not a program.
 fn is_builtin(word: &[u8]) -> bool
     ensures { result ≡ list_any (bytes_eq word.now) builtins }
 {
@@ -366,7 +367,7 @@ fn is_name(text: &[u8]) -> bool
     !text.is_empty() && are_name_bytes(text)
 }
 
-/// It begins with a name and `=`.
+/// Reports whether a word begins with a name and `=`.
 pub(crate) fn is_assigned(word: &[u8]) -> bool
     ensures { result ≡ is_assigned word.now }
 {
@@ -376,14 +377,14 @@ pub(crate) fn is_assigned(word: &[u8]) -> bool
     }
 }
 
-/// A `$` before this byte stands for something else.
+/// Reports whether the shell expands a `$` before this byte.
 fn is_expansion(byte: u8) -> bool
     ensures { result ≡ is_expansion byte }
 {
     is_name_byte(byte) || b"{(@*#?-$!".contains(&byte)
 }
 
-/// Up to the double quote that ends a text such a `$` stands, and no backslash before it.
+/// Reports whether such a `$`, without a backslash before it, occurs before the double quote that ends the text.
 fn expands(text: &[u8]) -> bool
     ensures { result ≡ expands false text.now }
 {
@@ -427,7 +428,7 @@ fn is_shell(word: &[u8]) -> bool
     !has_special(word) && word.ends_with(b"sh")
 }
 
-/// A flag stands here, and behind it a command in double quotes that init's shell expands.
+/// Reports whether the text is a flag, followed by a command in double quotes in which init's shell expands something.
 fn flag_expands(text: &[u8]) -> bool
     ensures { result ≡ flag_expands (cut 32 text.now) }
 {
@@ -437,7 +438,7 @@ fn flag_expands(text: &[u8]) -> bool
     }
 }
 
-/// A shell stands here, with such a flag.
+/// Reports whether the text is a shell, followed by such a flag and command.
 fn shell_expands(text: &[u8]) -> bool
     ensures { result ≡ shell_expands (cut 32 text.now) }
 {
@@ -447,7 +448,7 @@ fn shell_expands(text: &[u8]) -> bool
     }
 }
 
-/// A shell is handed a command in double quotes of which init's shell, which starts it, expands a part.
+/// Reports whether a shell is given a command in double quotes of which init's shell, which starts it, expands a part.
 pub(crate) fn expands_early(process: &[u8]) -> bool
     ensures { result ≡ expands_early process.now }
 {

@@ -1,4 +1,4 @@
-//! The action that an unknown word was probably meant to be.
+//! The action that was probably meant by an unknown word.
 
 ghost use Rattle.std.specs.Prelude.{◌≡◌};
 ghost use Rattle.inittab_lint.specs.Meant.{meant};
@@ -6,8 +6,8 @@ ghost use Rattle.inittab_lint.specs.Meant.{meant};
 use command_words::is_slip;
 use init_words::{ACTS, Act};
 
-/// The first action whose word this is but for one slip: a letter that is another, more, less, or swapped with the next.
-/// Capitals are no slip.
+/// Returns the first action whose name differs from the word by at most one typing error: a letter replaced, added,
+/// missing, or swapped with the next one. Case is ignored.
 pub fn meant(word: &[u8]) -> Option<Act>
     ensures { result ≡ meant word.now }
 {

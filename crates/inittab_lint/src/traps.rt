@@ -1,4 +1,4 @@
-//! What is said of a line that is kept and doesn't do what it seems to.
+//! The warnings about a line that init keeps but that does not do what it seems to.
 
 ghost use Rattle.std.specs.Prelude.{◌≡◌, ◌++◌, map, OnOk};
 ghost use Rattle.std.specs.List.{list_any};
@@ -15,16 +15,16 @@ use inittab_text::Fields;
 use std::alloc::{AllocError, Allocator};
 use text_lines::without_blanks;
 
-/// What a line that is kept does otherwise than it seems to (inittab(5)).
+/// How a line that init keeps differs from what it seems to say (inittab(5)).
 #[derive(Clone, Copy, PartialEq, Eq)]
 pub enum Warning {
-    /// A character of the runlevels counts for nothing.
+    /// A character of the runlevels is ignored.
     Runlevel,
-    /// No character of the runlevels names a level.
+    /// No character of the runlevels is a level.
     NoLevel,
     /// No character of an ondemand entry's runlevels is a letter.
     NoLetter,
-    /// The child of a boot entry lives on in every level.
+    /// The child of a boot entry stays alive in every level.
     Boot,
     /// The line ends with a carriage return.
     Return,
@@ -40,29 +40,29 @@ pub enum Warning {
     Pipe,
     /// The process has `&`.
     Background,
-    /// A quote or a parenthesis of the process isn't closed.
+    /// A quote or a parenthesis of the process is not closed.
     Unclosed,
-    /// A word of the process begins with `#`, and no shell reads it.
+    /// A word of the process begins with `#`, but no shell reads it.
     Comment,
-    /// A command in double quotes is handed to a shell, and init's shell expands a `$` of it before.
+    /// A shell is given a command in double quotes, of which init's shell expands a `$` first.
     Early,
     /// The line begins with a byte order mark.
     Marked,
-    /// The program of the process isn't found, where somebody looked for it.
+    /// The program of the process was looked for and not found.
     Missing,
 }
 
 /// A warning about a line of one of several files.
 #[derive(Clone, Copy, PartialEq, Eq)]
 pub struct LineWarning {
-    /// The file's number, from 0.
+    /// The number of the file, counted from 0.
     pub part: usize,
-    /// The line's number in its file, from 1.
+    /// The number of the line in its file, counted from 1.
     pub line: usize,
     pub kind: Warning,
 }
 
-/// All warnings of which the line itself says whether they hold, in the order in which they are told.
+/// The warnings that depend on the line alone, in the order in which they are reported.
 const WARNINGS: [Warning; 14] = [
     Warning::Runlevel,
     Warning::NoLevel,
@@ -80,7 +80,7 @@ const WARNINGS: [Warning; 14] = [
     Warning::Early,
 ];
 
-/// A character of the runlevels counts for something in an entry of the action.
+/// Reports whether a character of the runlevels has a meaning for an entry with this action.
 fn counts(act: Act, byte: u8) -> bool
     ensures { result ≡ counts act byte }
 {
@@ -93,7 +93,7 @@ fn counts(act: Act, byte: u8) -> bool
     Level::read(byte).is_some()
 }
 
-/// What a runlevels field means: itself, or what an empty one does.
+/// Returns a runlevels field, or the action's default if the field is empty.
 fn levels_meant(act: Act, levels: &[u8]) -> &[u8]
     ensures { result.now ≡ levels_meant act levels.now }
 {
@@ -109,21 +109,21 @@ fn counts_any(act: Act, levels: &[u8]) -> bool
     levels.iter().any(|byte| counts(act, *byte))
 }
 
-/// No character of the runlevels counts.
+/// Reports whether no character of the runlevels has a meaning.
 fn counts_none(act: Act, levels: &[u8]) -> bool
     ensures { result ≡ counts_none act levels.now }
 {
     !counts_any(act, levels_meant(act, levels))
 }
 
-/// A character of the runlevels counts for nothing.
+/// Reports whether a character of the runlevels is ignored.
 fn has_idle(act: Act, levels: &[u8]) -> bool
     ensures { result ≡ has_idle act levels.now }
 {
     levels.iter().any(|byte| !counts(act, *byte))
 }
 
-/// The process of an entry that starts it.
+/// Returns the process of an entry whose action starts one, without a leading `+`, or no bytes.
 pub(crate) fn run_by(act: Act, process: &[u8]) -> &[u8]
     ensures { result.now ≡ run_by act process.now }
 {
@@ -134,7 +134,7 @@ pub(crate) fn run_by(act: Act, process: &[u8]) -> &[u8]
     }
 }
 
-/// A warning about a process holds.
+/// Reports whether a warning about a process applies.
 fn holds_of(kind: Warning, process: &[u8]) -> bool
     ensures { result ≡ holds_of kind process.now }
 {
@@ -153,7 +153,7 @@ fn holds_of(kind: Warning, process: &[u8]) -> bool
     }
 }
 
-/// A warning about a line of these fields holds.
+/// Reports whether a warning about a line with these fields applies.
 fn holds(act: Act, levels: &[u8], process: &[u8], kind: Warning) -> bool
     ensures { result ≡ holds act levels.now process.now kind }
 {
@@ -173,14 +173,14 @@ fn holds(act: Act, levels: &[u8], process: &[u8], kind: Warning) -> bool
     }
 }
 
-/// A byte order mark stands before the line.
+/// Reports whether a line begins with a byte order mark.
 fn begins_marked(line: &[u8]) -> bool
     ensures { result ≡ begins_marked line.now }
 {
     line.starts_with(b"\xef\xbb\xbf")
 }
 
-/// Adds the warnings about a line of a file that is an entry's.
+/// Adds the warnings about one line of a file.
 pub(crate) fn add_line<A: Allocator>(
     found: &mut Vec<LineWarning, A>,
     part: usize,
@@ -208,7 +208,7 @@ pub(crate) fn add_line<A: Allocator>(
     add_kinds(found, part, line, act, &fields)
 }
 
-/// Adds those of all warnings that hold.
+/// Adds the warnings that apply to an entry with this action and these fields.
 fn add_kinds<A: Allocator>(
     found: &mut Vec<LineWarning, A>,
     part: usize,
@@ -233,7 +233,7 @@ fn add_kinds<A: Allocator>(
     Ok(())
 }
 
-/// Nothing, or a comment.
+/// Reports whether a line is empty or a comment.
 pub(crate) fn is_ignored(line: &[u8]) -> bool
     ensures { result ≡ is_ignored line.now }
 {
@@ -244,40 +244,41 @@ pub(crate) fn is_ignored(line: &[u8]) -> bool
 }
 
 impl Warning {
-    /// What is told, and what to do.
+    /// Returns the text of the warning: what is wrong, and what to do.
     pub fn words(self) -> &'static [u8] {
         match self {
             Warning::Runlevel => {
-                b"a character of the runlevels counts for nothing: name each level (2345)"
+                b"a character of the runlevels has no meaning; name each level (2345)"
             }
-            Warning::NoLevel => b"nothing starts it: its runlevels name no level",
-            Warning::NoLetter => b"nothing starts it: its runlevels have no letter A, B or C",
-            Warning::Boot => b"its child lives on in every level: name its levels and write once",
+            Warning::NoLevel => b"it is never started: its runlevels name no level",
+            Warning::NoLetter => b"it is never started: its runlevels have no letter A, B or C",
+            Warning::Boot =>
+                b"its child keeps running in every level; name its levels and use once",
             Warning::Return => {
-                b"the line ends with a carriage return, which its last word has: take it out"
+                b"the line ends with a carriage return, which becomes part of its last word; remove it"
             }
-            Warning::At => b"@ is taken for a part of the program's name: take it out",
+            Warning::At => b"@ is read as part of the program's name; remove it",
             Warning::ShellWord => {
-                b"it begins with a word of the shell, which is no program: write a script"
+                b"it begins with a keyword or builtin of the shell, which is not a program; write a script"
             }
             Warning::Assignment => {
-                b"it begins with an assignment, which is no program: write env before it"
+                b"it begins with an assignment, which is not a program; put env before it"
             }
-            Warning::Chain => b"what stands behind ; or && or || is never run: write a script",
-            Warning::Pipe => b"no signal reaches the programs of a pipe: write a script",
+            Warning::Chain => b"what follows ; or && or || is never run; write a script",
+            Warning::Pipe => b"no signal reaches the programs of a pipeline; write a script",
             Warning::Background => {
-                b"& ends the shell at once, and init takes its child for ended: take it out"
+                b"& makes the shell exit at once, and init takes its child as ended; remove it"
             }
-            Warning::Unclosed => b"a quote or a parenthesis isn't closed: the shell refuses it",
+            Warning::Unclosed => b"a quote or parenthesis is not closed, so the shell rejects it",
             Warning::Comment => {
-                b"# begins no comment here: the program gets it as an argument: take it out"
+                b"# does not begin a comment here: the program gets it as an argument; remove it"
             }
             Warning::Early => {
-                b"init's shell expands the $ in double quotes before the other shell: write '..' or \\$"
+                b"init's shell expands the $ in double quotes before the inner shell does; use '..' or \\$"
             }
-            Warning::Marked => b"it begins with a byte order mark: save the file without it",
+            Warning::Marked => b"it begins with a byte order mark; save the file without it",
             Warning::Missing => {
-                b"its program is in none of the folders: mend the line, or the folders"
+                b"its program is in none of the folders; correct the line or the folders"
             }
         }
     }

@@ -1,4 +1,4 @@
--- What is read has each id once.
+-- A table that was read has no id twice.
 use Rattle.inittab_text.proofs.Words.{arith, ◌≡◌, true, List, [], ◌∷◌, Option, Some, None, Result, Ok, refl, ℕ, Entry}
 use Rattle.inittab_text.proofs.Words.{LineKind, entry_of, is_distinct, lines_of, verdict_of, entries_after}
 use Rattle.inittab_text.proofs.Words.{entries_from, table_of_text, entries_of_texts, table_of_texts}
@@ -19,7 +19,7 @@ distinct_from before [] distinct = distinct
 distinct_from before (line ∷ lines) distinct = distinct_from (entries_after before (verdict_of before line)) lines
     (distinct_after before (verdict_of before line) (new_entry before line) distinct)
 
--- the table of a text has each id once
+-- the table of a text has no id twice
 pub distinct_text : (text : List ℕ) → is_distinct (table_of_text text) ≡ true
 distinct_text text = distinct_from [] (lines_of text) refl
 
@@ -29,6 +29,6 @@ distinct_from_texts before [] distinct = distinct
 distinct_from_texts before (text ∷ texts) distinct =
     distinct_from_texts (entries_from before (lines_of text)) texts (distinct_from before (lines_of text) distinct)
 
--- and so has that of several
+-- the table of several texts has no id twice
 pub distinct_texts : (texts : List (List ℕ)) → is_distinct (table_of_texts texts) ≡ true
 distinct_texts texts = distinct_from_texts [] texts refl

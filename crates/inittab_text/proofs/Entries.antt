@@ -1,4 +1,4 @@
--- Lists of entries: one more behind them, and what is left of them from a place on.
+-- Lists of entries: an entry appended, and the rest of a list from a position on.
 use Rattle.inittab_text.proofs.Words.{◌≡◌, refl, sym, ◌∙◌, ap, cond, zero, suc, ◌+◌, ◌<◌, ◌≤◌, Bool, true, false, not}
 use Rattle.inittab_text.proofs.Words.{List, [], ◌∷◌, ◌++◌, length, drop, slice_get, length-append, ℕ, map, Option, Some}
 use Rattle.inittab_text.proofs.Words.{None, find, subst, arith, keys_of, values_of, lookup, list_any, list_all}
@@ -9,7 +9,7 @@ use Rattle.std.proofs.Common.{option_map, append_assoc}
 use Rattle.std.specs.Cmp.Lexicographic.{nat_list_eq_equiv}
 use Rattle.std.proofs.lemmas.List.Folds.{list_any-append, list_all-append}
 
--- A map whose keys are the ids of its values is read as the list of the values.
+-- Looking up an id in a map whose keys are the ids of its values finds the value with that id.
 pub lookup-find : {K X : Type 0} (key : X → K) (test : K → Bool) (es : List (K × X))
     → keys_of es ≡ map key (values_of es) → lookup test es ≡ find (λ x. test (key x)) (values_of es)
 lookup-find key test [] own = refl
@@ -25,14 +25,14 @@ pub keys-push : {K X : Type 0} (key : X → K) (es : List (K × X)) (x : X) → 
 keys-push key [] x own = refl
 keys-push {K} {X} key (e ∷ es) x own = grind (arith, keys-push key es x)
 
--- what is left from a place on begins with what stands there
+-- the rest from a position on begins with the element at that position
 pub drop-slice_get : {X : Type 0} (xs : List X) (i : ℕ) (x : X) → slice_get xs i ≡ Some x
     → drop i xs ≡ x ∷ drop (i + 1) xs
 drop-slice_get [] i x is = absurd (cc)
 drop-slice_get (y ∷ xs) zero x is = grind arith
 drop-slice_get (y ∷ xs) (suc i) x is = grind (arith, drop-slice_get xs i x)
 
--- a list made along another, one item at a time
+-- an item appended to a list that is built along another, one item at a time
 pub one_made : {X Y : Type 0} (f : X → Y) (made : List Y) (xs : List X) (i : ℕ) (y : Y) (all : List Y)
     → Some y ≡ option_map f (slice_get xs i) → made ++ map f (drop i xs) ≡ all
     → (made ++ y ∷ []) ++ map f (drop (i + 1) xs) ≡ all
@@ -54,7 +54,7 @@ pub text_of-drop : (es : List Entry) (i : ℕ) (e : Entry) → slice_get es i �
     → text_of (drop i es) ≡ line_of e ++ text_of (drop (i + 1) es)
 text_of-drop es i e is = ap text_of (drop-slice_get es i e is)
 
--- an id that no entry has
+-- if no entry has the id, neither the first nor any of the rest has it
 found_none : (id : List ℕ) (x : Entry) (b : Bool) (o : Option Entry) → cond b (Some x) o ≡ None
     → (b ≡ false) × (o ≡ None)
 found_none id x true o is = absurd (cc)
@@ -73,7 +73,7 @@ is_distinct-push (x ∷ es) e distinct new =
     and_from (not (list_any (has_id x.id) (es ++ e ∷ []))) (is_distinct (es ++ e ∷ []))
     (not_from_false (list_any (has_id x.id) (es ++ e ∷ [])) none) (is_distinct-push es e parts.1 other.1)
 
--- what a table is, in parts
+-- the three conditions that make a list a table
 pub table_parts : (es : List Entry) → is_table es ≡ true
     → (length es ≤ ENTRY_LIMIT) × (is_distinct es ≡ true) × (list_all is_written es ≡ true)
 table_parts es is = grind arith
@@ -87,7 +87,7 @@ pub is_table-push : (es : List Entry) (e : Entry) → is_table es ≡ true → e
 is_table-push es e is new written room =
     grind (arith, table_parts, table_from, length_push, is_distinct-push, list_all-append)
 
--- an entry of a table has an id that none before it has
+-- the id of an entry of a table differs from all earlier ids
 pub distinct-new : (before : List Entry) (e : Entry) (table : List Entry) → is_distinct (before ++ e ∷ table) ≡ true
     → entry_of e.id before ≡ None
 distinct-new [] e table distinct = refl
@@ -100,7 +100,7 @@ distinct-new (x ∷ before) e table distinct =
     let back : has_id e.id x ≡ false = nat_list_eq_equiv.symm e.id x.id ∙ here in
     rw back (distinct-new before e table parts.1)
 
--- what a table knows of the entry at a place
+-- an entry at any position of a table is a written one, its id is new, and there is room for it
 pub known : (before : List Entry) (e : Entry) (table : List Entry) → is_table (before ++ e ∷ table) ≡ true
     → (is_written e ≡ true) × (entry_of e.id before ≡ None) × (length before < ENTRY_LIMIT)
 known before e table is =
@@ -112,12 +112,12 @@ known before e table is =
       omega (arith, all.0, length-append before (e ∷ table)),
     )
 
--- a table whose front was copied, with its entry at the next place
+-- when a table is copied up to a position, its entry there is the next one
 pub copied : (es copy : List Entry) (i : ℕ) (e : Entry) → copy ++ drop i es ≡ es → slice_get es i ≡ Some e
     → copy ++ e ∷ drop (i + 1) es ≡ es
 copied es copy i e so_far is = ap (λ t. copy ++ t) (sym (drop-slice_get es i e is)) ∙ so_far
 
--- what a table knows of it
+-- the next entry to copy is a written one, its id is new, and there is room for it
 pub copied_known : (es copy : List Entry) (i : ℕ) (e : Entry) → is_table es ≡ true → copy ++ drop i es ≡ es
     → slice_get es i ≡ Some e → (is_written e ≡ true) × (entry_of e.id copy ≡ None) × (length copy < ENTRY_LIMIT)
 copied_known es copy i e table so_far is =

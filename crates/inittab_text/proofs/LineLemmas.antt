@@ -1,4 +1,4 @@
--- The lines of a written table: one an entry; and what is read is a table.
+-- A written table has one line per entry, and what is read from a text is a table.
 use Rattle.inittab_text.proofs.Words.{◌≡◌, ℕ, Bool, true, false, cond, not, ◌==◌, ◌-◌, List, [], ◌∷◌, ◌++◌, length}
 use Rattle.inittab_text.proofs.Words.{take, Option, Some, None, Result, refl, sym, ap, ◌∙◌, arith, list_all, bytes_eq}
 use Rattle.inittab_text.proofs.Words.{and_parts, and_from, not-true, not_from_false, or_parts, or_from}
@@ -13,7 +13,7 @@ use Rattle.inittab_text.proofs.Entries.{table_parts, is_table-push}
 use Rattle.inittab_text.proofs.ReadLemmas.{kept_entry, option_map_some}
 use Rattle.inittab_text.proofs.WriteLemmas.{one_line, parts, table_written-text, text_of-table_written}
 
--- a line an entry
+-- a written table has as many newlines as entries
 newlines-written : (table : List Entry) → list_all is_written table ≡ true → newlines (text_of table) ≡ length table
 newlines-written [] are = grind (arith, newlines-append, newlines-line, one_line, parts)
 newlines-written (e ∷ table) are =
@@ -22,7 +22,7 @@ newlines-written (e ∷ table) are =
 pub newlines-text : (table : List Entry) → is_table table ≡ true → newlines (text_of table) ≡ length table
 newlines-text table is = newlines-written table (table_parts table is).2
 
--- behind so many lines as a table has entries stands what stands behind its text
+-- after as many lines as the table has entries comes the text after it
 after_written : (table : List Entry) (more : List ℕ) → list_all is_written table ≡ true
     → after_lines (length table) (text_of table ++ more) ≡ Some more
 after_written [] more are = refl
@@ -38,7 +38,7 @@ pub after_lines-text : (table : List Entry) (more : List ℕ) → is_table table
     → after_lines (length table) (text_of table ++ more) ≡ Some more
 after_lines-text table more is = after_written table more (table_parts table is).2
 
--- the lines of a text have no newline
+-- the lines of a text contain no newline
 lacks : List ℕ → Bool
 lacks line = not (has_byte 10 line)
 
@@ -63,7 +63,7 @@ unfolding lacks
 lines_lack [] = refl
 lines_lack (b ∷ text) = lines_by b text (b == 10) refl (lines_lack text)
 
--- a table, after a line of it
+-- a table stays a table after another line is read
 table_after : (before : List Entry) (line : List ℕ) (v : Result (Option Entry) LineKind) → verdict_of before line ≡ v
     → has_byte 10 line ≡ false → is_table before ≡ true → is_table (entries_after before v) ≡ true
 table_after before line v is one table = grind (arith, kept_entry, is_table-push)
@@ -77,7 +77,7 @@ table_from_lines before (line ∷ lines) all table =
     table_from_lines (entries_after before (verdict_of before line)) lines both.1
     (table_after before line (verdict_of before line) refl (not-true (has_byte 10 line) both.0) table)
 
--- what is read is a table
+-- what is read from a text is a table
 pub is_table-read : (text : List ℕ) → is_table (table_of_text text) ≡ true
 is_table-read text = table_from_lines [] (lines_of text) (lines_lack text) refl
 
@@ -89,7 +89,7 @@ written_by text false table is = absurd (cc)
 pub is_table-written : (text : List ℕ) (table : List Entry) → table_written text ≡ Some table → is_table table ≡ true
 is_table-written text table is = written_by text (bytes_eq (text_of (table_of_text text)) text) table is
 
--- the table that a text begins with
+-- a text that begins with a written table is read as this table and the rest
 pub begun_back : (table : List Entry) (rest : List ℕ) → is_table table ≡ true
     → table_begun (length table) (text_of table ++ rest) ≡ Some (table, rest)
 begun_back table rest is =

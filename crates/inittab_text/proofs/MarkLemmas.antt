@@ -36,7 +36,7 @@ others-push : (x m : Mark) (ms : List Mark) → same_mark x m ≡ false → othe
 unfolding others
 others-push x m ms other = filter-append (λ o. not (same_mark x o)) ms (m ∷ []) ∙ rw other refl
 
--- one more behind the marks, one more in front of them
+-- appending a mark and putting another one in front can be done in either order
 push_same : (x m : Mark) (ms : List Mark) (n : Bool) → same_mark x m ≡ true
     → others x (cond n ms (ms ++ m ∷ [])) ≡ others x ms
 push_same x m ms true is = refl
@@ -71,7 +71,7 @@ with_option xs None = ap without_repeats (append_none xs)
     append_none (y ∷ ys) = ap (λ zs. y ∷ zs) (append_none ys)
 with_option xs (Some m) = without_repeats-push xs m
 
--- the marks of one more character
+-- the marks of a field and its next character
 pub marks_more : (field : List ℕ) (i : ℕ) → i < length field
     → marks_of (take (i + 1) field) ≡ with_mark (marks_of (take i field)) (mark_read (get_or field i 0))
 marks_more field i within =
@@ -107,7 +107,7 @@ length-filter_map_le (b ∷ field) = grind (arith, length-filter_map_le field)
 pub length-marks_of : (field : List ℕ) → length (marks_of field) ≤ length field
 length-marks_of field = omega (arith, length-without_repeats (filter_map mark_read field), length-filter_map_le field)
 
--- what a filter leaves names no more
+-- a filter adds no marks
 names-filter : (m : Mark) (p : Mark → Bool) (ms : List Mark) → names m ms ≡ false → names m (filter p ms) ≡ false
 names-filter m p [] lacks = refl
 names-filter m p (x ∷ ms) lacks =
@@ -152,6 +152,6 @@ read_again : (ms : List Mark) → filter_map mark_read (map mark_code ms) ≡ ms
 read_again [] = refl
 read_again (m ∷ ms) = rw (mark_read-code m, read_again ms) refl
 
--- marks written are read as they are
+-- the characters of marks without repeats are read as the same marks
 pub marks_of-codes : (ms : List Mark) → has_no_repeat ms ≡ true → marks_of (map mark_code ms) ≡ ms
 marks_of-codes ms once = ap without_repeats (read_again ms) ∙ without_repeats-kept ms once

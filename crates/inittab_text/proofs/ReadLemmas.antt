@@ -1,4 +1,4 @@
--- What the checks of a line say of the entry that is kept.
+-- What the checks of a line imply for the entry that it gives.
 use Rattle.inittab_text.proofs.Words.{◌≡◌, ℕ, ◌+◌, ◌<◌, ◌≤◌, Bool, true, false, cond, not, ◌==◌, nat_lt, nat_le, List}
 use Rattle.inittab_text.proofs.Words.{[], ◌∷◌, ◌++◌, length, drop, Option, Some, None, is_some, Result, Ok, Err, refl}
 use Rattle.inittab_text.proofs.Words.{sym, ap, ◌∙◌, arith, subst, length-append, get_or, IsUtf8, is_utf8, or_parts}
@@ -18,7 +18,7 @@ use Rattle.inittab_text.specs.Checks.{checked_as, verdict_of}
 use Rattle.inittab_text.specs.Written.{is_written}
 use Rattle.inittab_text.proofs.MarkLemmas.{length-marks_of, has_no_repeat-without_repeats}
 
--- a line of these fields
+-- the line with these fields
 abbrev pub spelled : FieldBytes → List ℕ
 spelled f = f.id ++ 58 ∷ (f.levels ++ 58 ∷ (f.action ++ 58 ∷ f.process))
 
@@ -27,11 +27,11 @@ pub option_map_some : {X Y P : Type 0} (f : X → Y) (o : Option X) (y : Y) → 
 option_map_some f None y is next = absurd (cc)
 option_map_some f (Some x) y is next = next x refl (cc)
 
--- a line is its fields and the colons between them
+-- a line is its fields with the colons between them
 pub fields_of-spelled : (line : List ℕ) (f : FieldBytes) → fields_of line ≡ Some f → line ≡ spelled f
 fields_of-spelled line f is = grind (arith, option_and_then_some, option_map_some, cut-parts)
 
--- the checks that a kept line passed
+-- the checks that a line with an entry has passed
 pub record Passed (before : List Entry) (line : List ℕ) (f : FieldBytes) (a : Act) (e : Entry) : Type 0 where
   pub id : is_id f.id ≡ true
   pub levels : length f.levels ≤ MARK_LIMIT
@@ -102,7 +102,7 @@ passed before line e is =
     passed_fields before text (fields_of text) e refl
     (guard_ignored (is_ignored text) (checked before text (fields_of text)) e is)
 
--- a part of a text behind an ASCII byte is text
+-- the rest of a UTF-8 text after an ASCII byte is UTF-8
 is_text-rest : (front rest : List ℕ) → is_text (front ++ 58 ∷ rest) ≡ true → is_text rest ≡ true
 is_text-rest front rest is =
     let whole = front ++ 58 ∷ rest in
@@ -128,7 +128,7 @@ lacks-process : (f : FieldBytes) → has_byte 10 (spelled f) ≡ false → has_b
 lacks-process f is = lacks-rest f.action f.process (lacks-rest f.levels (f.action ++ 58 ∷ f.process)
     (lacks-rest f.id (f.levels ++ 58 ∷ (f.action ++ 58 ∷ f.process)) is))
 
--- a field that may be left out means at most eleven characters
+-- the default for an empty runlevels field has at most eleven characters
 length-levels_meant : (a : Act) (field : List ℕ) → length field ≤ MARK_LIMIT
     → length (levels_meant a field) ≤ MARK_LIMIT
 length-levels_meant a field few = grind arith
@@ -150,7 +150,7 @@ is_process_by : (a : Act) (process : List ℕ) (b : Bool) → has_process a ≡ 
 is_process_by a process true has long missing text lacks = rw (long, missing, text, lacks, has) refl
 is_process_by a process false has long missing text lacks = grind (arith, is_utf8-from_IsUtf8, IsUtf8-nil, needs_none)
 
--- what was kept is written as it was read
+-- an entry that was read meets the conditions of a written one
 pub is_written-kept : (before : List Entry) (line : List ℕ) (f : FieldBytes) (a : Act) (e : Entry)
     → Passed before line f a e → line ≡ spelled f → has_byte 10 line ≡ false → is_written e ≡ true
 unfolding is_written
@@ -161,7 +161,7 @@ is_written-kept before line f a e h at lacks =
     is_process_by a f.process (has_process a) refl h.long h.missing (is_text-process f text) (lacks-process f none) in
     rw h.is (and_from _ _ (and_from _ _ h.id (is_levels-kept a f.levels h.levels)) process)
 
--- what a table must know before it takes the entry
+-- an entry that was read can be added to the table: its id is new, it is a written one, and there is room for it
 pub kept_entry : (before : List Entry) (line : List ℕ) (e : Entry) → verdict_of before line ≡ Ok (Some e)
     → has_byte 10 line ≡ false → (entry_of e.id before ≡ None) × (is_written e ≡ true) × (length before < ENTRY_LIMIT)
 kept_entry before line e is lacks =

@@ -1,4 +1,4 @@
--- The written text of a table is no longer than a text may be.
+-- The written text of a table is not longer than a text may be.
 use Rattle.inittab_text.proofs.Words.{◌≡◌, ℕ, suc, ◌+◌, ◌*◌, ◌≤◌, Bool, true, false, cond, ◌&&◌, nat_lt, List, [], ◌∷◌}
 use Rattle.inittab_text.proofs.Words.{◌++◌, length, length-append, arith, lit≤, list_all, false≢true, and_parts}
 use Rattle.inittab_text.proofs.Words.{ltb-false, MARK_LIMIT, PROCESS_LIMIT, Entry, Act, word_of, has_process, id_parts}
@@ -10,7 +10,7 @@ use Rattle.init_words.specs.declared.actions.Act.TheVariants as act
 use Rattle.inittab_text.proofs.Entries.{table_parts}
 use Rattle.inittab_text.proofs.WriteLemmas.{parts, length-levels_written}
 
--- the longest word of an action, and the longest line: the four fields, three colons and the newline
+-- bounds on the word of an action, and on a line: the four fields, three colons and the newline
 word_limit : ℕ
 word_limit = 12
 
@@ -35,14 +35,14 @@ word_short act.Initdefault = lit≤ tt
 word_short act.Ctrlaltdel = lit≤ tt
 word_short act.Kbrequest = lit≤ tt
 
--- a process that is not too long
+-- a process that passes the check is not too long
 process_by : (b : Bool) (p : List ℕ) → (b && nat_lt PROCESS_LIMIT (length p)) ≡ false → cond b true (is_empty p) ≡ true
     → length p ≤ PROCESS_LIMIT
 process_by true p short has = ltb-false PROCESS_LIMIT (length p) short
 process_by false [] short has = lit≤ tt
 process_by false (b ∷ p) short has = absurd (false≢true has)
 
--- four fields, a byte after each
+-- four fields, each with a byte after it
 sized : {whole first second third i l w p a b c d : ℕ} → whole ≡ first + 1 → first ≡ i + suc second
     → second ≡ l + suc third → third ≡ w + suc p → i ≤ a → l ≤ b → w ≤ c → p ≤ d → whole ≤ a + b + c + d + 4
 sized one two three four h1 h2 h3 h4 = omega (arith, one, two, three, four, h1, h2, h3, h4)
@@ -61,7 +61,7 @@ line_short e is =
     (id_parts e.id h.id).few (length-levels_written e.act e.levels.items h.few) (word_short e.act)
     (process_by (has_process e.act) p h.long h.has)
 
--- one line more
+-- one more line
 longer : (whole line rest n k : ℕ) → whole ≡ line + rest → line ≤ k → rest ≤ n * k → whole ≤ suc n * k
 longer whole line rest n k is here there = rw (suc-mul n k) (omega (arith, is, here, there))
 
@@ -76,7 +76,7 @@ lines_short (e ∷ table) all =
     longer (length (text_of (e ∷ table))) (length (line_of e)) (length (text_of table)) (length table) line_limit
     (length-append (line_of e) (text_of table)) (line_short e both.0) (lines_short table both.1)
 
--- the most lines, each of the most bytes
+-- the maximum number of lines of the maximum length fits
 fits : ENTRY_LIMIT * line_limit ≤ TEXT_LIMIT
 unfolding line_limit word_limit
 fits = lit≤ tt

@@ -1,4 +1,4 @@
--- The words of the proofs of this crate.
+-- Names that the proofs of this crate share.
 pub use Rattle.std.proofs.Common.{arith, ◌≡◌, true, List, [], ◌∷◌, Option, Some, None, Result, Ok, refl, ℕ, sym, ◌∙◌}
 pub use Rattle.std.proofs.Common.{ap, cond, zero, suc, ◌+◌, ◌<◌, ◌≤◌, Bool, false, not, ◌++◌, length, drop, slice_get}
 pub use Rattle.std.proofs.Common.{length-append, map, find, subst, ◌==◌, ◌-◌, take, get_or, filter, IsErrOf, ◌↔◌}

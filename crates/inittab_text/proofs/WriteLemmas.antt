@@ -1,4 +1,4 @@
--- What is written is read as it was.
+-- Reading what was written gives the same table.
 use Rattle.inittab_text.proofs.Words.{◌≡◌, ◌≢◌, ℕ, zero, suc, ◌+◌, ◌<◌, ◌≤◌, Bool, true, false, cond, not, ◌==◌, ◌&&◌}
 use Rattle.inittab_text.proofs.Words.{nat_lt, nat_le, List, [], ◌∷◌, ◌++◌, map, Option, length, Some, None, Ok, refl}
 use Rattle.inittab_text.proofs.Words.{sym, ap, ◌∙◌, arith, subst, append-nil, codes, lit<, list_all, IfSome, IfNone}
@@ -24,7 +24,7 @@ use Rattle.inittab_text.specs.Written.{is_written}
 use Rattle.inittab_text.proofs.MarkLemmas.{marks_of-codes}
 use Rattle.inittab_text.proofs.Entries.{known}
 
--- a byte that is ASCII, and no colon, newline or NUL
+-- an ASCII byte that is not a colon, a newline or NUL
 plain : ℕ → Bool
 plain b = nat_lt b 128 && not (b == 58) && not (b == 10) && not (b == 0)
 
@@ -44,7 +44,7 @@ unfolding plain
 plain_from b small colon newline nul =
     rw (lt-ltb b 128 small, ne_eqb b 58 colon, ne_eqb b 10 newline, ne_eqb b 0 nul) refl
 
--- the parts of a written line other than its process are plain
+-- all fields of a written line except its process are plain
 plain_id_byte : (b : ℕ) → is_id_byte b ≡ true → plain b ≡ true
 plain_id_byte b is =
     let outer = and_parts (nat_le 33 b && nat_le b 126) (not (b == 58)) is in
@@ -110,7 +110,7 @@ plain_word act.Initdefault = refl
 plain_word act.Ctrlaltdel = refl
 plain_word act.Kbrequest = refl
 
--- what plain bytes have not
+-- plain bytes contain no colon, newline or NUL
 no_colon : (bs : List ℕ) → all_plain bs → has_byte 58 bs ≡ false
 unfolding all_plain
 no_colon [] is = refl
@@ -138,7 +138,7 @@ ascii [] is i = lit< tt
 ascii (b ∷ bs) is zero = (plain_parts b (and_parts (plain b) (list_all plain bs) is).0).0
 ascii (b ∷ bs) is (suc i) = ascii bs (and_parts (plain b) (list_all plain bs) is).1 i
 
--- a plain field, a colon and text are text
+-- a plain field, a colon and a UTF-8 text without NUL are such a text again
 is_text-front : (front rest : List ℕ) → all_plain front → is_text rest ≡ true → is_text (front ++ 58 ∷ rest) ≡ true
 is_text-front front rest clean is =
     let parts = and_parts (is_utf8 rest) (not (has_byte 0 rest)) is in
@@ -156,7 +156,7 @@ is_text-front front rest clean is =
     colon_ascii zero = lit< tt
     colon_ascii (suc i) = lit< tt
 
--- a written line begins with its id: no blank is skipped, and it is no comment
+-- a written line begins with its id, so no blank is skipped and it is not a comment
 shown_by : (b : ℕ) (bs rest : List ℕ) → is_id (b ∷ bs) ≡ true
     → (skip_blanks ((b ∷ bs) ++ rest) ≡ (b ∷ bs) ++ rest) × (is_ignored ((b ∷ bs) ++ rest) ≡ false)
 shown_by b bs rest is = grind arith
@@ -166,7 +166,7 @@ shown : (id rest : List ℕ) → is_id id ≡ true
 shown [] rest is = absurd (false≢true is)
 shown (b ∷ bs) rest is = shown_by b bs rest is
 
--- the facts of a written entry
+-- the conditions that a written entry meets
 pub record Parts (e : Entry) : Type 0 where
   pub id : is_id e.id ≡ true
   pub few : length e.levels.items ≤ MARK_LIMIT
@@ -246,7 +246,7 @@ one_line e h =
     (has_byte-append 10 levels (58 ∷ (word ++ 58 ∷ p)) (no_newline levels (plain_levels e.act e.levels.items))
     (has_byte-append 10 word (58 ∷ p) (no_newline word (plain_word e.act)) h.one))
 
--- written runlevels are kept as they are
+-- the written runlevels are kept as they were
 kept_none : (a : Act) (b : Bool) → ignores_levels a ≡ b → levels_kept a (cond b [] (codes "-")) ≡ []
 kept_none a true is = rw is refl
 kept_none a false is = rw is refl
@@ -272,7 +272,7 @@ pub length-levels_written : (a : Act) (ms : List Mark) → length ms ≤ MARK_LI
     → length (levels_written a ms) ≤ MARK_LIMIT
 length-levels_written a ms few = grind (arith, length-map)
 
--- the word of an action is read as the action
+-- the word of an action is read as this action
 pub act_back : (a : Act) → act_read (word_of a) ≡ Some a
 unfolding act_read
 act_back act.Sysinit = refl
@@ -359,7 +359,7 @@ faults_from-text (e ∷ table) before number is =
     (λ v. faults_at number v ++ faults_from (entries_after before v) (number + 1) (lines_of (text_of table))) verdict
     ∙ faults_from-text table (before ++ e ∷ []) (number + 1) (subst (λ es. is_table es ≡ true) (sym regrouped) is)
 
--- what is written is the written text of its table
+-- the written text of a table is read back as the table
 pub table_written-text : (table : List Entry) → is_table table ≡ true → table_written (text_of table) ≡ Some table
 table_written-text table is =
     rw (entries_from-text table [] is, (bytes_eq-Decides (text_of table) (text_of table)).1 refl) refl
@@ -369,13 +369,13 @@ written_by : (t table : List Entry) (text : List ℕ) (b : Bool) → bytes_eq (t
 written_by t table text true same is = grind (arith, bytes_eq-Decides)
 written_by t table text false same is = absurd (cc)
 
--- a table whose written text this is has this text
+-- a table that is read back from a text has this text
 pub text_of-table_written : (text : List ℕ) (table : List Entry) → table_written text ≡ Some table
     → text_of table ≡ text
 text_of-table_written text table is =
     written_by (table_of_text text) table text (bytes_eq (text_of (table_of_text text)) text) refl is
 
--- it is the only one
+-- no other table has this text
 pub only_written : (text : List ℕ) (got : Option (List Entry)) → got ≡ table_written text → (table : List Entry)
     → is_table table ≡ true → text_of table ≡ text → got ≡ Some table
 only_written text got is table valid at = is ∙ ap table_written (sym at) ∙ table_written-text table valid

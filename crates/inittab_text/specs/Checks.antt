@@ -17,19 +17,19 @@ use Rattle.inittab_text.specs.Lines.{FieldBytes, fields_of, is_ignored}
 use Rattle.inittab_text.specs.Kept.{kept_of}
 use Rattle.inittab_text.specs.Tables.{entry_of}
 
--- the process has more bytes than a line may have, a '+' counted
+-- the process is longer than a line allows, counting a leading '+'; an action without a process is not checked
 abbrev pub is_too_long : Act → List ℕ → Bool
 is_too_long act process = has_process act && nat_lt PROCESS_LIMIT (length process)
 
--- the process is to have more than blanks and tabs, and has not
+-- the action needs a process, and the field has only blanks and tabs after its leading '+', if it has one
 abbrev pub is_missing : Act → List ℕ → Bool
 is_missing act process = needs_process act && list_all is_blank (without_plus process)
 
--- UTF-8 without a NUL
+-- the line is UTF-8 without NUL bytes
 abbrev pub is_text : List ℕ → Bool
 is_text line = is_utf8 line && not (has_byte 0 line)
 
--- the checks from the process on, of a line with this action
+-- the checks from the process on, for a line with this action that follows these entries
 unfoldable pub checked_as : Act → List Entry → List ℕ → FieldBytes → Result (Option Entry) LineKind
 checked_as act before line f =
     if is_too_long act f.process then Err fault.Length
@@ -44,7 +44,7 @@ abbrev pub checked_with : Option Act → List Entry → List ℕ → FieldBytes 
 checked_with None before line f = Err fault.Action
 checked_with (Some act) before line f = checked_as act before line f
 
--- the first check that fails names the fault; where none does, the entry is kept
+-- the first check that fails is the fault of the line; if none fails, the entry is kept
 abbrev pub checked : List Entry → List ℕ → Option FieldBytes → Result (Option Entry) LineKind
 checked before line None = Err fault.Fields
 checked before line (Some f) =
@@ -52,7 +52,7 @@ checked before line (Some f) =
     else if nat_lt MARK_LIMIT (length f.levels) then Err fault.Levels
     else checked_with (act_read f.action) before line f
 
--- what a line comes to after these entries: nothing, an entry or a fault
+-- a line that follows these entries, after its leading blanks: nothing if it is ignored, an entry, or a fault
 unfoldable pub verdict_of : List Entry → List ℕ → Result (Option Entry) LineKind
 verdict_of before line =
     let text = skip_blanks line in

@@ -8,43 +8,44 @@ use Rattle.inittab_text.specs.declared.reading.TheConstants.{TEXT_LIMIT}
 use Rattle.text_lines.specs.Lines.{lines_of}
 use Rattle.inittab_text.specs.Reading.{entries_from, faults_from}
 
--- the entries, with those of the texts after them: each text is cut into lines by itself
+-- the entries, followed by those of the texts; each text is split into lines by itself
 abbrev pub entries_of_texts : List Entry → List (List ℕ) → List Entry
 entries_of_texts before [] = before
 entries_of_texts before (text ∷ texts) = entries_of_texts (entries_from before (lines_of text)) texts
 
--- a fault of a line, in the part of a number
+-- the fault of a line, with the number of its part
 abbrev pub in_part : ℕ → LineFault → PartFault
 in_part part fault = record { part = part; line = fault.line; kind = fault.kind }
 
--- the faults of the parts from a number on, after these entries; the lines of each are counted from 1
+-- the faults of the texts that follow these entries, counting parts from this number; the lines of each text are
+-- counted from 1
 abbrev pub faults_of_texts : List Entry → ℕ → List (List ℕ) → List PartFault
 faults_of_texts before part [] = []
 faults_of_texts before part (text ∷ texts) =
     map (in_part part) (faults_from before 1 (lines_of text))
     ++ faults_of_texts (entries_from before (lines_of text)) (part + 1) texts
 
--- the table of the texts of parts
+-- the table of the texts
 abbrev pub table_of_texts : List (List ℕ) → List Entry
 table_of_texts texts = entries_of_texts [] texts
 
--- their faults, part by part; parts are counted from 0
+-- the faults of the texts, part by part; parts are counted from 0
 abbrev pub faults_of_parts : List (List ℕ) → List PartFault
 faults_of_parts texts = faults_of_texts [] 0 texts
 
--- the bytes of all texts together
+-- the number of bytes in all texts together
 abbrev pub size_of_texts : List (List ℕ) → ℕ
 size_of_texts [] = 0
 size_of_texts (text ∷ texts) = length text + size_of_texts texts
 
--- more texts than a table is read from
+-- there are more texts than the maximum number of parts
 abbrev pub AreTooMany : List (List ℕ) → Type 0
 AreTooMany texts = PART_LIMIT < length texts
 
--- not too many, and together too long
+-- there are not too many texts, but together they are too long
 abbrev pub AreTooLong : List (List ℕ) → Type 0
 AreTooLong texts = (length texts ≤ PART_LIMIT) × (TEXT_LIMIT < size_of_texts texts)
 
--- a table is read from them: neither too many nor too long
+-- the texts are read as a table: they are neither too many nor too long
 abbrev pub are_readable : List (List ℕ) → Bool
 are_readable texts = nat_le (length texts) PART_LIMIT && nat_le (size_of_texts texts) TEXT_LIMIT

@@ -6,23 +6,23 @@ use Rattle.inittab_text.specs.declared.faults.LineFault.{LineFault}
 use Rattle.text_lines.specs.Lines.{lines_of}
 use Rattle.inittab_text.specs.Checks.{verdict_of}
 
--- the entries after a line: one more where the line is kept
+-- the entries after a line: one more if the line has an entry
 abbrev pub entries_after : List Entry → Result (Option Entry) LineKind → List Entry
 entries_after before (Ok (Some e)) = before ++ e ∷ []
 entries_after before (Ok None) = before
 entries_after before (Err kind) = before
 
--- the fault of the line of a number, where it has one
+-- the fault of the line with this number, if it has one
 abbrev pub faults_at : ℕ → Result (Option Entry) LineKind → List LineFault
 faults_at number (Ok kept) = []
 faults_at number (Err kind) = record { line = number; kind = kind } ∷ []
 
--- the entries, with those of the lines after them
+-- the entries, followed by those of the lines
 abbrev pub entries_from : List Entry → List (List ℕ) → List Entry
 entries_from before [] = before
 entries_from before (line ∷ lines) = entries_from (entries_after before (verdict_of before line)) lines
 
--- the faults of the lines from a number on, after these entries
+-- the faults of the lines that follow these entries, counting lines from this number
 abbrev pub faults_from : List Entry → ℕ → List (List ℕ) → List LineFault
 faults_from before number [] = []
 faults_from before number (line ∷ lines) =
@@ -33,6 +33,6 @@ faults_from before number (line ∷ lines) =
 abbrev pub table_of_text : List ℕ → List Entry
 table_of_text text = entries_from [] (lines_of text)
 
--- its faults, in line order; lines are counted from 1
+-- the faults of a text, in line order; lines are counted from 1
 abbrev pub faults_of_text : List ℕ → List LineFault
 faults_of_text text = faults_from [] 1 (lines_of text)

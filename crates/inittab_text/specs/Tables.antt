@@ -1,4 +1,4 @@
--- Tables: lists of entries, read by their ids (inittab(5)).
+-- Tables: lists of entries that are found by id (inittab(5)).
 use Rattle.std.specs.Prelude.{ℕ, Bool, true, not, ◌&&◌, if◌then◌else◌, List, [], ◌∷◌, map, find, Option, Some, None}
 use Rattle.std.specs.List.{list_any}
 use Rattle.std.specs.Option.{option_map, option_or}
@@ -15,19 +15,19 @@ use Rattle.init_words.specs.Ids.{same_id}
 abbrev pub ids_of : List Entry → List (List ℕ)
 ids_of table = map (λ (e : Entry). e.id) table
 
--- the entry has the id
+-- the entry has this id
 abbrev pub has_id : List ℕ → Entry → Bool
 has_id id e = same_id id e.id
 
--- the entry of an id: the first that has it
+-- the first entry with this id
 abbrev pub entry_of : List ℕ → List Entry → Option Entry
 entry_of id table = find (has_id id) table
 
--- the action of an id
+-- the action of the first entry with this id
 abbrev pub act_of : List ℕ → List Entry → Option Act
 act_of id table = option_map (λ (e : Entry). e.act) (entry_of id table)
 
--- no id stands twice
+-- no id occurs twice
 abbrev pub is_distinct : List Entry → Bool
 is_distinct [] = true
 is_distinct (e ∷ es) = not (list_any (has_id e.id) es) && is_distinct es
@@ -38,7 +38,7 @@ first_level [] = None
 first_level (At level ∷ marks) = Some level
 first_level (OnCall letter ∷ marks) = first_level marks
 
--- the runlevel that an entry names as the default: an initdefault entry's first one
+-- the runlevel that an entry names as the default: the first one of an initdefault entry
 abbrev pub default_of : Entry → Option Level
 default_of e = if same_act e.act Initdefault then first_level e.levels.items else None
 

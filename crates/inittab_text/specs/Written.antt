@@ -1,4 +1,4 @@
--- The written form of entries, and what each entry of a table is known to be (inittab(5)).
+-- The written form of entries, and the conditions that every entry of a table meets (inittab(5)).
 use Rattle.std.specs.Prelude.{ℕ, Bool, true, false, not, ◌&&◌, nat_le, if◌then◌else◌, List, [], ◌∷◌, ◌++◌, ◌-◌, map}
 use Rattle.std.specs.Prelude.{length, take, Option, Some, None, codes}
 use Rattle.std.specs.List.{flat_map, list_all}
@@ -17,7 +17,8 @@ use Rattle.inittab_text.specs.Checks.{is_too_long, is_missing, is_text}
 use Rattle.inittab_text.specs.Tables.{is_distinct}
 use Rattle.inittab_text.specs.Reading.{table_of_text}
 
--- the runlevels as written: the marks' characters; none is "-", or nothing where they count for nothing
+-- the runlevels field as written: the characters of the marks; if there are none, "-", or nothing if the action ignores
+-- the field
 abbrev pub levels_written : Act → List Mark → List ℕ
 levels_written act [] = if ignores_levels act then [] else codes "-"
 levels_written act (mark ∷ marks) = map mark_code (mark ∷ marks)
@@ -34,42 +35,41 @@ line_of e = fields_written e ++ 10 ∷ []
 abbrev pub text_of : List Entry → List ℕ
 text_of table = flat_map line_of table
 
--- the table whose written text this is, where there is one: the table that the text is read as, if it is written so
+-- the table whose written text this is, if any: the table that the text is read as, if writing it gives this text
 abbrev pub table_written : List ℕ → Option (List Entry)
 table_written text = if bytes_eq (text_of (table_of_text text)) text then Some (table_of_text text) else None
 
--- the table of the next given number of lines, and the text after them
+-- the table whose written text is the next `count` lines, and the text after them
 abbrev pub table_begun : ℕ → List ℕ → Option (List Entry × List ℕ)
 table_begun count text =
     option_and_then
     (λ rest. option_map (λ table. (table, rest)) (table_written (take (length text - length rest) text)))
     (after_lines count text)
 
--- nothing is there
 abbrev pub is_empty : {X : Type 0} → List X → Bool
 is_empty [] = true
 is_empty (x ∷ xs) = false
 
--- no mark stands twice
+-- no mark occurs twice
 abbrev pub has_no_repeat : List Mark → Bool
 has_no_repeat [] = true
 has_no_repeat (mark ∷ marks) = not (names mark marks) && has_no_repeat marks
 
--- not too many marks, each once, and none for an action whose runlevels count for nothing
+-- at most MARK_LIMIT marks, each once, and none if the action ignores its runlevels
 abbrev pub is_levels : Act → List Mark → Bool
 is_levels act marks =
     nat_le (length marks) MARK_LIMIT && has_no_repeat marks && (if ignores_levels act then is_empty marks else true)
 
--- text of one line that passes the checks on a process; nothing where the action has none
+-- UTF-8 text without a newline that passes the checks of a process, and is empty if the action has none
 abbrev pub is_process : Act → List ℕ → Bool
 is_process act process =
     not (is_too_long act process) && not (is_missing act process) && is_text process && not (has_byte 10 process)
     && (if has_process act then true else is_empty process)
 
--- an entry as reading keeps it
+-- an entry that reading can produce
 unfoldable pub is_written : Entry → Bool
 is_written e = is_id e.id && is_levels e.act e.levels.items && is_process e.act e.process.items
 
--- a table: not too many such entries, no id twice
+-- a table: at most ENTRY_LIMIT such entries, with no id twice
 abbrev pub is_table : List Entry → Bool
 is_table table = nat_le (length table) ENTRY_LIMIT && is_distinct table && list_all is_written table

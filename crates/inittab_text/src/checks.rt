@@ -1,4 +1,4 @@
-//! What makes a line of the inittab a comment, a fault or an entry.
+//! The checks that decide whether a line of the inittab is ignored, faulty or an entry.
 
 ghost use Rattle.std.specs.Prelude.{◌≡◌, ◌≤◌, Some, length};
 ghost use Rattle.text_lines.specs.Lines.{has_byte};
@@ -13,7 +13,7 @@ use init_words::{Act, Entry, Id, MARK_LIMIT, PROCESS_LIMIT, without_plus};
 use std::alloc::Allocator;
 use text_lines::{is_all_blank, is_utf8, without_blanks};
 
-/// Nothing, or a comment.
+/// Returns whether the line is empty or a comment.
 fn is_ignored(line: &[u8]) -> bool
     ensures { result ≡ is_ignored line.now }
 {
@@ -29,28 +29,29 @@ fn has_nul(line: &[u8]) -> bool
     line.contains(&0)
 }
 
-/// UTF-8 without a NUL.
+/// Returns whether the line is UTF-8 without NUL bytes.
 fn is_text(line: &[u8]) -> bool
     ensures { result ≡ is_text line.now }
 {
     is_utf8(line) && !has_nul(line)
 }
 
-/// The process has more bytes than a line may have.
+/// Returns whether the process is longer than a line allows.
 fn is_too_long(act: Act, process: &[u8]) -> bool
     ensures { result ≡ is_too_long act process.now }
 {
     act.has_process() && process.len() > PROCESS_LIMIT
 }
 
-/// The process is to be there, and is not.
+/// Returns whether the action needs a process and the field has none.
 fn is_missing(act: Act, process: &[u8]) -> bool
     ensures { result ≡ is_missing act process.now }
 {
     act.needs_process() && is_all_blank(without_plus(process))
 }
 
-/// The entry of a line with these fields, whose id and action were read, or the first further check that it fails.
+/// Returns the entry of a line with these fields, whose id and action were read, or the first further check that it
+/// fails.
 #[tactic(auto, unfolding(crate::specs::Checks::checked_as))]
 fn checked_as<A: Allocator>(
     act: Act,
@@ -81,7 +82,7 @@ fn checked_as<A: Allocator>(
     Ok(Some(entry_of(id, act, fields)))
 }
 
-/// The entry of a line with these fields, or the first check that the line fails.
+/// Returns the entry of a line with these fields, or the first check that the line fails.
 fn checked<A: Allocator>(
     table: &Table<A>,
     line: &[u8],
@@ -101,7 +102,7 @@ fn checked<A: Allocator>(
     checked_as(act, id, table, line, fields)
 }
 
-/// What a line comes to after the entries of the table: nothing, an entry or a fault.
+/// Checks a line that follows the entries of the table: the result is nothing if it is ignored, an entry, or a fault.
 #[tactic(auto, unfolding(crate::specs::Checks::verdict_of))]
 pub(crate) fn verdict_of<A: Allocator>(
     table: &Table<A>,

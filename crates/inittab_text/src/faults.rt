@@ -1,61 +1,61 @@
-//! What is wrong with a line, a file or a whole inittab, in words.
+//! The faults of a line, a file or a whole inittab, and their messages.
 
 use init_words::Memory;
 use std::alloc::AllocFailed;
 use std::error::Error;
 use std::fmt;
 
-/// Why a line of inittab(5) is left out: the first check that it fails, in this order.
+/// The reason why a line of inittab(5) is skipped: the first check that it fails, in this order.
 #[derive(Clone, Copy, Debug, PartialEq, Eq)]
 pub enum LineKind {
-    /// It has fewer than three colons.
+    /// The line has fewer than three colons.
     Fields,
-    /// The id is not 1 to 8 bytes of 33 to 126, or begins with `#`.
+    /// The id is not 1 to 8 bytes from 33 to 126, or begins with `#`.
     Id,
-    /// The runlevels field has over 11 bytes.
+    /// The runlevels field is longer than 11 bytes.
     Levels,
-    /// The action is none of the words of inittab(5), in lower case.
+    /// The action is not one of the words of inittab(5), in lower case.
     Action,
-    /// The process has over 127 bytes, a leading `+` counted.
+    /// The process is longer than 127 bytes, including a leading `+`.
     Length,
-    /// The process has only blanks and tabs, a leading `+` apart.
+    /// The process has only blanks and tabs, apart from a leading `+`.
     Empty,
-    /// The line is not UTF-8, or has a NUL.
+    /// The line is not UTF-8, or has a NUL byte.
     Text,
-    /// An earlier entry has the id.
+    /// An earlier entry has the same id.
     Twice,
-    /// The table has 4,096 entries already.
+    /// The table already has 4,096 entries.
     Many,
 }
 
-/// A line that was left out.
+/// A line that was skipped.
 #[derive(Clone, Copy, Debug, PartialEq, Eq)]
 pub struct LineFault {
-    /// The line's number, from 1.
+    /// The number of the line, from 1.
     pub line: u32,
     /// The first check that the line fails.
     pub kind: LineKind,
 }
 
-/// A line that was left out of one of several parts.
+/// A line of one of several parts that was skipped.
 #[derive(Clone, Copy, Debug, PartialEq, Eq)]
 pub struct PartFault {
-    /// The part's number, from 0.
+    /// The number of the part, from 0.
     pub part: u32,
-    /// The line's number in its part, from 1.
+    /// The number of the line in its part, from 1.
     pub line: u32,
     /// The first check that the line fails.
     pub kind: LineKind,
 }
 
-/// Why a table was not read.
+/// The reason why a table was not read.
 #[derive(Clone, Copy, Debug, PartialEq, Eq)]
 pub enum TableFault {
-    /// The text, or all parts together, have over 1,048,576 bytes.
+    /// The text, or all parts together, are longer than 1,048,576 bytes.
     TooLong,
-    /// Out of memory.
+    /// Memory allocation failed.
     Memory,
-    /// There are over 256 parts.
+    /// There are more than 256 parts.
     Parts,
 }
 

@@ -1,4 +1,4 @@
-//! A line of the inittab, cut at its colons.
+//! Splits a line of the inittab at its colons.
 
 ghost use Rattle.std.specs.Prelude.{◌≡◌};
 ghost use Rattle.std.specs.Option.{option_map};
@@ -8,20 +8,20 @@ use text_lines::cut;
 /// The four fields of a line, `id:runlevels:action:process` (inittab(5)).
 #[derive(Clone, Copy)]
 pub struct Fields<'a> {
-    /// The id, as the line has it.
+    /// The id as the line has it.
     pub id: &'a [u8],
-    /// The characters of the runlevels.
+    /// The characters of the runlevels field.
     pub levels: &'a [u8],
     /// The word of the action.
     pub action: &'a [u8],
-    /// All behind the third colon.
+    /// Everything after the third colon.
     pub process: &'a [u8],
 }
 
 impl<'a> Fields<'a> {
     ghost use Rattle.inittab_text.specs.Lines.{fields_of, fields_at};
 
-    /// The fields of a line, split at its first three colons; the process is the rest.
+    /// Splits a line at its first three colons; the process is the rest. Returns `None` if there are fewer colons.
     pub fn of(line: &'a [u8]) -> Option<Fields<'a>>
         ensures { option_map fields_at result ≡ fields_of line.now }
     {

@@ -1,4 +1,4 @@
-//! What is kept of the fields of a line: marks, runlevels, the process without its sign.
+//! What an entry keeps of the fields of a line: the marks of its runlevels, and the process.
 
 ghost use Rattle.std.specs.Prelude.{◌≡◌, ◌<◌, ◌≤◌, false, length};
 ghost use Rattle.arrayvec.specs.ArrayVec.{array_vec_len};
@@ -11,7 +11,7 @@ use crate::fields::Fields;
 use arrayvec::ArrayVec;
 use init_words::{Act, Entry, Id, MARK_LIMIT, Mark, PROCESS_LIMIT, names};
 
-/// Adds the mark of a character, unless it is none or is there already.
+/// Adds the mark of a character, unless the character is not a mark or the mark is already present.
 fn add_mark(marks: &mut ArrayVec<Mark, MARK_LIMIT>, code: u8)
     requires { array_vec_len marks.old < MARK_LIMIT }
     ensures { marks.new.items ≡ with_mark marks.old.items (mark_read code) }
@@ -22,7 +22,7 @@ fn add_mark(marks: &mut ArrayVec<Mark, MARK_LIMIT>, code: u8)
     }
 }
 
-/// The marks of a field's characters, each once.
+/// Returns the marks of a field's characters, each once.
 fn marks_of(field: &[u8]) -> ArrayVec<Mark, MARK_LIMIT>
     requires { length field.now ≤ MARK_LIMIT }
     ensures { result.items ≡ marks_of field.now }
@@ -34,7 +34,7 @@ fn marks_of(field: &[u8]) -> ArrayVec<Mark, MARK_LIMIT>
     marks
 }
 
-/// What is kept of a runlevels field.
+/// Returns the marks that an entry with this action keeps of its runlevels field.
 fn levels_kept(act: Act, field: &[u8]) -> ArrayVec<Mark, MARK_LIMIT>
     requires { length field.now ≤ MARK_LIMIT }
     ensures { result.items ≡ levels_kept act field.now }
@@ -48,7 +48,7 @@ fn levels_kept(act: Act, field: &[u8]) -> ArrayVec<Mark, MARK_LIMIT>
     marks_of(field)
 }
 
-/// What is kept of a process field.
+/// Returns what an entry with this action keeps of its process field.
 fn process_kept(act: Act, field: &[u8]) -> ArrayVec<u8, PROCESS_LIMIT>
     requires { is_too_long act field.now ≡ false }
     ensures { result.items ≡ process_kept act field.now }
@@ -60,7 +60,7 @@ fn process_kept(act: Act, field: &[u8]) -> ArrayVec<u8, PROCESS_LIMIT>
     process
 }
 
-/// The entry of a line's fields, whose id and action were read.
+/// Builds the entry of a line from its fields, after the id and the action were read.
 pub(crate) fn entry_of(id: Id, act: Act, fields: &Fields) -> Entry
     requires id { fields.now.id.now ≡ id }
     requires levels { length fields.now.levels.now ≤ MARK_LIMIT }

@@ -1,6 +1,8 @@
-//! The reader and writer of inittab(5). A text is read line by line into a table of entries, in order and found by
-//! their ids; a line that fails a check is left out and told as a fault. So are several texts, one after the other, each
-//! line by line. A table is written one line an entry, and what is written is read as the same table.
+//! The reader and writer of inittab(5).
+//!
+//! A text is read line by line into a table of entries, kept in their order and found by id. A line that fails a check
+//! is skipped and reported as a fault. Several texts are read one after the other, each line by line. A table is
+//! written with one line per entry, and reading what was written gives the same table.
 #![tactic(auto)]
 
 mod checks;

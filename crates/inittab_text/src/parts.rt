@@ -1,4 +1,4 @@
-//! An inittab of several files, read as one table.
+//! Reads an inittab that consists of several files as one table.
 
 ghost use Rattle.std.specs.Prelude.{◌≡◌, ◌≤◌, ◌++◌, ◌↔◌, map, length, IfOk, OnOk, IfErr, IsErrOf, nat_lt};
 ghost use Rattle.text_lines.specs.Lines.{lines_of};
@@ -15,10 +15,10 @@ use crate::tables::Table;
 use init_words::Part;
 use std::alloc::Allocator;
 
-/// How many parts a table may be read from.
+/// The maximum number of parts that a table is read from.
 pub const PART_LIMIT: usize = 256;
 
-/// All parts together have more bytes than a text may have.
+/// Returns whether all parts together are longer than a text may be.
 fn are_too_long<A: Allocator>(parts: &[Part<A>]) -> bool
     ensures { result ≡ nat_lt TEXT_LIMIT (size_of_texts (texts_of parts.now)) }
 {
@@ -32,7 +32,7 @@ fn are_too_long<A: Allocator>(parts: &[Part<A>]) -> bool
     false
 }
 
-/// Adds faults of lines to those of the parts.
+/// Adds the faults of a part's lines to the faults of all parts.
 fn add_faults<A: Allocator>(
     faults: &mut Vec<PartFault, A>,
     part: u32,
@@ -70,7 +70,7 @@ fn take_part<A: Allocator + Copy>(
     add_faults(faults, part, &found)
 }
 
-/// Reads parts that are few enough and short enough.
+/// Reads parts that are within the limits on number and size.
 fn read_fitting<A: Allocator + Copy, B: Allocator>(
     alloc: A,
     parts: &[Part<B>],
@@ -91,9 +91,11 @@ fn read_fitting<A: Allocator + Copy, B: Allocator>(
     Ok((table, faults))
 }
 
-/// Reads an inittab(5) of several parts, in their order: the entries of the lines that pass all checks, and the faults
-/// of the others. Each part is cut into lines by itself, and an entry is checked against those of all parts before it.
-/// Over 256 parts are refused, and parts of over 1,048,576 bytes together.
+/// Reads an inittab(5) that consists of several parts, in their order: the entries of the lines that pass all checks,
+/// and the faults of the others.
+///
+/// Each part is split into lines by itself, and an entry is checked against those of all earlier parts. More than 256
+/// parts, or more than 1,048,576 bytes in all parts together, are rejected.
 pub fn read_parts<A: Allocator + Copy, B: Allocator>(
     alloc: A,
     parts: &[Part<B>],

@@ -1,4 +1,4 @@
-//! The text of an inittab, read line by line (inittab(5)).
+//! Reads the text of an inittab line by line (inittab(5)).
 
 ghost use Rattle.std.specs.Prelude.{◌≡◌, ◌≢◌, ◌<◌, ◌≤◌, ◌++◌, ◌∷◌, [], ◌↔◌, false, Err, map, length, IfOk, IfErr, OnOk, IsErrOf};
 ghost use Rattle.text_lines.specs.Lines.{has_byte, lines_of};
@@ -13,10 +13,10 @@ use crate::tables::Table;
 use std::alloc::Allocator;
 use text_lines::first_line;
 
-/// How many bytes a text may have.
+/// The maximum length of a text in bytes.
 pub const TEXT_LIMIT: usize = 1_048_576;
 
-/// Adds a line's entry to the table, or its fault to the faults.
+/// Adds the entry of a line to the table, or its fault to the faults.
 fn take_line<A: Allocator>(
     table: &mut Table<A>,
     faults: &mut Vec<LineFault, A>,
@@ -38,7 +38,7 @@ fn take_line<A: Allocator>(
     Ok(())
 }
 
-/// Adds the entries of a text's lines to the table, and gives the faults of the others.
+/// Adds the entries of a text's lines to the table, and returns the faults of the other lines.
 pub(crate) fn take_text<A: Allocator + Copy>(
     alloc: A,
     table: &mut Table<A>,
@@ -63,7 +63,8 @@ pub(crate) fn take_text<A: Allocator + Copy>(
 }
 
 /// Reads an inittab(5): the entries of the lines that pass all checks, and the faults of the others in line order.
-/// A text of over 1,048,576 bytes is refused. It is read as `read_parts` reads it as the only part.
+///
+/// A text longer than 1,048,576 bytes is rejected. The result is that of `read_parts` for the text as its only part.
 pub fn read<A: Allocator + Copy>(
     alloc: A,
     text: &[u8],

@@ -1,4 +1,4 @@
-//! The entries of an inittab, in their order, found by id.
+//! A table: the entries of an inittab in their order, which are found by id.
 
 ghost use Rattle.std.specs.Prelude.{◌≡◌, ℕ, List, None, length, slice_get, option_copied, OnOk, OnErr, ◌++◌, [], ◌∷◌};
 ghost use Rattle.init_words.specs.declared.entries.Entry.{Entry};
@@ -11,10 +11,10 @@ use std::fmt;
 use std::hash::{BuildHasherDefault, FoldHasher};
 use std::marker::Model;
 
-/// How many entries a table may have.
+/// The maximum number of entries in a table.
 pub const ENTRY_LIMIT: usize = 4_096;
 
-/// The entries of an inittab(5), in the order of their lines, each id once.
+/// The entries of an inittab(5), in the order of their lines, with no id twice.
 #[derive(Drop)]
 pub struct Table<A: Allocator = Global> {
     entries: IndexMap<Id, Entry, BuildHasherDefault<FoldHasher>, A>,
@@ -42,7 +42,7 @@ impl<A: Allocator> fmt::Debug for Table<A> {
 }
 
 impl<A: Allocator + Copy> Table<A> {
-    /// A table of no entries. It takes no memory.
+    /// Creates an empty table. This allocates no memory.
     pub fn new(alloc: A) -> Table<A>
         ensures { result ≡ [] }
     {
@@ -57,7 +57,7 @@ impl<A: Allocator> Table<A> {
     ghost use Rattle.inittab_text.specs.Written.{is_written, is_table};
     ghost use Rattle.std.specs.Prelude.{true, ◌<◌, Some, IfOk};
 
-    /// How many entries it has: at most 4,096, each as reading keeps it, no id twice.
+    /// Returns the number of entries: at most 4,096, each as reading keeps it, with no id twice.
     pub fn len(&self) -> usize
         ensures value { result ≡ length self.now }
         ensures table { is_table self.now ≡ true }
@@ -66,18 +66,18 @@ impl<A: Allocator> Table<A> {
         self.entries.len()
     }
 
-    /// The entries in the order of their lines: a table, so no id stands twice.
+    /// Returns the entries in the order of their lines, with no id twice.
     pub fn entries(&self) -> &[Entry]
         ensures value { result.now ≡ self.now }
         ensures table { is_table self.now ≡ true }
         ensures distinct { is_distinct self.now ≡ true }
     {
-        // `len` says what a table is, as `values` doesn't.
+        // The contract of `len` states what a table is; that of `values` does not.
         let _ = self.len();
         self.entries.values().as_slice()
     }
 
-    /// The entry at a place, counted from 0.
+    /// Returns the entry at a position, counted from 0.
     pub fn at(&self, position: usize) -> Option<&Entry>
         ensures { option_copied result ≡ slice_get self.now position }
     {
@@ -85,7 +85,7 @@ impl<A: Allocator> Table<A> {
         Some(entry)
     }
 
-    /// The same table on another allocator.
+    /// Copies the table into memory of another allocator.
     pub fn copy<B: Allocator + Copy>(&self, alloc: B) -> Result<Table<B>, Memory>
         ensures { IfOk result (λ copy. copy ≡ self.now) }
     {
@@ -97,14 +97,14 @@ impl<A: Allocator> Table<A> {
         Ok(copy)
     }
 
-    /// The entry of an id.
+    /// Returns the entry with this id.
     pub fn get(&self, id: &Id) -> Option<&Entry>
         ensures value { option_copied result ≡ entry_of id.now self.now }
     {
         self.entries.get(id)
     }
 
-    /// The default runlevel: the first of the first initdefault entry that names one (inittab(5)).
+    /// Returns the default runlevel: the first one named by the first initdefault entry that names one (inittab(5)).
     pub fn default_level(&self) -> Option<Level>
         ensures { result ≡ default_level_of self.now }
     {
@@ -116,7 +116,7 @@ impl<A: Allocator> Table<A> {
         None
     }
 
-    /// The entry at a place below the length.
+    /// Returns the entry at a position less than the length.
     pub(crate) fn entry(&self, position: usize) -> &Entry
         requires { position < length self.now }
         ensures { slice_get self.now position ≡ Some result.now }
@@ -127,7 +127,7 @@ impl<A: Allocator> Table<A> {
         entry
     }
 
-    /// Adds an entry after the others.
+    /// Appends an entry.
     pub(crate) fn push(&mut self, entry: Entry) -> Result<(), Memory>
         requires new { entry_of entry.id self.old ≡ None }
         requires written { is_written entry ≡ true }
@@ -140,7 +140,7 @@ impl<A: Allocator> Table<A> {
     }
 }
 
-/// The first runlevel among the marks.
+/// Returns the first runlevel among the marks.
 fn first_level(marks: &[Mark]) -> Option<Level>
     ensures { result ≡ first_level marks.now }
 {
@@ -152,7 +152,7 @@ fn first_level(marks: &[Mark]) -> Option<Level>
     None
 }
 
-/// The runlevel that an entry names as the default.
+/// Returns the runlevel that an entry names as the default, if it is an initdefault entry.
 fn default_of(entry: &Entry) -> Option<Level>
     ensures { result ≡ default_of entry.now }
 {

@@ -1,4 +1,4 @@
-//! A table as the text of an inittab.
+//! Writes a table as the text of an inittab.
 
 ghost use Rattle.std.specs.Prelude.{◌≡◌, ◌≤◌, ◌++◌, ◌∷◌, [], length, take, IfOk, OnOk, OnErr, map};
 ghost use Rattle.init_words.specs.Levels.{mark_code};
@@ -11,7 +11,7 @@ use arrayvec::ArrayVec;
 use init_words::{Act, Entry, MARK_LIMIT, Mark, Memory};
 use std::alloc::Allocator;
 
-/// The characters of the marks.
+/// Returns the characters of the marks.
 fn codes_of(marks: &[Mark]) -> ArrayVec<u8, MARK_LIMIT>
     requires { length marks.now ≤ MARK_LIMIT }
     ensures { result.items ≡ map mark_code marks.now }
@@ -23,7 +23,7 @@ fn codes_of(marks: &[Mark]) -> ArrayVec<u8, MARK_LIMIT>
     codes
 }
 
-/// The runlevels field as it is written.
+/// Returns the runlevels field as it is written.
 fn levels_written(act: Act, marks: &[Mark]) -> ArrayVec<u8, MARK_LIMIT>
     requires { length marks.now ≤ MARK_LIMIT }
     ensures { result.items ≡ levels_written act marks.now }
@@ -35,7 +35,7 @@ fn levels_written(act: Act, marks: &[Mark]) -> ArrayVec<u8, MARK_LIMIT>
     field
 }
 
-/// Appends a field and the byte that ends it. Where memory runs out, a part of it may be appended.
+/// Appends a field and the byte that ends it. If memory allocation fails, a part of it may have been appended.
 fn write_field<A: Allocator>(text: &mut Vec<u8, A>, field: &[u8], end: u8) -> Result<(), Memory>
     ensures ok { OnOk result (text.new.items ≡ text.old.items ++ (field.now ++ end ∷ [])) }
     ensures err { OnErr result (take (length text.old.items) text.new.items ≡ text.old.items) }
@@ -45,7 +45,7 @@ fn write_field<A: Allocator>(text: &mut Vec<u8, A>, field: &[u8], end: u8) -> Re
     Ok(())
 }
 
-/// Appends an entry's line. Where memory runs out, a part of it may be appended.
+/// Appends the line of an entry. If memory allocation fails, a part of it may have been appended.
 fn write_fields<A: Allocator>(text: &mut Vec<u8, A>, entry: &Entry) -> Result<(), Memory>
     ensures ok { OnOk result (text.new.items ≡ text.old.items ++ line_of entry.now) }
     ensures err { OnErr result (take (length text.old.items) text.new.items ≡ text.old.items) }
@@ -57,8 +57,8 @@ fn write_fields<A: Allocator>(text: &mut Vec<u8, A>, entry: &Entry) -> Result<()
     write_field(text, entry.process.as_slice(), b'\n')
 }
 
-/// Appends an entry's line of inittab(5), `id:runlevels:action:process` and a newline. A refusal leaves the text as it
-/// was.
+/// Appends the line of an entry, `id:runlevels:action:process` and a newline (inittab(5)). If memory allocation fails,
+/// the text is left unchanged.
 pub fn write_line<A: Allocator>(text: &mut Vec<u8, A>, entry: &Entry) -> Result<(), Memory>
     ensures ok { OnOk result (text.new.items ≡ text.old.items ++ line_of entry.now) }
     ensures err { OnErr result (text.new.items ≡ text.old.items) }
@@ -71,8 +71,8 @@ pub fn write_line<A: Allocator>(text: &mut Vec<u8, A>, entry: &Entry) -> Result<
     Ok(())
 }
 
-/// Writes a table as an inittab(5), one line an entry. What is written is read as the same table, without faults, and is
-/// never too long to be read.
+/// Writes a table as an inittab(5), with one line per entry. The text is never too long to be read, and reading it
+/// gives the same table and no faults.
 pub fn write<A: Allocator + Copy, B: Allocator>(
     alloc: A,
     table: &Table<B>,

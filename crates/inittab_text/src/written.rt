@@ -1,4 +1,4 @@
-//! A table that was written, read again: one faulty line refuses it.
+//! Reads back a table that was written. A text that differs from what would be written is rejected.
 
 ghost use Rattle.std.specs.Prelude.{◌≡◌, ◌≢◌, List, option_map, Some, false, true, IfOk, IfSome, IfNone, OnOk};
 ghost use Rattle.init_words.specs.declared.entries.Entry.{Entry};
@@ -14,7 +14,7 @@ use init_words::Memory;
 use std::alloc::Allocator;
 use text_lines::{after_lines, first_line};
 
-/// Adds a line's entry to the table, if it is kept.
+/// Adds the entry of a line to the table, if the line has one.
 fn keep_line<A: Allocator>(table: &mut Table<A>, line: &[u8]) -> Result<(), Memory>
     requires { has_byte 10 line.now ≡ false }
     ensures { OnOk result (table.new ≡ entries_after table.old (verdict_of table.old line.now)) }
@@ -25,7 +25,7 @@ fn keep_line<A: Allocator>(table: &mut Table<A>, line: &[u8]) -> Result<(), Memo
     Ok(())
 }
 
-/// The entries of the lines that are kept.
+/// Returns the entries of the lines that have one.
 fn read_entries<A: Allocator + Copy>(alloc: A, text: &[u8]) -> Result<Table<A>, Memory>
     ensures { IfOk result (λ table. table ≡ table_of_text text.now) }
 {
@@ -39,7 +39,7 @@ fn read_entries<A: Allocator + Copy>(alloc: A, text: &[u8]) -> Result<Table<A>, 
     Ok(table)
 }
 
-/// The table that the text is read as, if it is written so.
+/// Returns the table that the text is read as, if writing it gives this text.
 fn table_written<A: Allocator + Copy>(alloc: A, text: &[u8]) -> Result<Option<Table<A>>, Memory>
     ensures { IfOk result (λ got. got ≡ table_written text.now) }
 {
@@ -51,11 +51,11 @@ fn table_written<A: Allocator + Copy>(alloc: A, text: &[u8]) -> Result<Option<Ta
     Ok(Some(table))
 }
 
-/// The table whose written text the bytes are, of any length; `None` where there is none.
+/// Returns the table whose written text the bytes are, or `None` if there is none. The bytes may have any length.
 pub fn read_written<A: Allocator + Copy>(alloc: A, text: &[u8]) -> Result<Option<Table<A>>, Memory>
     ensures value { IfOk result (λ got. got ≡ table_written text.now) }
     ensures found { IfOk result (λ got. IfSome got (λ table. text_of table ≡ text.now)) }
-    // No other table has the text.
+    // No other table has this text.
     ensures only { IfOk result (λ got. (table : List Entry) → is_table table ≡ true
         → text_of table ≡ text.now → got ≡ Some table) }
     ensures none { IfOk result (λ got. IfNone got ((table : List Entry) → is_table table ≡ true
@@ -64,8 +64,8 @@ pub fn read_written<A: Allocator + Copy>(alloc: A, text: &[u8]) -> Result<Option
     table_written(alloc, text)
 }
 
-/// The table of the next given number of lines of a text, and the text after them; `None` where they are none of a
-/// table.
+/// Returns the table whose written text is the next `count` lines, and the text after them, or `None` if these lines
+/// are not a written table.
 pub fn table_begun<A: Allocator + Copy>(
     alloc: A,
     count: usize,

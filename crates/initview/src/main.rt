@@ -1,4 +1,5 @@
-//! `initview`: why an entry of init is not started, how all stand and which children are left, by a trace.
+//! `initview`: reads the trace of an init and reports why an entry is not started, the state of all entries, and which
+//! children are left.
 #![tactic(auto)]
 
 use initview_command::{GrowingFiles, Printed, USAGE, run_words};

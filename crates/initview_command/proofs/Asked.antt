@@ -1,11 +1,12 @@
--- The command line, and what its words ask is done.
+-- The command that the arguments select is carried out.
 use Rattle.initview_command.proofs.Words.{◌≡◌, ◌∙◌, [], ◌∷◌, ap, inl, inr, refl, sym, true, false, ℕ, Bool, codes, List}
 use Rattle.initview_command.proofs.Words.{Option, Some, None, subst, IsSome, option_and_then, Row, is_simple_and_free}
-use Rattle.initview_command.proofs.Words.{DONE, DEVICE_FAULT, KnownTexts, reason_of, Heard, says_nothing, PathTexts}
+use Rattle.initview_command.proofs.Words.{DONE, DEVICE_FAULT, KnownTexts, reason_of, KnownOutput, says_nothing}
+use Rattle.initview_command.proofs.Words.{PathTexts}
 use Rattle.initview_command.proofs.Words.{asked_of, command_line, local_said, paths_of, what_of, words_said, Writes}
 use Rattle.initview_command.proofs.Words.{KnownWriters, Does, DoesTimed, EndsAs, EndsFor, EndsOf, EndsOn, EndsWhere}
 use Rattle.initview_command.proofs.Words.{Refuses}
-use Rattle.initview_command.proofs.Words.{SaysNothing, all_of, timed, Bor, map, option_map, unwrap_or}
+use Rattle.initview_command.proofs.Words.{WritesNothing, all_of, timed, Bor, map, option_map, unwrap_or}
 use Rattle.std.proofs.lemmas.Option.{none-some}
 use Rattle.clap.proofs.OnLiterals.{clap_on_literals}
 use Rattle.command_words.specs.CommandLines.{bare_line, given_by, line_of}
@@ -17,13 +18,13 @@ use Rattle.initview_command.specs.declared.asking.Command.{Command}
 use Rattle.initview_command.specs.Refusals.{ReportsRefusal}
 use Rattle.program_io.specs.Reports.{ReportList}
 
--- the command line uses no more of clap than what is known of it
+-- the command line uses only the features of clap that are specified
 pub is_free_line : is_simple_and_free command_line ≡ true
 unfolding bare_line line_of clap_on_literals
 is_free_line = refl
 
-module _ (text_at growing_at : KnownTexts) (writers : KnownWriters) (status : ℕ) (old new : Heard) where
-  -- by whether the version is asked for
+module _ (text_at growing_at : KnownTexts) (writers : KnownWriters) (status : ℕ) (old new : KnownOutput) where
+  -- the outcome if the version is requested
   pub version_done : (words : List (List ℕ)) (asks : Bool) → asks ≡ true
       → Writes (line.Text (version_line (codes "initview")) ∷ []) DONE status old new
       → EndsAs asks text_at growing_at writers words status old new
@@ -36,13 +37,13 @@ module _ (text_at growing_at : KnownTexts) (writers : KnownWriters) (status : �
   words_done words true is done = absurd (cc)
   words_done words false is done = done
 
-  -- words that give rows, and words that give none
+  -- the outcome if clap accepts the arguments, and if it does not
   given_done : (words : List (List ℕ)) (rows : List Row) → given_by command_line words ≡ Some rows
       → EndsOf text_at growing_at writers rows status old new → EndsOn text_at growing_at writers words status old new
   given_done words rows is done =
       inl (subst (λ r. EndsWhere text_at growing_at writers r status old new) (sym is) done)
 
-  -- of words that don't ask for it and give rows, by what these ask
+  -- the outcome for accepted arguments other than `--version`, by the command that they select
   module _ (words : List (List ℕ)) (asks : Bool) (other : asks ≡ false) (rows : List Row)
       (gave : given_by command_line words ≡ Some rows) (given : List (List ℕ)) (are : given ≡ words_said rows) where
     pub ends_for : (asked : Option Command) → asked ≡ what_of rows given
@@ -52,10 +53,10 @@ module _ (text_at growing_at : KnownTexts) (writers : KnownWriters) (status : �
         words_done words asks other (given_done words rows gave
         (subst (λ a. EndsFor text_at growing_at writers rows a status old new) (is ∙ ap (what_of rows) are) ends))
 
-    -- where something is asked
+    -- the arguments select a command
     module _ (what : Command) (local : Bool) (asked : Some what ≡ what_of rows given) (is : local ≡ local_said rows)
       where
-        pub so_done : (middle : Heard) (paths : PathTexts) → paths ≡ paths_of what rows given
+        pub so_done : (middle : KnownOutput) (paths : PathTexts) → paths ≡ paths_of what rows given
             → middle ≡ timed local old → Does text_at growing_at writers paths what status middle new
             → EndsAs asks text_at growing_at writers words status old new
         so_done middle paths named same done =
@@ -66,19 +67,19 @@ module _ (text_at growing_at : KnownTexts) (writers : KnownWriters) (status : �
             same (subst (λ p. Does text_at growing_at writers p what status middle new)
             (named ∙ ap (paths_of what rows) are) done))))
 
-        pub zone_unread : local ≡ true → status ≡ DEVICE_FAULT → SaysNothing old new
+        pub zone_unread : local ≡ true → status ≡ DEVICE_FAULT → WritesNothing old new
             → EndsAs asks text_at growing_at writers words status old new
         zone_unread local_asked failed nothing =
             ends_for (Some what) asked (inr (sym is ∙ local_asked, failed, nothing))
 
--- the exit statuses of words that are refused
-pub refuses : (status : ℕ) (before after : ReportList) (now : Heard) → ReportsRefusal status before after
+-- the exit statuses for rejected arguments
+pub refuses : (status : ℕ) (before after : ReportList) (now : KnownOutput) → ReportsRefusal status before after
     → Refuses status now now
 refuses status before after now (inl told) = (inl told.0, says_nothing now)
 refuses status before after now (inr told) = (inr told.0, says_nothing now)
 
 pub fault_done : (text_at growing_at : KnownTexts) (writers : KnownWriters) (status : ℕ)
-    (before after : ReportList) (now : Heard) (words : List (List ℕ)) (asks : Bool) → asks ≡ false
+    (before after : ReportList) (now : KnownOutput) (words : List (List ℕ)) (asks : Bool) → asks ≡ false
     → (fault : WordFault) → (IsSome (reason_of fault) → given_by command_line words ≡ None)
     → ReportsRefusal status before after → (fault ≡ Memory → status ≡ DEVICE_FAULT)
     → EndsAs asks text_at growing_at writers words status now now
@@ -89,7 +90,7 @@ fault_done text_at growing_at writers status before after now words asks other (
 fault_done text_at growing_at writers status before after now words asks other Memory none refused memory =
     words_done text_at growing_at writers status now now words asks other (inr (memory refl, says_nothing now))
 
--- what words ask, by the rows that they give
+-- arguments that select a command do not select none
 pub not_none : (X : Type 0) (words : List (List ℕ)) (rows : List Row) (given : List (List ℕ)) (what : Command)
     → given ≡ words_said rows → given_by command_line words ≡ Some rows → Some what ≡ what_of rows given
     → asked_of words ≡ None → X
@@ -97,7 +98,7 @@ not_none X words rows given what are gave asks none =
     absurd (none-some _ (sym none ∙ ap (option_and_then (λ r. what_of r (words_said r))) gave
     ∙ sym (ap (what_of rows) are) ∙ sym asks))
 
--- the words that are given, and none where none are
+-- the list of words that clap returns, or an empty one, is that of the specification
 words_or_none : (given : Option (Bor (List (Bor (List ℕ))))) (none : Bor (List (Bor (List ℕ))))
     (all : Option (List (List ℕ))) → option_map (λ ws. map (λ word. word.now) ws.now) given ≡ all → none.now ≡ []
     → map (λ word. word.now) (unwrap_or given none).now ≡ unwrap_or all []

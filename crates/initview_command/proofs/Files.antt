@@ -1,4 +1,4 @@
--- The files of paths, one more after the others.
+-- Lemmas on reading the files at a list of paths.
 use Rattle.initview_command.proofs.Words.{◌≡◌, refl, ℕ, ◌+◌, ◌<◌, ◌≤◌, List, [], ◌∷◌, ◌++◌, Bor, drop, get_or, length}
 use Rattle.initview_command.proofs.Words.{map, append_assoc, arith, drop_more, IsTextAt, KnownTexts, NamedText}
 use Rattle.initview_command.proofs.Words.{AreFilesAt, old_of}
@@ -7,7 +7,7 @@ use Rattle.std.specs.Prelude.{swap}
 abbrev pub file_of : List ℕ → List ℕ → NamedText
 file_of path text = record { name = path; bytes = text }
 
--- a path's file before those of others
+-- the file at a path, followed by those at the other paths
 pub one_before : (text_at : KnownTexts) (path text : List ℕ) (paths : List (List ℕ)) (others : List NamedText)
     → IsTextAt text_at path text → AreFilesAt text_at paths others
     → AreFilesAt text_at (path ∷ paths) (file_of path text ∷ others)
@@ -22,7 +22,7 @@ one_more text_at path text paths all old new at is so more files =
     rw (is, append_assoc old (file_of path text ∷ []) more)
     (so (file_of path text ∷ more) (one_before text_at path text paths more at files))
 
--- the same of the paths behind one of many
+-- the same for the path with an index
 pub next_file : (text_at : KnownTexts) (paths : List (Bor (List ℕ))) (i : ℕ) (d : Bor (List ℕ)) (text : List ℕ)
     (all : List (List ℕ)) (old new : List NamedText) → i < length paths → IsTextAt text_at (get_or paths i d).now text
     → new ≡ old ++ file_of (get_or paths i d).now text ∷ []
@@ -34,7 +34,7 @@ next_file text_at paths i d text all old new inside at is so =
     one_more text_at (get_or paths i d).now text (map (λ path. path.now) (drop (i + 1) paths)) all old new at is
     (λ those read. so those (rw (drop_more paths i d inside) read))
 
--- the old inittab of a diff
+-- the old inittab of a diff, with fewer than two files
 pub old_short : (parts : List NamedText) → length parts < 2 → parts ≡ old_of parts
 old_short [] few = refl
 old_short (part ∷ []) few = refl

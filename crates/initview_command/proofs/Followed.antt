@@ -1,10 +1,11 @@
--- What is written of a trace that is followed.
+-- Lemmas on what is written for a followed trace.
 use Rattle.initview_command.proofs.Words.{◌≡◌, refl, sym, ap, ◌∙◌, subst, ℕ, ◌+◌, ◌-◌, ◌^◌, ◌<◌, ◌≤◌, Bool, true, false}
 use Rattle.initview_command.proofs.Words.{is_some, List, [], ◌∷◌, ◌++◌, length, length-append, append_assoc, arith}
 use Rattle.initview_command.proofs.Words.{Option, Some, None, option_map, Result, Ok, Err, IfOk, OnErr, Consumes}
-use Rattle.initview_command.proofs.Words.{IsAtEnd, Consumes-trans, PIECE_LIMIT, ViewEnd, Line, Heard, Says, SaysFront}
+use Rattle.initview_command.proofs.Words.{IsAtEnd, Consumes-trans, PIECE_LIMIT, ViewEnd, Line, KnownOutput, WritesLines}
+use Rattle.initview_command.proofs.Words.{WritesLinePrefix}
 use Rattle.initview_command.proofs.Words.{front_none, front_still, front_then, front_whole, says_nothing, says_then}
-use Rattle.initview_command.proofs.Words.{AreLinesOf, SaysNothing}
+use Rattle.initview_command.proofs.Words.{AreLinesOf, WritesNothing}
 use Rattle.initview_command.proofs.Words.{BeginsAllOf, FollowsAll, FollowsPart, HasLines, HasWritten, IsAllOf, IsFor}
 use Rattle.initview_command.proofs.Words.{IsHidden, Start, WritesAll, WritesPart, begins_run, is_judged, judges}
 use Rattle.initview_command.proofs.Words.{HasFollowed, HasKept, MayKeep, there_limit}
@@ -13,7 +14,7 @@ use Rattle.trace_verdict.specs.Fronts.{line_left}
 use Rattle.trace_verdict.specs.Readers.{capped}
 use Rattle.trace_view.specs.Views.{left_of}
 use Rattle.trace_view.proofs.SeenTexts.{stops_more}
-use Rattle.initview_lines.specs.Following.{IsSaidOf}
+use Rattle.initview_lines.specs.Following.{AreFollowedLines}
 use Rattle.initview_lines.specs.Parts.{IsToldOf}
 use Rattle.initview_lines.proofs.Parts.{told_of}
 use Rattle.initview_lines.proofs.SaidOf.{said_of, said_more}
@@ -21,7 +22,8 @@ use Rattle.initview_command.specs.declared.following.Reader.{Reader}
 use Rattle.initview_command.specs.declared.following.Reader.TheVariants.{Run, Part}
 use Rattle.initview_command.specs.Following.{start_of}
 
--- the lines of what a reader has taken, and of a text that goes on behind the line at which it stopped
+-- the lines of a reader are those of its text; they stay so if the text continues after the line at which the reader
+-- stopped
 pub lines_of : (reader : Reader) (past_lines : List Line) (text : List ℕ) → length text < 2 ^ 64
     → HasLines reader past_lines text
     → (stop : Option ViewEnd) × (line : Option ℕ) × AreLinesOf (judges reader) text stop line past_lines
@@ -41,7 +43,7 @@ lines_more : (judged : Bool) (text more : List ℕ) (stop : Option ViewEnd) (lin
 lines_more true text more stop line past_lines is so = said_more text more stop line past_lines is so
 lines_more false text more stop line past_lines is so = told_more text more stop line past_lines is so
 
--- the reader for a text is that of what comes
+-- a reader for a text is a reader for a longer one
 pub for_more : (last : Option ℕ) (old new : Reader) (text piece : List ℕ) → judges new ≡ judges old
     → IsFor last old text → IsFor last new (text ++ piece)
 for_more last old new text piece same is =
@@ -53,7 +55,7 @@ as_asked : (last : Option ℕ) (reader : Reader) (text : List ℕ) (stop : Optio
 as_asked last reader text stop line past_lines is so =
     subst (λ j. AreLinesOf j text stop line past_lines) (sym (is []) ∙ ap (is_judged last) (append-nil text)) so
 
--- a reader takes one piece more, and its lines stand behind those before
+-- a reader takes one more piece, and its lines are appended to the earlier ones
 abbrev pub Takes : Reader → Reader → List ℕ → List Line → List Line → Type 0
 Takes old new piece before lines =
     (past_lines : List Line) (text : List ℕ) → length (text ++ piece) < 2 ^ 64
@@ -67,7 +69,7 @@ lines_then old new text piece past_lines none lines is small takes has =
     takes past_lines text small
     (subst (λ s. HasLines old s text) (sym (append-nil past_lines) ∙ ap (λ n. past_lines ++ n) (sym is)) has)
 
-module _ (start : Start) (old new : Reader) (text piece : List ℕ) (none lines : List Line) (before after : Heard)
+module _ (start : Start) (old new : Reader) (text piece : List ℕ) (none lines : List Line) (before after : KnownOutput)
     (is : none ≡ []) (small : length (text ++ piece) < 2 ^ 64) (same : judges new ≡ judges old)
     (takes : Takes old new piece none lines) where
   behind_hidden : (shown : List Line) → HasLines old (start.hidden ++ shown) text
@@ -76,8 +78,8 @@ module _ (start : Start) (old new : Reader) (text piece : List ℕ) (none lines 
       subst (λ s. HasLines new s (text ++ piece)) (append_assoc start.hidden shown lines)
       (lines_then old new text piece (start.hidden ++ shown) none lines is small takes has)
 
-  -- its lines were written
-  pub piece_written : Says before after lines → HasWritten start old text before
+  -- the lines of the piece were written
+  pub piece_written : WritesLines before after lines → HasWritten start old text before
       → HasWritten start new (text ++ piece) after
   piece_written appends (shown, for, has, said) = (
     shown ++ lines,
@@ -86,8 +88,8 @@ module _ (start : Start) (old new : Reader) (text piece : List ℕ) (none lines 
     says_then start.heard before after shown lines said appends,
   )
 
-  -- a part of them was written
-  pub piece_part : SaysFront before after lines → HasWritten start old text before
+  -- some of the lines of the piece were written
+  pub piece_part : WritesLinePrefix before after lines → HasWritten start old text before
       → WritesPart start (Some (text ++ piece)) after
   piece_part part (shown, for, has, said) =
       let so = lines_of new (start.hidden ++ (shown ++ lines)) (text ++ piece) small (behind_hidden shown has) in (
@@ -101,8 +103,8 @@ module _ (start : Start) (old new : Reader) (text piece : List ℕ) (none lines 
         front_then start.heard before after shown lines said part,
       )
 
--- the lines of all that was taken were written
-pub written_part : (start : Start) (input : Option (List ℕ)) (reader : Reader) (text : List ℕ) (now : Heard)
+-- the lines of everything that was taken were written
+pub written_part : (start : Start) (input : Option (List ℕ)) (reader : Reader) (text : List ℕ) (now : KnownOutput)
     → length text < 2 ^ 64 → BeginsAllOf input text → HasWritten start reader text now → WritesPart start input now
 written_part start input reader text now small begins has =
     let so = lines_of reader (start.hidden ++ has.0) text small has.2 in (
@@ -115,13 +117,13 @@ written_part start input reader text now small begins has =
       front_whole start.heard now has.0 has.3,
     )
 
-pub piece_unseen : (start : Start) (reader : Reader) (text piece : List ℕ) (now : Heard)
+pub piece_unseen : (start : Start) (reader : Reader) (text piece : List ℕ) (now : KnownOutput)
     → length (text ++ piece) < 2 ^ 64 → HasWritten start reader text now → WritesPart start (Some (text ++ piece)) now
 piece_unseen start reader text piece now small has =
     written_part start (Some (text ++ piece)) reader text now (omega (arith, small, length-append text piece))
     (piece, refl) has
 
--- what a reader gave begins what it had
+-- the text that was read is a prefix of the input
 pub begins : (input now : Option (List ℕ)) (text : List ℕ) → Consumes input now text → BeginsAllOf input text
 begins None now text consumed = tt
 begins (Some known) None text consumed = absurd consumed
@@ -134,13 +136,13 @@ begins_more (Some known) None text front consumed begins = absurd consumed
 begins_more (Some known) (Some rest) text front consumed begins =
     (begins.0 ++ rest, sym (append_assoc front begins.0 rest) ∙ ap (λ t. t ++ rest) begins.1 ∙ sym consumed)
 
--- a part of the lines of what it gave is one of the lines of what it had
-pub part_of : (start : Start) (input now : Option (List ℕ)) (text : List ℕ) (new : Heard) → Consumes input now text
-    → WritesPart start (Some text) new → WritesPart start input new
+-- some lines of the text that was read are some lines of the input
+pub part_of : (start : Start) (input now : Option (List ℕ)) (text : List ℕ) (new : KnownOutput)
+    → Consumes input now text → WritesPart start (Some text) new → WritesPart start input new
 part_of start input now text new consumed part =
     (part.0, part.1, part.2, part.3, begins_more input now text part.0 consumed part.4, part.5, part.6)
 
--- at its end, or where the reader goes no further
+-- everything was taken, at the end of the input or where the reader goes no further
 all_taken : (input now after : Option (List ℕ)) (text : List ℕ) → Consumes input now text → Consumes now after []
     → IsAtEnd after → IsAllOf input text
 all_taken None now after text consumed none ended = tt
@@ -156,7 +158,7 @@ rest_of (Some known) None text consumed = absurd consumed
 rest_of (Some known) (Some rest) text consumed = (rest, sym consumed)
 
 module _ (start : Start) (input now : Option (List ℕ)) (stop : Option ViewEnd) (line : Option ℕ) (reader : Reader)
-    (text : List ℕ) (new : Heard) (consumed : Consumes input now text) (small : length text < 2 ^ 64)
+    (text : List ℕ) (new : KnownOutput) (consumed : Consumes input now text) (small : length text < 2 ^ 64)
     (lines : (past_lines : List Line) (text : List ℕ) → length text < 2 ^ 64 → HasLines reader past_lines text
     → AreLinesOf (judges reader) text stop line past_lines) (has : HasWritten start reader text new) where
   are : AreLinesOf (judges reader) text stop line (start.hidden ++ has.0)
@@ -183,7 +185,7 @@ module _ (start : Start) (input now : Option (List ℕ)) (stop : Option ViewEnd)
         has.3,
       )
 
--- by whether a call answers
+-- a property of the result is replaced by another one that it implies
 pub if_ok : {A E : Type 0} (P Q : A → Type 0) (result : Result A E) → ((answer : A) → P answer → Q answer)
     → IfOk result P → IfOk result Q
 if_ok P Q (Ok answer) so is = so answer is
@@ -194,7 +196,7 @@ if_err P Q (Ok answer) so is = is
 if_err P Q (Err error) so is = so is
 
 -- nothing was taken
-nothing : IsSaidOf [] None None []
+nothing : AreFollowedLines [] None None []
 nothing = ([], (refl, record { over = []; are = refl; whole = refl; unfinished = refl; at = refl }), refl, refl)
 
 none_of : (input : Option (List ℕ)) → BeginsAllOf input []
@@ -213,23 +215,23 @@ none_hidden : (last : Option ℕ) (input : Option (List ℕ)) → IsHidden last 
 none_hidden None input = refl
 none_hidden (Some count) input = ([], [], None, None, none_of input, nothing, omega (arith))
 
-pub none_part : (last : Option ℕ) (input : Option (List ℕ)) (now : Heard) → FollowsPart last input now now
+pub none_part : (last : Option ℕ) (input : Option (List ℕ)) (now : KnownOutput) → FollowsPart last input now now
 none_part last input now =
     ([], none_hidden last input, ([], [], None, None, none_of input, none_judged last, front_none now []))
 
-pub none_all : (last : Option ℕ) (input : Option (List ℕ)) (now : Heard) → IsAllOf input []
+pub none_all : (last : Option ℕ) (input : Option (List ℕ)) (now : KnownOutput) → IsAllOf input []
     → FollowsAll last input None None now now
 none_all last input now all = ([], none_hidden last input, ([], [], all, none_judged last, says_nothing now))
 
--- nothing is said behind a part
-pub part_still : (last : Option ℕ) (input : Option (List ℕ)) (old mid new : Heard) → FollowsPart last input old mid
-    → SaysNothing mid new → FollowsPart last input old new
+-- nothing is written after some of the lines
+pub part_still : (last : Option ℕ) (input : Option (List ℕ)) (old mid new : KnownOutput)
+    → FollowsPart last input old mid → WritesNothing mid new → FollowsPart last input old new
 part_still last input old mid new (hidden, is, (text, shown, stop, line, begins, are, front)) nothing =
     (hidden, is, (text, shown, stop, line, begins, are, front_still old mid new shown front nothing))
 
--- all lines are written from the first on
-pub from_first : (input : Option (List ℕ)) (reader next : Reader) (now : Heard) → next ≡ reader → judges reader ≡ true
-    → HasLines reader [] [] → (P : Start → Option (List ℕ) → Type 0)
+-- all lines are written, from the first one on
+pub from_first : (input : Option (List ℕ)) (reader next : Reader) (now : KnownOutput) → next ≡ reader
+    → judges reader ≡ true → HasLines reader [] [] → (P : Start → Option (List ℕ) → Type 0)
     → ((start : Start) (known : Option (List ℕ)) → HasFollowed start known next input now → P start known)
     → (hidden : List Line) × IsHidden None input hidden × P (start_of None hidden now) input
 from_first input reader next now same is has P so = (
@@ -243,7 +245,7 @@ from_first input reader next now same is has P so = (
   )),
 )
 
--- lines that are kept: all but the last are dropped
+-- of the kept lines, all but the last ones are dropped
 pub kept_last : (limit count : ℕ) (input remaining : Option (List ℕ)) (reader : Reader) (lines front last : List Line)
     → lines ≡ front ++ last → length front ≡ length lines - count → MayKeep limit count input reader lines remaining
     → HasKept limit count input reader last remaining
@@ -266,7 +268,7 @@ kept_last limit count input remaining reader lines front last are few (text, hid
   ),
 )
 
--- those of a piece more stand behind them
+-- the lines of one more piece are appended to the kept ones
 pub kept_more : (limit count : ℕ) (input now after : Option (List ℕ)) (old new : Reader) (piece : List ℕ)
     (before lines all : List Line) → limit + PIECE_LIMIT < 2 ^ 64 → all ≡ before ++ lines → length piece ≤ PIECE_LIMIT
     → Consumes now after piece → judges new ≡ judges old → ((past_lines : List Line) (text : List ℕ)
@@ -312,7 +314,7 @@ kept_none limit count input now after reader lines none (text, hidden, consumed,
   kept,
 )
 
--- the first piece has its reader
+-- the reader of the first piece
 pub first_kept : (count : ℕ) (input now : Option (List ℕ)) (old new : Reader) (piece : List ℕ) (none lines : List Line)
     → none ≡ [] → 0 < length piece → length piece ≤ PIECE_LIMIT → Consumes input now piece
     → judges old ≡ begins_run piece → judges new ≡ judges old → HasLines old [] [] → Takes old new piece none lines
@@ -329,7 +331,7 @@ first_kept count input now old new (byte ∷ piece) none lines is some short con
   omega (arith),
 )
 
-module _ (count : ℕ) (input now : Option (List ℕ)) (reader : Reader) (lines : List Line) (old new : Heard)
+module _ (count : ℕ) (input now : Option (List ℕ)) (reader : Reader) (lines : List Line) (old new : KnownOutput)
     (kept : HasKept there_limit count input reader lines now) where
   kept_lines : (stop : Option ViewEnd) × (line : Option ℕ) × BeginsAllOf input kept.0
       × AreLinesOf (begins_run kept.0) kept.0 stop line (kept.1 ++ lines)
@@ -344,13 +346,13 @@ module _ (count : ℕ) (input now : Option (List ℕ)) (reader : Reader) (lines 
   kept_hidden : IsHidden (Some count) input kept.1
   kept_hidden = let (stop, line, begun, are) = kept_lines in (kept.0, lines, stop, line, begun, are, kept.6)
 
-  pub kept_part : SaysFront old new lines → FollowsPart (Some count) input old new
+  pub kept_part : WritesLinePrefix old new lines → FollowsPart (Some count) input old new
   kept_part front =
       let (stop, line, begun, are) = kept_lines in
       (kept.1, kept_hidden, (kept.0, lines, stop, line, begun, are, front))
 
-  -- the kept lines are said, and those that come behind them
-  pub kept_first : (next : Reader) → next ≡ reader → Says old new lines → (P : Start → Option (List ℕ) → Type 0)
+  -- the kept lines are written, then the lines after them
+  pub kept_first : (next : Reader) → next ≡ reader → WritesLines old new lines → (P : Start → Option (List ℕ) → Type 0)
       → ((start : Start) (known : Option (List ℕ)) → HasFollowed start known next now new → P start known)
       → (hidden : List Line) × IsHidden (Some count) input hidden × P (start_of (Some count) hidden old) input
   kept_first next same says P so = (

@@ -1,4 +1,4 @@
--- The words of the proofs of this crate.
+-- Names that all proofs of this crate import.
 pub use Rattle.std.proofs.Common.{◌≡◌, ◌∙◌, [], ◌∷◌, ap, inl, inr, refl, sym, true, false, ℕ, Bool, codes, List, Option}
 pub use Rattle.std.proofs.Common.{Some, None, subst, unwrap_or, IsSome, option_and_then, ◌+◌, ◌<◌, ◌≤◌, ◌++◌, Bor, drop}
 pub use Rattle.std.proofs.Common.{get_or, length, map, append_assoc, arith, ◌-◌, ◌^◌, is_some, length-append}
@@ -8,7 +8,7 @@ pub use Rattle.clap.specs.Words.{Row, all_of, is_simple_and_free, found_of, rows
 pub use Rattle.program_io.specs.declared.statuses.TheConstants.{DONE, DEVICE_FAULT, REFUSED}
 pub use Rattle.program_io.specs.Known.{KnownTexts, IsTextAt}
 pub use Rattle.command_words.specs.Faults.{reason_of, ReportsUsage}
-pub use Rattle.initview_lines.specs.Saying.{Heard, Says, SaysFront, SaysNothing}
+pub use Rattle.initview_lines.specs.Outputs.{KnownOutput, WritesLines, WritesLinePrefix, WritesNothing}
 pub use Rattle.initview_lines.proofs.SayingLemmas.{says_nothing, front_none, front_still, front_then, front_whole}
 pub use Rattle.initview_lines.proofs.SayingLemmas.{says_then}
 pub use Rattle.initview_command.specs.Asking.{PathTexts, asked_of, command_line, local_said, path_texts, paths_of}
@@ -20,7 +20,7 @@ pub use Rattle.initview_command.specs.Endings.{Does, DoesTimed, EndsAs, EndsFor,
 pub use Rattle.initview_command.specs.Endings.{timed}
 pub use Rattle.std.proofs.lemmas.List.{drop_more, length-take, drop_all}
 pub use Rattle.init_words.specs.Parts.{NamedText}
-pub use Rattle.initview_command.specs.Tables.{AreFilesAt, AreFiles, old_of, FailsBy, level_asked, plan_by}
+pub use Rattle.initview_command.specs.Tables.{AreFilesAt, AreFiles, old_of, FailsWith, level_asked, plan_by}
 pub use Rattle.initview_command.specs.Tables.{Answers, AnswersOf, IsRefused}
 pub use Rattle.initview_command.specs.WithFiles.{ShowsWith, ShowsWithFiles}
 pub use Rattle.std.specs.Io.KnownBytes.{Consumes, IsAtEnd}
@@ -33,7 +33,7 @@ pub use Rattle.initview_command.specs.Following.{IsAllOf, IsFor, IsHidden, Start
 pub use Rattle.initview_command.specs.Following.{is_judged, judges, Follows}
 pub use Rattle.initview_command.specs.Taking.{HasFollowed, HasKept, MayKeep, there_limit}
 pub use Rattle.trace_events.specs.Event.{Event}
-pub use Rattle.trace_view.specs.Viewing.{SeesNext, ViewState, Viewed}
+pub use Rattle.trace_view.specs.Viewing.{ViewAfterHappening, ViewState, Viewed}
 pub use Rattle.initview_command.specs.declared.growing.Writer.{Writer}
 pub use Rattle.initview_timeline.specs.Marks.{SeenMarks, marks_of}
 pub use Rattle.std.proofs.lemmas.Grind.{common_steps}

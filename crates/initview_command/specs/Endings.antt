@@ -1,7 +1,7 @@
--- How initview ends on its words, and what it wrote.
+-- The exit status of initview for its arguments, and the output it wrote. `KnownOutput` is the output so far.
 use Rattle.std.specs.Prelude.{◌≡◌, ◌⊎◌, ℕ, Bool, true, false, if◌then◌else◌, List, [], ◌∷◌, codes, Option, Some, None}
 use Rattle.initview_command.specs.Words.{DONE, REFUSED, DEVICE_FAULT, KnownTexts, asks_version, given_by, version_line}
-use Rattle.initview_command.specs.Words.{Heard, SaysNothing, with_local_times}
+use Rattle.initview_command.specs.Words.{KnownOutput, WritesNothing, with_local_times}
 use Rattle.clap.specs.Words.{Row}
 use Rattle.initview_lines.specs.declared.lines.Line.TheVariants as line
 use Rattle.initview_command.specs.declared.asking.Command.{Command}
@@ -18,8 +18,9 @@ use Rattle.initview_command.specs.Tables.{Answers, AreNone, NoneOf}
 use Rattle.initview_command.specs.WithFiles.{ShowsWithFiles}
 use Rattle.initview_command.specs.Writers.{KnownWriters}
 
--- what is asked of the trace at a path, or of files, is done
-abbrev pub Does : KnownTexts → KnownTexts → KnownWriters → PathTexts → Command → ℕ → Heard → Heard → Type 0
+-- the command was carried out on the trace at the path, or on the files, as far as its output could be written: it
+-- returned this status, and the output went from `old` to `new`
+abbrev pub Does : KnownTexts → KnownTexts → KnownWriters → PathTexts → Command → ℕ → KnownOutput → KnownOutput → Type 0
 Does text_at growing_at writers paths (Show question) status old new =
     WritesOne (Shows text_at writers paths.path (answer_by question)) status old new
 Does text_at growing_at writers paths (Draw form) status old new =
@@ -35,53 +36,57 @@ Does text_at growing_at writers paths (Timing level) status old new =
 Does text_at growing_at writers paths (Tables question) status old new =
     WritesOne (Answers text_at paths question) status old new
 
--- words are refused, or memory ran out, and nothing was written
-abbrev pub Refuses : ℕ → Heard → Heard → Type 0
-Refuses status old new = ((status ≡ REFUSED) ⊎ (status ≡ DEVICE_FAULT)) × SaysNothing old new
+-- the arguments were rejected, or memory ran out, and nothing was written
+abbrev pub Refuses : ℕ → KnownOutput → KnownOutput → Type 0
+Refuses status old new = ((status ≡ REFUSED) ⊎ (status ≡ DEVICE_FAULT)) × WritesNothing old new
 
--- times are local, where that is asked for
-abbrev pub timed : Bool → Heard → Heard
+-- the output with local times, if they are requested
+abbrev pub timed : Bool → KnownOutput → KnownOutput
 timed local now = if local then with_local_times now else now
 
--- what is asked is done with such times; or the zone was not read, and nothing was written
-abbrev pub DoesTimed : Bool → KnownTexts → KnownTexts → KnownWriters → PathTexts → Command → ℕ → Heard → Heard
-    → Type 0
+-- the command was carried out with such times; or the time zone could not be read, and nothing was written
+abbrev pub DoesTimed : Bool → KnownTexts → KnownTexts → KnownWriters → PathTexts → Command → ℕ → KnownOutput
+    → KnownOutput → Type 0
 DoesTimed local text_at growing_at writers paths what status old new =
     Does text_at growing_at writers paths what status (timed local old) new
-    ⊎ ((local ≡ true) × (status ≡ DEVICE_FAULT) × SaysNothing old new)
+    ⊎ ((local ≡ true) × (status ≡ DEVICE_FAULT) × WritesNothing old new)
 
--- so of what a command line gives, by its options and words; where they ask nothing it is refused
-abbrev pub EndsFor : KnownTexts → KnownTexts → KnownWriters → List Row → Option Command → ℕ → Heard → Heard → Type 0
+-- the outcome for parsed arguments: the command was carried out, or they were rejected because they select no command
+abbrev pub EndsFor : KnownTexts → KnownTexts → KnownWriters → List Row → Option Command → ℕ → KnownOutput → KnownOutput
+    → Type 0
 EndsFor text_at growing_at writers rows (Some what) status old new =
     DoesTimed (local_said rows) text_at growing_at writers (paths_of what rows (words_said rows)) what status old new
 EndsFor text_at growing_at writers rows None status old new = Refuses status old new
 
-abbrev pub EndsOf : KnownTexts → KnownTexts → KnownWriters → List Row → ℕ → Heard → Heard
+-- the outcome for the rows that the arguments give
+abbrev pub EndsOf : KnownTexts → KnownTexts → KnownWriters → List Row → ℕ → KnownOutput → KnownOutput
     → Type 0
 EndsOf text_at growing_at writers rows status old new =
     EndsFor text_at growing_at writers rows (what_of rows (words_said rows)) status old new
 
--- so of words that don't ask for the version; words that are no command line are refused
-abbrev pub EndsWhere : KnownTexts → KnownTexts → KnownWriters → Option (List Row) → ℕ → Heard
-    → Heard → Type 0
+-- the outcome for arguments other than `--version`: they were rejected if clap found a fault in them
+abbrev pub EndsWhere : KnownTexts → KnownTexts → KnownWriters → Option (List Row) → ℕ → KnownOutput
+    → KnownOutput → Type 0
 EndsWhere text_at growing_at writers (Some rows) status old new = EndsOf text_at growing_at writers rows status old new
 EndsWhere text_at growing_at writers None status old new = Refuses status old new
 
--- or memory ran out, and nothing was written
-abbrev pub EndsOn : KnownTexts → KnownTexts → KnownWriters → List (List ℕ) → ℕ → Heard → Heard
+-- the same outcome; or memory ran out, and nothing was written
+abbrev pub EndsOn : KnownTexts → KnownTexts → KnownWriters → List (List ℕ) → ℕ → KnownOutput → KnownOutput
     → Type 0
 EndsOn text_at growing_at writers words status old new =
     EndsWhere text_at growing_at writers (given_by command_line words) status old new
-    ⊎ ((status ≡ DEVICE_FAULT) × SaysNothing old new)
+    ⊎ ((status ≡ DEVICE_FAULT) × WritesNothing old new)
 
-abbrev pub EndsAs : Bool → KnownTexts → KnownTexts → KnownWriters → List (List ℕ) → ℕ → Heard
-    → Heard → Type 0
+-- the outcome if the version is requested, which is that it was written; and if it is not
+abbrev pub EndsAs : Bool → KnownTexts → KnownTexts → KnownWriters → List (List ℕ) → ℕ → KnownOutput
+    → KnownOutput → Type 0
 EndsAs true text_at growing_at writers words status old new =
     Writes (line.Text (version_line (codes "initview")) ∷ []) DONE status old new
 EndsAs false text_at growing_at writers words status old new =
     EndsOn text_at growing_at writers words status old new
 
-abbrev pub EndsBy : KnownTexts → KnownTexts → KnownWriters → List (List ℕ) → ℕ → Heard → Heard
+-- the outcome for the arguments of the program
+abbrev pub ArgumentsEnd : KnownTexts → KnownTexts → KnownWriters → List (List ℕ) → ℕ → KnownOutput → KnownOutput
     → Type 0
-EndsBy text_at growing_at writers words status old new =
+ArgumentsEnd text_at growing_at writers words status old new =
     EndsAs (asks_version words) text_at growing_at writers words status old new

@@ -1,4 +1,4 @@
--- What is written of the reason that keeps an entry from its start.
+-- The output of the `why` command.
 use Rattle.std.specs.Prelude.{ℕ, List, [], ◌∷◌, ◌++◌, Option}
 use Rattle.initview_command.specs.Words.{NamedText, Event, ViewEnd}
 use Rattle.initview_lines.specs.declared.lines.Line.{Line}
@@ -9,19 +9,20 @@ use Rattle.initview_command.specs.declared.growing.Writer.{Writer}
 use Rattle.initview_command.specs.Showing.{stop_status}
 use Rattle.initview_command.specs.Writers.{present}
 
--- of the id's lines in the inittab, where one is named
+-- the lines about the id's entries in the inittab, if one is given
 abbrev pub files_lines : List ℕ → List NamedText → List Line
 files_lines id [] = []
 files_lines id (file ∷ files) = id_lines id (file ∷ files)
 
--- what is written of a trace that stands so by now: the reason, with the lines that were at fault, and what is told
--- of the inittab
+-- the answer: the reason at present, with the lines of the trace that cause it, then the lines about the inittab
 abbrev pub explanation : List ℕ → Chain → List Line → List Event → List Line
 explanation path chain told now = why_in path chain now ++ told
 
+-- the answer and the exit status, for who writes the trace and why it is shown no further
 abbrev pub explained : List ℕ → List ℕ → List Line → Writer → Option ViewEnd → List Event → List Line × ℕ
 explained path id told writer stop past =
     (explanation path (chain_of id past) told (present writer stop past), stop_status stop)
 
+-- the answer to the query, with the id's lines in the files
 abbrev pub explained_with : List ℕ → List ℕ → List NamedText → Writer → Option ViewEnd → List Event → List Line × ℕ
 explained_with path id files = explained path id (files_lines id files)

@@ -1,38 +1,41 @@
--- What is written of a trace that is followed, and the exit status.
+-- The output of the `follow` command, and its exit status.
 use Rattle.std.specs.Prelude.{◌≡◌, ◌⊎◌, ℕ, ◌-◌, ◌==◌, Bool, true, false, List, [], ◌∷◌, ◌++◌, length, Option, Some}
 use Rattle.std.specs.Prelude.{None, IfSome}
-use Rattle.initview_command.specs.Words.{ViewEnd, Heard, Says, SaysFront}
+use Rattle.initview_command.specs.Words.{ViewEnd, KnownOutput, WritesLines, WritesLinePrefix}
 use Rattle.initview_lines.specs.declared.lines.Line.{Line}
-use Rattle.initview_lines.specs.Following.{HasSaid, IsSaidOf}
+use Rattle.initview_lines.specs.Following.{HasFollowedText, AreFollowedLines}
 use Rattle.initview_lines.specs.Parts.{HasTold, IsToldOf}
 use Rattle.initview_command.specs.declared.following.Reader.{Reader}
 use Rattle.initview_command.specs.declared.following.Reader.TheVariants.{Run, Part}
-use Rattle.initview_command.specs.Showing.{EndsUnsaid, stop_status}
+use Rattle.initview_command.specs.Showing.{EndsUnwritten, stop_status}
 
--- the text is all of the input, where that is known, or the beginning of it
+-- the text is all of the input, if that is known
 abbrev pub IsAllOf : Option (List ℕ) → List ℕ → Type 0
 IsAllOf input text = IfSome input (λ known. text ≡ known)
 
+-- the text is a prefix of the input, if that is known
 abbrev pub BeginsAllOf : Option (List ℕ) → List ℕ → Type 0
 BeginsAllOf input text = IfSome input (λ known. (rest : List ℕ) × (text ++ rest ≡ known))
 
--- a run begins with the line of an inittab, and no other line begins with its u; a text without one is judged all the
--- same, but where the last lines alone are asked for
+-- the text begins a run: with the `use` line of an inittab, because no other line of a trace begins with u; or it is
+-- empty
 abbrev pub begins_run : List ℕ → Bool
 begins_run [] = true
 begins_run (byte ∷ text) = byte == 117
 
+-- the text is judged, which it is unless only the last lines are requested and it does not begin a run
 abbrev pub is_judged : Option ℕ → List ℕ → Bool
 is_judged None text = true
 is_judged (Some count) text = begins_run text
 
--- the lines of a text, by why it is shown no further, and by the line at which a happening isn't finished: of one that
--- isn't judged, what each happening says by itself
+-- the lines for a text, given why it is shown no further and the line at which an incomplete happening begins; if the
+-- text is not judged, each happening is worded by itself
 abbrev pub AreLinesOf : Bool → List ℕ → Option ViewEnd → Option ℕ → List Line → Type 0
-AreLinesOf true text stop line past_lines = IsSaidOf text stop line past_lines
+AreLinesOf true text stop line past_lines = AreFollowedLines text stop line past_lines
 AreLinesOf false text stop line past_lines = IsToldOf text stop line past_lines
 
--- the lines of what is there of a text already aren't written, but for the last so many
+-- The lines that are not written: none by default. If the last `count` lines are requested, these are all but the last
+-- `count` lines for some prefix of the input, which is the text that exists when following begins.
 abbrev pub IsHidden : Option ℕ → Option (List ℕ) → List Line → Type 0
 IsHidden None input hidden = hidden ≡ []
 IsHidden (Some count) input hidden =
@@ -40,58 +43,63 @@ IsHidden (Some count) input hidden =
     × AreLinesOf (begins_run there) there stop line (hidden ++ shown)
     × (length hidden ≡ length (hidden ++ shown) - count)
 
--- what is asked for, which lines aren't written, and what was said before
+-- how following began: the number of lines requested, the lines that are not written, and the output before
 pub record Start : Type 0 where
   pub last : Option ℕ
   pub hidden : List Line
-  pub heard : Heard
+  pub heard : KnownOutput
 
--- the other lines of all of the input were written
-abbrev pub WritesAll : Start → Option (List ℕ) → Option ViewEnd → Option ℕ → Heard → Type 0
+-- the other lines of the whole input were written
+abbrev pub WritesAll : Start → Option (List ℕ) → Option ViewEnd → Option ℕ → KnownOutput → Type 0
 WritesAll start input stop line now =
     (text : List ℕ) × (shown : List Line) × IsAllOf input text
-    × AreLinesOf (is_judged start.last text) text stop line (start.hidden ++ shown) × Says start.heard now shown
+    × AreLinesOf (is_judged start.last text) text stop line (start.hidden ++ shown) × WritesLines start.heard now shown
 
--- a part of those of its beginning was written
-abbrev pub WritesPart : Start → Option (List ℕ) → Heard → Type 0
+-- some of the other lines of a prefix of the input were written, from the first one on
+abbrev pub WritesPart : Start → Option (List ℕ) → KnownOutput → Type 0
 WritesPart start input now =
     (text : List ℕ) × (shown : List Line) × (stop : Option ViewEnd) × (line : Option ℕ) × BeginsAllOf input text
-    × AreLinesOf (is_judged start.last text) text stop line (start.hidden ++ shown) × SaysFront start.heard now shown
+    × AreLinesOf (is_judged start.last text) text stop line (start.hidden ++ shown)
+    × WritesLinePrefix start.heard now shown
 
--- so with lines that aren't written
-abbrev pub start_of : Option ℕ → List Line → Heard → Start
+-- following began with these lines hidden
+abbrev pub start_of : Option ℕ → List Line → KnownOutput → Start
 start_of last hidden heard = record { last = last; hidden = hidden; heard = heard }
 
-abbrev pub FollowsAll : Option ℕ → Option (List ℕ) → Option ViewEnd → Option ℕ → Heard → Heard → Type 0
+-- everything was written, except lines that are not requested
+abbrev pub FollowsAll : Option ℕ → Option (List ℕ) → Option ViewEnd → Option ℕ → KnownOutput → KnownOutput → Type 0
 FollowsAll last input stop line old new =
     (hidden : List Line) × IsHidden last input hidden × WritesAll (start_of last hidden old) input stop line new
 
-abbrev pub FollowsPart : Option ℕ → Option (List ℕ) → Heard → Heard → Type 0
+-- some of the lines for a prefix of the input were written, except lines that are not requested
+abbrev pub FollowsPart : Option ℕ → Option (List ℕ) → KnownOutput → KnownOutput → Type 0
 FollowsPart last input old new =
     (hidden : List Line) × IsHidden last input hidden × WritesPart (start_of last hidden old) input new
 
--- all was written, with its exit status; or the trace could not be read further, or its lines not be said
-abbrev pub Follows : Option ℕ → Option (List ℕ) → ℕ → Heard → Heard → Type 0
+-- everything was written, and this is its exit status; or the trace could not be read further, or its lines could not
+-- be written
+abbrev pub Follows : Option ℕ → Option (List ℕ) → ℕ → KnownOutput → KnownOutput → Type 0
 Follows last input status old new =
     ((stop : Option ViewEnd) × (line : Option ℕ) × (status ≡ stop_status stop)
     × FollowsAll last input stop line old new)
-    ⊎ (EndsUnsaid status new × FollowsPart last input old new)
+    ⊎ (EndsUnwritten status new × FollowsPart last input old new)
 
--- a reader has taken the text, and these are its lines
+-- the reader judges its text
 abbrev pub judges : Reader → Bool
 judges (Run state) = true
 judges (Part state) = false
 
+-- the reader has taken the text, and these are the lines for it
 abbrev pub HasLines : Reader → List Line → List ℕ → Type 0
-HasLines (Run state) past_lines text = HasSaid state past_lines text
+HasLines (Run state) past_lines text = HasFollowedText state past_lines text
 HasLines (Part state) past_lines text = HasTold state past_lines text
 
--- it is the one for the text, whatever comes
+-- the reader is the right one for the text, whatever follows
 abbrev pub IsFor : Option ℕ → Reader → List ℕ → Type 0
 IsFor last reader text = (more : List ℕ) → is_judged last (text ++ more) ≡ judges reader
 
--- its lines were written
-abbrev pub HasWritten : Start → Reader → List ℕ → Heard → Type 0
+-- the lines for the text were written
+abbrev pub HasWritten : Start → Reader → List ℕ → KnownOutput → Type 0
 HasWritten start reader text now =
     (shown : List Line) × IsFor start.last reader text × HasLines reader (start.hidden ++ shown) text
-    × Says start.heard now shown
+    × WritesLines start.heard now shown

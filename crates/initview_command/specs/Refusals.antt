@@ -1,32 +1,33 @@
--- What initview reports of words that it refuses, and its exit status where it has no answer.
+-- What initview reports about arguments that it rejects, and its exit status if there is no answer.
 use Rattle.std.specs.Prelude.{◌≡◌, ◌⊎◌, ◌++◌, ℕ, codes}
-use Rattle.initview_command.specs.Words.{Text, ReportsUsage, REFUSED, DEVICE_FAULT, HasReported, ReportList}
+use Rattle.initview_command.specs.Words.{Text, ReportsUsage, REFUSED, DEVICE_FAULT, AppendsReport, ReportList}
 use Rattle.inittab_text.specs.declared.faults.TableFault.{TableFault}
 use Rattle.inittab_text.specs.declared.faults.TableFault.TheVariants as fault
 use Rattle.initview_command.specs.declared.command.TheConstants.{USAGE}
 use Rattle.initview_command.specs.declared.telling.Refusal.{Refusal}
 use Rattle.initview_command.specs.declared.telling.Refusal.TheVariants as refusal
 
--- the line of a command's usage
+-- a command's line of usage
 abbrev pub usage_line : Text → Text
 usage_line usage = codes "usage: " ++ (usage ++ codes "\n")
 
 abbrev pub memory_line : Text
 memory_line = codes "initview: out of memory\n"
 
--- a reason and a line of usage were reported, or the whole usage, since help is asked for; or that memory ran out
+-- a reason and a line of usage, or the whole usage if help is requested, were reported; or that memory ran out
 abbrev pub ReportsRefusal : ℕ → ReportList → ReportList → Type 0
 ReportsRefusal status old new =
     ((status ≡ REFUSED) × (usage : Text)
     × ReportsUsage (codes "initview") USAGE.now (usage_line usage) old new)
-    ⊎ ((status ≡ DEVICE_FAULT) × HasReported old new memory_line)
+    ⊎ ((status ≡ DEVICE_FAULT) × AppendsReport old new memory_line)
 
--- the exit status where there is no answer
+-- the exit status if files are not an inittab
 abbrev pub fault_status : TableFault → ℕ
 fault_status fault.Memory = DEVICE_FAULT
 fault_status fault.TooLong = REFUSED
 fault_status fault.Parts = REFUSED
 
+-- the exit status if there is no answer
 abbrev pub refusal_status : Refusal → ℕ
 refusal_status (refusal.Table fault) = fault_status fault
 refusal_status refusal.Within = REFUSED

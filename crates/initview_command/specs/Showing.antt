@@ -1,8 +1,8 @@
--- What is written of a trace, and the exit status.
+-- The output for a query about a trace, and the exit status.
 use Rattle.std.specs.Prelude.{◌≡◌, ◌⊎◌, ℕ, Bool, true, false, if◌then◌else◌, List, [], ◌∷◌, reverse, Option, Some, None}
 use Rattle.std.specs.Prelude.{is_some, Result, Ok, Err, Vec}
 use Rattle.initview_command.specs.Words.{DONE, REFUSED, UNLAWFUL, DEVICE_FAULT, IsTextAt, KnownTexts, Event, ViewEnd}
-use Rattle.initview_command.specs.Words.{Heard, Says, SaysFront, SaysNothing}
+use Rattle.initview_command.specs.Words.{KnownOutput, WritesLines, WritesLinePrefix, WritesNothing}
 use Rattle.trace_events.specs.Lawful.{first_breach}
 use Rattle.trace_view.specs.declared.rows.Row.{Row}
 use Rattle.trace_view.specs.Rows.{row_of}
@@ -19,82 +19,90 @@ use Rattle.initview_command.specs.declared.telling.Refusal.{Refusal}
 use Rattle.initview_command.specs.Refusals.{refusal_status}
 use Rattle.initview_command.specs.Writers.{IsWriterAt, KnownWriters, present}
 
--- the answer to a question, by the past of a trace
+-- the lines that answer a question about a trace with this past
 abbrev pub answer_lines : TraceQuery → List Event → List Line
 answer_lines (question.Status shape) past = status_in shape past
 answer_lines (question.Row id shape) past = row_at shape past id ∷ []
 answer_lines (question.Left shape) past = left_in shape past
 
--- the exit statuses of the action `status` in the LSB: it runs, which is unknown where no init writes the trace; it
--- doesn't; it is unknown
+-- the exit status of the action `status` in the LSB for a child that runs: 0, or 4 (unknown) if no init writes the
+-- trace
 abbrev pub running_status : Writer → ℕ
 running_status Nobody = 4
 running_status writer = 0
 
+-- the exit status of the action `status` in the LSB: that of a running child; 3 if there is no child; 4 if the table
+-- has no entry of the id
 abbrev pub lsb_status : Writer → Row → ℕ
 lsb_status writer row = if is_some row.child then running_status writer else if is_some row.act then 3 else 4
 
--- the exit status of a trace that was shown up to its end, up to a breach, up to a line that is none, or not at all
+-- the exit status for a trace that was shown to its end, up to a breach, up to a line that is not one of a trace, or
+-- not at all
 abbrev pub stop_status : Option ViewEnd → ℕ
 stop_status None = DONE
 stop_status (Some (Breach law line)) = UNLAWFUL
 stop_status (Some (Torn number)) = REFUSED
 stop_status (Some Within) = REFUSED
 
+-- the exit status for a single id: 4 (unknown) if the trace was not shown to its end
 abbrev pub row_status : List ℕ → Writer → Option ViewEnd → List Event → ℕ
 row_status id writer None past = lsb_status writer (row_of id past)
 row_status id writer (Some stop) past = DEVICE_FAULT
 
+-- the exit status for a question
 abbrev pub status_by : TraceQuery → Writer → Option ViewEnd → List Event → ℕ
 status_by (question.Row id shape) writer stop past = row_status id writer stop past
 status_by _ writer stop past = stop_status stop
 
--- the answer and the exit status, of a trace as it stands by now
+-- the lines and the exit status for a trace in its present state
 abbrev pub answer_by : TraceQuery → Writer → Option ViewEnd → List Event → List Line × ℕ
 answer_by question writer stop past =
     (answer_lines question (present writer stop past), status_by question writer stop (present writer stop past))
 
--- lines were not all said: the output failed or memory ran out; or nobody reads them any more, and all is well
-abbrev pub EndsUnsaid : ℕ → Heard → Type 0
-EndsUnsaid status now = (status ≡ DEVICE_FAULT) ⊎ ((status ≡ DONE) × (now.unread ≡ true))
+-- not all lines were written: the output failed or memory ran out, with status 4; or nobody reads the output any more,
+-- with status 0
+abbrev pub EndsUnwritten : ℕ → KnownOutput → Type 0
+EndsUnwritten status now = (status ≡ DEVICE_FAULT) ⊎ ((status ≡ DONE) × (now.unread ≡ true))
 
--- the lines were said, and the exit status is this; or a front of them was said
-abbrev pub Writes : List Line → ℕ → ℕ → Heard → Heard → Type 0
+-- all lines were written, and the exit status is `ends`; or a prefix of them was written
+abbrev pub Writes : List Line → ℕ → ℕ → KnownOutput → KnownOutput → Type 0
 Writes lines ends status old new =
-    ((status ≡ ends) × Says old new lines) ⊎ (EndsUnsaid status new × SaysFront old new lines)
+    ((status ≡ ends) × WritesLines old new lines) ⊎ (EndsUnwritten status new × WritesLinePrefix old new lines)
 
--- lines and the exit status; or the exit status alone, where there is no answer
+-- lines with an exit status; or an exit status only, if there is no answer
 abbrev pub Answer : Type 0
 Answer = Result (List Line × ℕ) ℕ
 
+-- an answer of the program, as lists
 abbrev pub answer_value : {A : Type 0} → Result (Vec Line A × ℕ) Refusal → Answer
 answer_value (Ok given) = Ok (given.0.items, given.1)
 answer_value (Err refusal) = Err (refusal_status refusal)
 
--- an answer was written, and nothing where there is none
-abbrev pub WritesAnswer : Answer → ℕ → Heard → Heard → Type 0
+-- the answer was written, or nothing if there is none
+abbrev pub WritesAnswer : Answer → ℕ → KnownOutput → KnownOutput → Type 0
 WritesAnswer (Ok given) status old new = Writes given.0 given.1 status old new
-WritesAnswer (Err ends) status old new = (status ≡ ends) × SaysNothing old new
+WritesAnswer (Err ends) status old new = (status ≡ ends) × WritesNothing old new
 
--- so of one that is as is said here
-abbrev pub WritesOne : (Answer → Type 0) → ℕ → Heard → Heard → Type 0
+-- some answer with this property was written
+abbrev pub WritesOne : (Answer → Type 0) → ℕ → KnownOutput → KnownOutput → Type 0
 WritesOne IsAnswer status old new = (answer : Answer) × IsAnswer answer × WritesAnswer answer status old new
 
--- a text that begins within a run is refused
+-- the trace is shown no further because its text begins in the middle of a run
 abbrev pub is_within : Option ViewEnd → Bool
 is_within (Some Within) = true
 is_within _ = false
 
+-- the answer, unless the text begins in the middle of a run
 abbrev pub unless_within : Bool → List Line × ℕ → Answer
 unless_within true given = Err REFUSED
 unless_within false given = Ok given
 
--- what is answered and the exit status, by who writes the trace, why it is shown no further, and its past
+-- a query: the lines and the exit status, for who writes the trace, why it is shown no further, and its past
 abbrev pub Gives : Type 0
 Gives = Writer → Option ViewEnd → List Event → List Line × ℕ
 
--- so of what a view shows of the text at the path, which breaks no law, and is written by whom its lock names; or it
--- was not read, or memory ran out
+-- the answer to a query about the text at the path: the view shows a trace of it that breaks no law, and the writer is
+-- the one that the lock gives; or the text could not be read, or memory ran out
 abbrev pub Shows : KnownTexts → KnownWriters → List ℕ → Gives → Answer → Type 0
 Shows text_at writers path gives answer =
     ((text : List ℕ) × (writer : Writer) × (stop : Option ViewEnd) × (unfinished : Option ℕ) × (trace : List Event)

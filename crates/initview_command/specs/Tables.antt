@@ -1,4 +1,4 @@
--- What is written of inittabs, and the exit status.
+-- The output of the commands about inittabs, and the exit status.
 use Rattle.std.specs.Prelude.{◌≡◌, ◌⊎◌, ℕ, true, List, [], ◌∷◌, ◌++◌, take, drop, Option, Some, None, unwrap_or, Ok}
 use Rattle.std.specs.Prelude.{Err}
 use Rattle.std.specs.List.{list_all}
@@ -21,93 +21,98 @@ use Rattle.initview_command.specs.Showing.{Answer}
 use Rattle.initview_command.specs.declared.asking.TableQuestion.{TableQuestion}
 use Rattle.initview_command.specs.declared.asking.TableQuestion.TheVariants as table
 
--- the files of the paths, in their order: each has its path for a name, and the text that stands there
+-- the files at the paths, in order: each has its path as its name, and the text at that path
 abbrev pub AreFilesAt : KnownTexts → List (List ℕ) → List NamedText → Type 0
 AreFilesAt text_at [] parts = parts ≡ []
 AreFilesAt text_at (path ∷ paths) parts =
     (text : List ℕ) × (others : List NamedText) × (parts ≡ record { name = path; bytes = text } ∷ others)
     × IsTextAt text_at path text × AreFilesAt text_at paths others
 
--- behind files stand those of a folder, where one is named
+-- the files are followed by those of a folder, if one is given
 abbrev pub IsFolderBehind : Option (List ℕ) → List NamedText → List NamedText → Type 0
 IsFolderBehind None own parts = parts ≡ own
 IsFolderBehind (Some folder) own parts = (more : List NamedText) × (parts ≡ own ++ more)
 
--- so behind the files of the paths
+-- the files at the paths, followed by those of the folder
 abbrev pub AreFiles : KnownTexts → PathTexts → List NamedText → Type 0
 AreFiles text_at paths parts =
     (own : List NamedText) × AreFilesAt text_at paths.files own × IsFolderBehind paths.folder own parts
 
--- 1 with faults, 2 with warnings alone
+-- the exit status: 1 for faults, 2 for warnings only
 abbrev pub found_status : Findings → ℕ
 found_status found.Nothing = DONE
 found_status found.Faults = REFUSED
 found_status found.Warnings = 2
 
--- the table of files
+-- the table of the files
 abbrev pub table_in : List NamedText → List Entry
 table_in parts = table_of_texts (texts_of parts)
 
--- the level that is asked about: the one that is named, else the table's default, else S, as init has it
+-- the level that a command is about: the given one, otherwise the table's default, otherwise S, as for init
 abbrev pub level_asked : Option Level → List Entry → Level
 level_asked (Some level) table = level
 level_asked None table = unwrap_or (default_level_of table) S
 
+-- the changes between two inittabs in a level
 abbrev pub changes_by : Option Level → List Entry → List Entry → List Line
 changes_by level old new = changes_in (level_asked level new) old new
 
+-- what an inittab starts on the way to a level
 abbrev pub plan_by : Option Level → List Entry → List Line
 plan_by level entries = plan_in (level_asked level entries) entries
 
--- of a diff the first file is the old inittab, and the second the new one; both go on in the others
+-- the files of the old inittab of a diff: the first one, and all after the second, in which both inittabs continue
 abbrev pub old_of : List NamedText → List NamedText
 old_of parts = take 1 parts ++ drop 2 parts
 
--- which programs aren't found is the file system's to say, and none is looked for unasked
+-- the warnings about missing programs: any with --programs, because they depend on the file system, and otherwise none
 abbrev pub AreMissing : TableQuestion → List LineWarning → Type 0
 AreMissing table.Programs missing = list_all is_missing missing ≡ true
 AreMissing _ missing = missing ≡ []
 
--- what is written of files, and the exit status
+-- the faults and warnings of the files, with further warnings, and the exit status
 abbrev pub lint_by : List NamedText → List LineWarning → List Line × ℕ
 lint_by parts missing = ((lint_in parts missing).0, found_status (lint_in parts missing).1)
 
+-- the lines and the exit status for the files
 abbrev pub answer_of : TableQuestion → List LineWarning → List NamedText → List Line × ℕ
 answer_of (table.Diff level) missing parts =
     (changes_by level (table_in (old_of parts)) (table_in (drop 1 parts)), DONE)
 answer_of (table.Plan level) missing parts = (plan_by level (table_in parts), DONE)
 answer_of _ missing parts = lint_by parts missing
 
--- lines and an exit status are the answer
+-- these lines and this exit status are the answer
 abbrev pub IsAnswer : TableQuestion → List NamedText → List Line → ℕ → Type 0
 IsAnswer asked parts lines status =
     (missing : List LineWarning) × AreMissing asked missing
     × (lines ≡ (answer_of asked missing parts).0) × (status ≡ (answer_of asked missing parts).1)
 
--- files that are no table: too many, or too long
+-- the files are not a table: there are too many, or they are too long
 abbrev pub AreNone : List NamedText → Type 0
 AreNone parts = AreTooMany (texts_of parts) ⊎ AreTooLong (texts_of parts)
 
+-- the files of the old or the new inittab of a diff are not a table
 abbrev pub NoneOf : List NamedText → Type 0
 NoneOf parts = AreNone (old_of parts) ⊎ AreNone (drop 1 parts)
 
+-- the files are rejected for the question
 abbrev pub IsRefused : TableQuestion → List NamedText → Type 0
 IsRefused (table.Diff level) parts = NoneOf parts
 IsRefused _ parts = AreNone parts
 
--- why there is no answer: memory ran out, or the files are refused
-abbrev pub FailsBy : Type 0 → TableFault → Type 0
-FailsBy refused fault.Memory = Unit {0}
-FailsBy refused fault.TooLong = refused
-FailsBy refused fault.Parts = refused
+-- why there is no answer: memory ran out, or the files are rejected
+abbrev pub FailsWith : Type 0 → TableFault → Type 0
+FailsWith refused fault.Memory = Unit {0}
+FailsWith refused fault.TooLong = refused
+FailsWith refused fault.Parts = refused
 
--- files are answered so; or there are too many, or too long ones
+-- the answer for these files; or they are rejected
 abbrev pub AnswersOf : TableQuestion → List NamedText → Answer → Type 0
 AnswersOf asked parts answer =
     ((missing : List LineWarning) × AreMissing asked missing × (answer ≡ Ok (answer_of asked missing parts)))
     ⊎ ((answer ≡ Err REFUSED) × IsRefused asked parts)
 
--- so of the files at the paths; or one was not read, or memory ran out
+-- the answer for the files at the paths; or one could not be read, or memory ran out
 abbrev pub Answers : KnownTexts → PathTexts → TableQuestion → Answer → Type 0
 Answers text_at paths asked answer =
     ((parts : List NamedText) × AreFiles text_at paths parts × AnswersOf asked parts answer)

@@ -1,4 +1,4 @@
--- What is answered of a trace where files of inittabs belong to the question.
+-- The answers to queries about a trace and files of inittabs.
 use Rattle.std.specs.Prelude.{◌≡◌, ◌⊎◌, List, Err}
 use Rattle.initview_command.specs.Words.{REFUSED, DEVICE_FAULT, KnownTexts, NamedText}
 use Rattle.initview_command.specs.Asking.{PathTexts}
@@ -6,13 +6,13 @@ use Rattle.initview_command.specs.Showing.{Answer, Gives, Shows}
 use Rattle.initview_command.specs.Tables.{AreFiles}
 use Rattle.initview_command.specs.Writers.{KnownWriters}
 
--- by these files; or they are no inittab
+-- the answer for these files; or they are not an inittab
 abbrev pub ShowsWith : KnownTexts → KnownWriters → PathTexts → List NamedText → (List NamedText → Gives)
     → (List NamedText → Type 0) → Answer → Type 0
 ShowsWith text_at writers paths files gives AreRefused answer =
     Shows text_at writers paths.path (gives files) answer ⊎ ((answer ≡ Err REFUSED) × AreRefused files)
 
--- so of the files at the paths; or one was not read
+-- the answer for the files at the paths; or one could not be read
 abbrev pub ShowsWithFiles : KnownTexts → KnownWriters → PathTexts → (List NamedText → Gives)
     → (List NamedText → Type 0) → Answer → Type 0
 ShowsWithFiles text_at writers paths gives AreRefused answer =

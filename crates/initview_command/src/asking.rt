@@ -1,5 +1,4 @@
-//! What a command line asks: by the options that are given, which may stand anywhere, and by its words, of which the first
-//! is the command.
+//! The command line of `initview`: options can be anywhere, and the first of the other arguments is the command.
 
 ghost use Rattle.std.specs.Prelude.{◌≡◌, map, string_bytes, IfErr, IfOk, IsSome, None, Some};
 ghost use Rattle.std.specs.List.{list_all};
@@ -14,61 +13,61 @@ use initview_lines::{RowFormat, WhichRows};
 use std::alloc::Global;
 use text_lines::read_below;
 
-/// How many lines can be asked for.
+/// The maximum number of lines that `-n` accepts.
 pub const LAST_LIMIT: u64 = 10_000;
 
-/// What is asked of a trace.
+/// A question about a trace.
 #[derive(Clone, Copy)]
 pub enum TraceQuery {
-    /// How init and all entries stand.
+    /// The state of init and of all entries.
     Status(RowFormat),
-    /// How this id stands.
+    /// The state of this id.
     Row(Id, RowFormat),
-    /// Which children are left.
+    /// The children that are left.
     Left(RowFormat),
 }
 
-/// What is asked of inittabs.
+/// A question about inittabs.
 #[derive(Clone, Copy)]
 pub enum TableQuestion {
-    /// The faults and warnings of one.
+    /// The faults and warnings of an inittab.
     Lint,
-    /// The same, and which programs of it aren't found.
+    /// The same, and which of its programs are not found.
     Programs,
-    /// What becomes of the entries of the first in a level, where the second is read in its place.
+    /// What happens to the entries of the first inittab in a level if the second one replaces it.
     Diff(Option<Level>),
-    /// What one starts on the way to a level.
+    /// The entries that an inittab starts on the way to a level.
     Plan(Option<Level>),
 }
 
-/// What words ask, of a trace or of the files of inittabs.
+/// The command that the arguments select, about a trace or the files of inittabs.
 #[derive(Clone, Copy)]
 pub enum Command {
     Show(TraceQuery),
     Draw(Form),
-    /// What happens, from the last so many lines of what is there on.
+    /// The news of the trace, from the last lines of the existing text on if their number is given.
     Follow(Option<usize>),
-    /// Why the id is not started, and what the files have of it.
+    /// Why the id is not started, and its lines in the files.
     Explain(Id),
-    /// What becomes of what runs, where init reads the second file and goes to the level.
+    /// What happens to the running children if init reads the second file and goes to the level.
     Reload(Option<Level>),
-    /// What is started on the way to the level, and how long what init waits for took in the trace.
+    /// The entries that are started on the way to the level, and how long those that init waits for took in the trace.
     Timing(Option<Level>),
     Tables(TableQuestion),
 }
 
-/// Where what is asked about stands.
+/// The paths of the trace and the files that a command is about.
 #[derive(Clone, Copy)]
 pub(crate) struct Paths<'m, 'a> {
     /// The path of the trace, or the folders of programs.
     pub(crate) path: &'a str,
     /// The paths of the files of inittabs.
     pub(crate) files: &'m [&'a str],
-    /// The folder of further ones.
+    /// The folder with further files of inittabs.
     pub(crate) folder: Option<&'a str>,
 }
 
-/// The options of all commands, and the words.
+/// The options of all commands, and the positional arguments.
 pub(crate) const OPTIONS: &[Row] = &[
     ("--json", "", ""),
     ("--svg", "", ""),
@@ -83,7 +82,7 @@ pub(crate) const OPTIONS: &[Row] = &[
     ("WORD", "..", ""),
 ];
 
-/// What words give the rows of the table.
+/// Returns the values that the arguments give the rows of the table.
 pub(crate) fn matched(alloc: Global, words: &[String]) -> Result<ArgMatches<'_>, WordFault>
     ensures ok { IfOk result (λ found. given_by command_line (map string_bytes words.now)
         ≡ Some (rows_of (found_of found))) }
@@ -93,7 +92,7 @@ pub(crate) fn matched(alloc: Global, words: &[String]) -> Result<ArgMatches<'_>,
     read_line(alloc, "initview", OPTIONS, words)
 }
 
-/// A row of the table is an option that is given.
+/// Reports whether a row of the table is an option that is given.
 fn is_given(matches: &ArgMatches, row: Row) -> bool
     ensures { result ≡ is_given (rows_of (found_of matches.now)) (text_of row.entry) }
 {
@@ -105,7 +104,7 @@ fn is_given(matches: &ArgMatches, row: Row) -> bool
     }
 }
 
-/// The option belongs to what is asked of a trace's rows.
+/// Reports whether a question about the state of entries accepts the option.
 fn trace_takes(question: &TraceQuery, option: &str) -> bool
     ensures { result ≡ trace_takes question.now option.now }
 {
@@ -132,7 +131,7 @@ fn table_takes(question: &TableQuestion, option: &str) -> bool
     }
 }
 
-/// The option belongs to what is asked.
+/// Reports whether a command accepts the option.
 fn takes(what: &Command, option: &str) -> bool
     ensures { result ≡ takes what.now option.now }
 {
@@ -148,14 +147,14 @@ fn takes(what: &Command, option: &str) -> bool
     }
 }
 
-/// A row of the table is none of an option that is given, or one of what is asked.
+/// Reports whether a row of the table is not a given option, or one that the command accepts.
 pub(crate) fn belongs(matches: &ArgMatches, what: &Command, row: Row) -> bool
     ensures { result ≡ belongs (rows_of (found_of matches.now)) what.now (text_of row.entry) }
 {
     !is_given(matches, row) || takes(what, row.0)
 }
 
-/// All options of a table that are given belong to what is asked.
+/// Reports whether the command accepts all given options of a table.
 fn has_only(matches: &ArgMatches, what: &Command, table: &[Row]) -> bool
     ensures { result ≡ list_all
         (λ row. belongs (rows_of (found_of matches.now)) what.now (text_of row)) table.now }
@@ -172,7 +171,7 @@ pub(crate) fn level_in(word: &str) -> Option<Level>
     }
 }
 
-/// The level that is named, if one is; nothing where it is none.
+/// Returns the level that is given, if any, or `None` if the value is not a level.
 fn level_said(matches: &ArgMatches) -> Option<Option<Level>>
     ensures { result ≡ level_said (rows_of (found_of matches.now)) }
 {
@@ -214,7 +213,7 @@ fn form_said(matches: &ArgMatches) -> Option<Form>
     }
 }
 
-/// How many lines a word names.
+/// Returns the number of lines that a word stands for.
 pub(crate) fn last_of(word: &str) -> Option<usize>
     ensures { result ≡ last_of word.now }
 {
@@ -224,7 +223,7 @@ pub(crate) fn last_of(word: &str) -> Option<usize>
     }
 }
 
-/// How many lines are named, if any are; nothing where it is no such number.
+/// Returns the number of lines that is given, if any, or `None` if the value is not such a number.
 fn last_said(matches: &ArgMatches) -> Option<Option<usize>>
     ensures { result ≡ last_said (rows_of (found_of matches.now)) }
 {
@@ -314,7 +313,7 @@ fn lint_of(matches: &ArgMatches, words: &[&str]) -> Option<Command>
     }
 }
 
-/// What a command for inittabs asks.
+/// Returns the command about inittabs that the arguments select.
 fn tables_of(matches: &ArgMatches, verb: &str, words: &[&str]) -> Option<Command>
     ensures { result ≡ tables_of (rows_of (found_of matches.now)) verb.now
         (map (λ word. word.now) words.now) }
@@ -327,7 +326,7 @@ fn tables_of(matches: &ArgMatches, verb: &str, words: &[&str]) -> Option<Command
     }
 }
 
-/// What a command asks that has the path of a trace alone.
+/// Returns the command, of those whose only argument is the path of a trace, that the arguments select.
 fn plain_of(matches: &ArgMatches, verb: &str, words: &[&str]) -> Option<Command>
     ensures { result ≡ plain_of (rows_of (found_of matches.now)) verb.now
         (map (λ word. word.now) words.now) }
@@ -361,7 +360,8 @@ fn asked_by(matches: &ArgMatches, verb: &str, words: &[&str]) -> Option<Command>
     }
 }
 
-/// What options and words ask, whatever other options are given; nothing where the words are no command's.
+/// Returns the command that the options and words select, whatever other options are given, or `None` if there is no
+/// such command.
 pub(crate) fn asked(matches: &ArgMatches, words: &[&str]) -> Option<Command>
     ensures { result
         ≡ asked (rows_of (found_of matches.now)) (map (λ word. word.now) words.now) }
@@ -372,7 +372,8 @@ pub(crate) fn asked(matches: &ArgMatches, words: &[&str]) -> Option<Command>
     }
 }
 
-/// What options and words ask; nothing where they are no command's.
+/// Returns the command that the options and words select, or `None` if there is no such command or it does not accept
+/// one of the options.
 pub(crate) fn what_of(matches: &ArgMatches, words: &[&str]) -> Option<Command>
     ensures { result
         ≡ what_of (rows_of (found_of matches.now)) (map (λ word. word.now) words.now) }
@@ -385,7 +386,7 @@ pub(crate) fn what_of(matches: &ArgMatches, words: &[&str]) -> Option<Command>
     }
 }
 
-/// The path of the trace, or the folders of programs.
+/// Returns the path of the trace, or the folders of programs.
 fn path_of<'a>(what: &Command, matches: &ArgMatches<'a>, words: &[&'a str]) -> &'a str
     ensures { result.now ≡ path_of what.now (rows_of (found_of matches.now))
         (map (λ word. word.now) words.now) }
@@ -400,7 +401,7 @@ fn path_of<'a>(what: &Command, matches: &ArgMatches<'a>, words: &[&'a str]) -> &
     }
 }
 
-/// The paths of the files of inittabs.
+/// Returns the paths of the files of inittabs.
 fn files_of<'m, 'a>(what: &Command, words: &'m [&'a str]) -> &'m [&'a str]
     ensures { map (λ word. word.now) result.now
         ≡ files_of what.now (map (λ word. word.now) words.now) }
@@ -413,7 +414,7 @@ fn files_of<'m, 'a>(what: &Command, words: &'m [&'a str]) -> &'m [&'a str]
     }
 }
 
-/// What is named by options and words that ask this.
+/// Returns the paths in the options and words of a command.
 pub(crate) fn paths_of<'m, 'a>(
     what: &Command,
     matches: &ArgMatches<'a>,

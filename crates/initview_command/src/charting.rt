@@ -1,4 +1,4 @@
-//! The timeline of a trace, asked for.
+//! The `timeline` command.
 
 ghost use Rattle.std.specs.Prelude.{◌≡◌, List, IfOk};
 ghost use Rattle.initview_command.specs.Words.{Event, Viewed, seen_of, drawn_of, scene_of};
@@ -12,7 +12,7 @@ use std::alloc::{AllocError, Global};
 use text_lines::read_below;
 use trace_view::{ObservedTrace, TraceView};
 
-/// How many columns lines have where none are named, at least, and at most.
+/// The default, the minimum and the maximum number of columns.
 pub const WIDTH: u64 = 80;
 
 pub const WIDTH_LEAST: u64 = 40;
@@ -22,13 +22,13 @@ pub const WIDTH_LIMIT: u64 = 1_000;
 /// The form of a timeline.
 #[derive(Clone, Copy)]
 pub enum Form {
-    /// Lines of so many columns.
+    /// Lines with this number of columns.
     Lines(u64, WhichRows),
     /// A picture, as one SVG document.
     Svg(WhichRows),
 }
 
-/// The width that a word names.
+/// Returns the width that a word stands for.
 pub(crate) fn width_of(word: &str) -> Option<u64>
     ensures { result ≡ width_of word.now }
 {
@@ -40,7 +40,7 @@ pub(crate) fn width_of(word: &str) -> Option<u64>
     }
 }
 
-/// What a timeline is drawn of.
+/// Returns what a timeline is drawn from.
 fn seen_by<'a>(marks: &'a Marks, view: &'a TraceView) -> Seen<'a>
     ensures { (past : List Event) → Viewed view.now past
         → marks.now ≡ seen_of past → scene_of result ≡ drawn_of past }
@@ -56,7 +56,7 @@ fn seen_by<'a>(marks: &'a Marks, view: &'a TraceView) -> Seen<'a>
     }
 }
 
-/// A timeline in its form.
+/// Draws a timeline in its form.
 fn draw(alloc: Global, form: Form, marks: &Marks, view: &TraceView) -> Result<Line, AllocError>
     ensures { IfOk result (λ line. (past : List Event) → Viewed view.now past
         → marks.now ≡ seen_of past → line ≡ drawing form past) }

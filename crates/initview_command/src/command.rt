@@ -1,11 +1,11 @@
-//! The words of `initview`, and what it does for them.
+//! The `initview` program: reads its arguments and carries out the command.
 
 ghost use Rattle.std.specs.Prelude.{◌≡◌, ◌∷◌, [], codes, false, true, map, string_bytes, None, OnErr, OnOk};
-ghost use Rattle.initview_command.specs.Words.{asks_version, version_line, DONE, SaysNothing};
+ghost use Rattle.initview_command.specs.Words.{asks_version, version_line, DONE, WritesNothing};
 ghost use Rattle.initview_lines.specs.declared.lines.Line.TheVariants as line;
 ghost use Rattle.initview_command.specs.Asking.{asked_of, path_texts};
 ghost use Rattle.initview_command.specs.Refusals.{ReportsRefusal};
-ghost use Rattle.initview_command.specs.Endings.{Does, EndsBy, timed};
+ghost use Rattle.initview_command.specs.Endings.{Does, ArgumentsEnd, timed};
 ghost use Rattle.initview_command.specs.Showing.{Writes};
 
 use crate::asking::{Command, Paths, matched, paths_of, what_of};
@@ -19,13 +19,13 @@ use crate::showing::{say_lines, trace_answer, write};
 use crate::tables::tables_answer;
 use crate::telling::{report_memory, report_zone};
 use command_words::{is_set, is_version, words_of, write_version};
-use initview_lines::{Says, text_line};
+use initview_lines::{LineSink, text_line};
 use jiff::Error;
 use program_io::{DONE, Reporter, Reports, Texts};
 use std::alloc::Global;
 
-/// What is told where help is asked for, and of words that are not read. Its lines up to the last that begins with
-/// blanks and `initview` are one for each command.
+/// The usage, printed when help is requested. A command's line of it is printed when its arguments are rejected. It has
+/// one line for each command, up to the last line that begins with blanks and `initview`.
 pub const USAGE: &str = "usage: initview why [--inittab-dir DIR] ID TRACE [TABLE..]
        initview status [--json] [--local] TRACE [ID]
        initview left [--json] TRACE
@@ -35,54 +35,60 @@ pub const USAGE: &str = "usage: initview why [--inittab-dir DIR] ID TRACE [TABLE
        initview diff [--trace T] [--level L] [--inittab-dir DIR] OLD NEW
        initview plan [--trace T] [--level L] [--inittab-dir DIR] TABLE [FILE..]
        initview --version
-  why     say why the entry ID isn't started next, the line of TRACE at fault,
-          and what to do; with TABLE also where the inittab has a line of ID,
-          and why it is left out
-  status  say how init and its entries stand, or the entry ID alone; with ID the
-          exit status is 0 where it runs, 3 where it doesn't, 4 where it is
-          unknown; with --json a line of JSON each
-  left    list the children that were born and not reaped, and their numbers;
-          and with a ? in place of the number each start of which the trace
-          doesn't say what came
+  why     print why the entry ID is not started next, the line of TRACE that
+          decides it, and what to do; with TABLE also where the inittab has a
+          line of ID, and why that line is ignored
+  status  print the state of init and its entries, or of the entry ID only; with
+          ID the exit status is 0 if it runs, 3 if it does not, 4 if that is
+          unknown; with --json print one line of JSON for each
+  left    list the children that were born and not reaped, with their numbers,
+          and with ? as its number each start whose outcome the trace does not
+          have
   timeline
           draw the lives of each entry's children, signals, holds and stages
-          over the time, in lines of N columns, 80 without it; or with --svg as
-          a picture that a browser shows; with --faults the rows of entries with
-          faults alone
-  follow  print a line for each happening that an operator is told of, also
-          while the trace is written, until it is interrupted; with -n from the
-          last N lines of what is there on, also where TRACE begins within a run
-          and what was before it is gone: it isn't judged then
+          over time, in lines of N columns, 80 by default, or with --svg as a
+          picture for a browser; with --faults only the rows of entries with
+          faults
+  follow  print a line for each happening that an operator should know of, also
+          while the trace is being written, until it is interrupted; with -n
+          begin with the last N lines, even if TRACE begins in the middle of a
+          run and what came before is gone: then it is not judged
   lint    list the faults of an inittab's lines, with what was probably meant,
-          and warnings; the exit status is 1 with faults, 2 with warnings alone;
-          with --programs also warnings of programs that aren't in FOLDERS, as
-          \"$PATH\" of init has them
-  diff    list what becomes of each entry in a level where the inittab NEW is
-          read in OLD's place; with --trace of what runs now, and the exit
+          and warnings; the exit status is 1 with faults, 2 with warnings only;
+          with --programs also warn of programs that are not in FOLDERS, a list
+          like the \"$PATH\" of init
+  diff    list what happens to each entry in a level if the inittab NEW is read
+          in place of OLD; with --trace also to what runs now, and the exit
           status is as for status TRACE
-  plan    list what init starts on the way to a level, in its order, what it
-          waits for, and the critical path: the entries whose ends the way goes
-          through; with --trace also how long each of these took there, and the
-          exit status is as for status TRACE
-  Options stand anywhere; with --local times are in the system's zone.
+  plan    list what init starts on the way to a level, in order, what it waits
+          for, and the critical path: the entries whose ends the level depends
+          on; with --trace also how long each of these took there, and the exit
+          status is as for status TRACE
+  Options may come anywhere; with --local times are in the system's zone.
   ID      an id of the inittab, 1 to 8 characters
-  TRACE   a trace of init, also one that is still being written; - is standard
-          input; so is T
-  TABLE   an inittab; FILEs go on where it ends, and those of the folder DIR
+  TRACE   a trace of init, which may still be being written; - is standard
+          input; the same goes for T
+  TABLE   an inittab; the FILEs continue it, and so do those of the folder DIR
           that init takes
-  L       0 to 9 or S; without it the default level of the inittab that is new,
+  L       0 to 9 or S; the default is the default level of the new inittab, or
           with --trace the stage in force at its end
 ";
 
-/// Runs initview on its words, and gives the exit status: 0 where the trace was read to its end and the answer written
-/// on `out`, 1 where the words are refused or a line of the trace is none, 2 where a happening breaks a law, 4 where the
-/// trace can't be read, the output fails or memory runs out; of `status TRACE ID` 0, 3 or 4, as the LSB has them. What
-/// stands before a line that is none, or that breaks a law, is shown, and is the trace of `diff --trace` and `plan --trace`; of a text that
-/// begins within a run nothing is, and the status is 1, but for the last lines of one that is followed. A trace that is
-/// followed is read on in `growing` until it ends, and each of its lines is written when it comes. Of an inittab the
-/// status is 1 where it isn't read for its size, of `lint` also where it has faults, and 2 where it has warnings alone.
-/// Faults of files are told on `err`.
-pub fn run_words<T: Texts, G: LiveTraces, S: Says, E: Reporter>(
+/// Runs initview with its arguments and returns the exit status.
+///
+/// - 0: the trace was read to its end, and the answer was written to `out`.
+/// - 1: the arguments are rejected, a line is not a line of a trace, the text begins in the middle of a run (except
+///   with `follow -n`), an inittab is too large, or `lint` found faults.
+/// - 2: a happening breaks a law, or `lint` found warnings only.
+/// - 4: the trace can't be read, the output fails, or memory runs out.
+///
+/// `status TRACE ID` returns 0, 3 or 4, as the LSB defines them.
+///
+/// If a line is not a line of a trace, or breaks a law, the happenings before it are shown, and they are the trace of
+/// `diff --trace` and `plan --trace`. Nothing is shown of a text that begins in the middle of a run, except its last
+/// lines by `follow -n`. A trace that is followed is read from `growing` until it ends, and each of its lines is
+/// written as it comes. Faults of files are reported on `err`.
+pub fn run_words<T: Texts, G: LiveTraces, S: LineSink, E: Reporter>(
     texts: &T,
     growing: &G,
     alloc: Global,
@@ -90,10 +96,10 @@ pub fn run_words<T: Texts, G: LiveTraces, S: Says, E: Reporter>(
     out: &mut S,
     err: &mut E,
 ) -> u8
-    ensures ends { EndsBy (T.text_at texts.now) (G.text_at growing.now)
+    ensures ends { ArgumentsEnd (T.text_at texts.now) (G.text_at growing.now)
         (G.writer_at growing.now) (map string_bytes words.now)
         result (S.said out.old) (S.said out.new) }
-    // Of words that ask nothing a reason and the usage of a command are reported.
+    // If the arguments select no command, a reason and the usage of a command are reported.
     ensures refused { asks_version (map string_bytes words.now) ≡ false
         → asked_of (map string_bytes words.now) ≡ None
         → ReportsRefusal result (E.reports err.old) (E.reports err.new) }
@@ -116,9 +122,9 @@ pub fn run_words<T: Texts, G: LiveTraces, S: Says, E: Reporter>(
     run_asked(texts, growing, alloc, command, &paths, out, err)
 }
 
-/// Says the version, and gives the exit status.
+/// Writes the version and returns the exit status.
 #[tactic(auto, using(crate::proofs::Shown::none_written))]
-fn say_version<S: Says, E: Reporter>(alloc: Global, out: &mut S, err: &mut E) -> u8
+fn say_version<S: LineSink, E: Reporter>(alloc: Global, out: &mut S, err: &mut E) -> u8
     ensures { Writes (line.Text (version_line (codes "initview")) ∷ []) DONE result
         (S.said out.old) (S.said out.new) }
 {
@@ -132,11 +138,11 @@ fn say_version<S: Says, E: Reporter>(alloc: Global, out: &mut S, err: &mut E) ->
     }
 }
 
-/// Has times in the system's zone, where these are asked for.
-fn use_times<S: Says>(is_local: bool, out: &mut S) -> Result<(), Error>
+/// Switches the output to times in the system's time zone, if that is requested.
+fn use_times<S: LineSink>(is_local: bool, out: &mut S) -> Result<(), Error>
     ensures ok { OnOk result (S.said out.new ≡ timed is_local (S.said out.old)) }
     ensures err { OnErr result
-        ((is_local ≡ true) × SaysNothing (S.said out.old) (S.said out.new)) }
+        ((is_local ≡ true) × WritesNothing (S.said out.old) (S.said out.new)) }
 {
     if is_local {
         out.use_local_times()
@@ -145,8 +151,8 @@ fn use_times<S: Says>(is_local: bool, out: &mut S) -> Result<(), Error>
     }
 }
 
-/// Does what is asked, and gives the exit status.
-fn run_asked<T: Texts, G: LiveTraces, S: Says, E: Reporter>(
+/// Carries out a command and returns the exit status.
+fn run_asked<T: Texts, G: LiveTraces, S: LineSink, E: Reporter>(
     texts: &T,
     growing: &G,
     alloc: Global,

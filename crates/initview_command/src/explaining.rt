@@ -1,11 +1,11 @@
-//! Why an entry isn't started next, asked for.
+//! The `why` command: the reason why an entry is not started next.
 
 ghost use Rattle.std.specs.Prelude.{◌≡◌, List, IfOk, IfErr};
 ghost use Rattle.initview_command.specs.Words.{Event, Viewed};
 ghost use Rattle.initview_command.specs.Asking.{path_texts};
 ghost use Rattle.initview_command.specs.Explaining.{explained_with, explanation, files_lines};
 ghost use Rattle.initview_command.specs.Showing.{answer_value};
-ghost use Rattle.initview_command.specs.Tables.{AreNone, FailsBy};
+ghost use Rattle.initview_command.specs.Tables.{AreNone, FailsWith};
 ghost use Rattle.initview_command.specs.WithFiles.{ShowsWithFiles};
 
 use crate::asking::Paths;
@@ -21,14 +21,14 @@ use program_io::Texts;
 use std::alloc::{AllocError, Global};
 use trace_view::{LastLines, ObservedTrace, TraceView};
 
-/// Why the id isn't started is asked, and this is told of it behind the answer.
+/// A query for the reason why an id is not started, and the lines that follow the answer.
 #[derive(Drop)]
 struct Reason {
     id: Id,
     told: Vec<Line>,
 }
 
-/// The reason by now with the lines that were at fault, and what is told behind it.
+/// Returns the present reason, with the lines of the trace that cause it, and the lines that follow it.
 fn explanation(
     alloc: Global,
     path: &str,
@@ -70,10 +70,10 @@ impl Query for Reason {
     }
 }
 
-/// What is told of the id's lines in an inittab, where one is named.
+/// Returns the lines about the id's entries in an inittab, if one is given.
 fn files_lines(alloc: Global, files: &[Part], id: &Id) -> Result<Vec<Line>, TableFault>
     ensures told { IfOk result (λ lines. lines.items ≡ files_lines id.now files.now) }
-    ensures fault { IfErr result (FailsBy (AreNone files.now)) }
+    ensures fault { IfErr result (FailsWith (AreNone files.now)) }
 {
     if files.is_empty() {
         return Ok(Vec::new(alloc));
@@ -86,7 +86,7 @@ fn files_lines(alloc: Global, files: &[Part], id: &Id) -> Result<Vec<Line>, Tabl
     }
 }
 
-/// Why the id isn't started next, with what the files have of it.
+/// Answers why the id is not started next, with the id's lines in the files.
 pub(crate) fn why_answer<'a, T: Texts, G: LiveTraces>(
     texts: &T,
     growing: &G,

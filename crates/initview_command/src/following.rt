@@ -1,8 +1,8 @@
-//! A trace in words, while it is written.
+//! The `follow` command: writes a trace in words while it grows.
 
 ghost use Rattle.std.specs.Prelude.{◌≡◌, ◌^◌, ◌<◌, ◌≤◌, ◌-◌, ◌++◌, [], List, ℕ, length, Option, Some, None, option_map, IfOk, OnOk, OnErr, true, false};
-ghost use Rattle.initview_command.specs.Words.{PIECE_LIMIT, SaysNothing};
-ghost use Rattle.initview_command.specs.Showing.{EndsUnsaid};
+ghost use Rattle.initview_command.specs.Words.{PIECE_LIMIT, WritesNothing};
+ghost use Rattle.initview_command.specs.Showing.{EndsUnwritten};
 ghost use Rattle.initview_lines.specs.declared.lines.Line.{Line};
 ghost use Rattle.initview_command.specs.Following.{AreLinesOf, Follows, FollowsAll, FollowsPart, HasLines, HasWritten, IsAllOf, IsFor, Start, WritesAll, WritesPart, begins_run, judges};
 ghost use Rattle.initview_command.specs.Taking.{FirstReader, HasFollowed, HasKept, MayKeep, there_limit};
@@ -11,24 +11,24 @@ use crate::growing::{LiveTrace, LiveTraces};
 use crate::showing::{stop_status, tell_stop};
 use crate::telling::{report_unread, report_unsaid};
 use init_words::Memory;
-use initview_lines::{Line, PartView, SayFault, Says, take_lines};
+use initview_lines::{Line, LineSink, PartView, SinkFault, take_lines};
 use program_io::{PIECE_LIMIT, PIECES_LIMIT, Reporter};
 use std::alloc::Global;
 use std::io;
 use std::io::{ErrorKind, Read};
 use trace_view::{TextView, ViewEnd};
 
-/// Why a trace is not followed to its end.
+/// The reason why a trace is not followed to its end.
 #[derive(Drop)]
 enum FollowFault {
     Unread(io::Error),
-    Unsaid(SayFault),
+    Unsaid(SinkFault),
 }
 
 impl From<io::Error> for FollowFault {
     fn from(error: io::Error) -> FollowFault {
         match error.kind() {
-            ErrorKind::BrokenPipe => FollowFault::Unsaid(SayFault::Unwritten),
+            ErrorKind::BrokenPipe => FollowFault::Unsaid(SinkFault::Unwritten),
             _ => FollowFault::Unread(error),
         }
     }
@@ -36,25 +36,25 @@ impl From<io::Error> for FollowFault {
 
 impl From<Memory> for FollowFault {
     fn from(_memory: Memory) -> FollowFault {
-        FollowFault::Unsaid(SayFault::Memory)
+        FollowFault::Unsaid(SinkFault::Memory)
     }
 }
 
-impl From<SayFault> for FollowFault {
-    fn from(fault: SayFault) -> FollowFault {
+impl From<SinkFault> for FollowFault {
+    fn from(fault: SinkFault) -> FollowFault {
         FollowFault::Unsaid(fault)
     }
 }
 
-/// Tells why, and gives the exit status.
-fn report_fault<S: Says, E: Reporter>(
+/// Reports the reason and returns the exit status.
+fn report_fault<S: LineSink, E: Reporter>(
     path: &str,
     fault: &FollowFault,
     out: &mut S,
     err: &mut E,
 ) -> u8
-    ensures ends { EndsUnsaid result (S.said out.new) }
-    ensures said { SaysNothing (S.said out.old) (S.said out.new) }
+    ensures ends { EndsUnwritten result (S.said out.new) }
+    ensures said { WritesNothing (S.said out.old) (S.said out.new) }
 {
     match fault {
         FollowFault::Unread(error) => report_unread(path, error, err),
@@ -62,17 +62,18 @@ fn report_fault<S: Says, E: Reporter>(
     }
 }
 
-/// Why a trace is shown no further, and the number of the line at which a happening isn't finished.
+/// Why a trace is shown no further, and the number of the line at which an incomplete happening begins.
 type End = (Option<ViewEnd>, Option<u64>);
 
-/// What reads a trace that is followed: a run, which is judged; or a text that begins within one.
+/// The reader of a followed trace: of a run, which is judged, or of a text that begins in the middle of one.
 #[derive(Drop)]
 enum Reader {
     Run(TextView),
     Part(PartView),
 }
 
-/// What reads a run, on the heap: a function that has one in its frame is dear to prove.
+/// Allocates a reader of a run. It is on the heap because functions with a reader in their frame are expensive to
+/// prove.
 fn run_reader(alloc: Global) -> Result<Box<Reader>, Memory>
     ensures { IfOk result (λ reader. (judges reader.value ≡ true)
         × HasLines reader.value [] []) }
@@ -80,7 +81,7 @@ fn run_reader(alloc: Global) -> Result<Box<Reader>, Memory>
     Ok(Box::new(alloc, Reader::Run(TextView::new(alloc)))?)
 }
 
-/// What reads a text that begins within a run.
+/// Allocates a reader of a text that begins in the middle of a run.
 fn part_reader(alloc: Global) -> Result<Box<Reader>, Memory>
     ensures { IfOk result (λ reader. (judges reader.value ≡ false)
         × HasLines reader.value [] []) }
@@ -88,7 +89,7 @@ fn part_reader(alloc: Global) -> Result<Box<Reader>, Memory>
     Ok(Box::new(alloc, Reader::Part(PartView::new(alloc)))?)
 }
 
-/// The text begins a run.
+/// Reports whether the text is the beginning of a run.
 fn begins_run(text: &[u8]) -> bool
     ensures { result ≡ begins_run text.now }
 {
@@ -98,7 +99,7 @@ fn begins_run(text: &[u8]) -> bool
     }
 }
 
-/// What reads a text that begins so.
+/// Allocates the reader for a text that begins like this.
 fn reader_of(alloc: Global, first: &[u8]) -> Result<Box<Reader>, Memory>
     ensures { IfOk result (λ reader. (judges reader.value ≡ begins_run first.now)
         × HasLines reader.value [] []) }
@@ -110,7 +111,7 @@ fn reader_of(alloc: Global, first: &[u8]) -> Result<Box<Reader>, Memory>
     }
 }
 
-/// Shows a reader the next piece of its text, and adds the lines of it.
+/// Passes the next piece of its text to a reader, and adds the lines for it.
 fn take_piece(reader: &mut Reader, piece: &[u8], lines: &mut Vec<Line>) -> Result<(), Memory>
     ensures same { OnOk result (judges reader.new ≡ judges reader.old) }
     ensures lines { OnOk result ((past_lines : List Line) (text : List ℕ)
@@ -124,7 +125,7 @@ fn take_piece(reader: &mut Reader, piece: &[u8], lines: &mut Vec<Line>) -> Resul
     }
 }
 
-/// How a reader that has taken a text stands.
+/// Returns why the reader goes no further, and the line of an incomplete happening.
 fn end_of(reader: &Reader) -> End
     ensures { (past_lines : List Line) (text : List ℕ) → length text < 2 ^ 64
         → HasLines reader.now past_lines text
@@ -139,8 +140,8 @@ fn end_of(reader: &Reader) -> End
     }
 }
 
-/// Shows a reader the next piece of its text, and writes the lines of it.
-fn write_piece<S: Says>(
+/// Passes the next piece of its text to a reader, and writes the lines for it.
+fn write_piece<S: LineSink>(
     reader: &mut Reader,
     alloc: Global,
     piece: &[u8],
@@ -161,9 +162,9 @@ fn write_piece<S: Says>(
     Ok(())
 }
 
-/// Writes the lines of the rest of a text, each when it comes, up to its end, or up to where the reader goes no
-/// further. More than 4,294,967,296 reads are an error, `FileTooLarge`.
-fn write_lines<R: Read, S: Says>(
+/// Writes the lines of the rest of a text, each as it comes, until the text ends or the reader goes no further. After
+/// 4,294,967,296 reads it fails with `FileTooLarge`.
+fn write_lines<R: Read, S: LineSink>(
     from: &mut R,
     reader: &mut Reader,
     alloc: Global,
@@ -191,7 +192,7 @@ fn write_lines<R: Read, S: Says>(
     Err(FollowFault::Unread(io::Error::from(ErrorKind::FileTooLarge)))
 }
 
-/// Shows a reader the next piece of its text, and adds the lines of it behind others.
+/// Passes the next piece of its text to a reader, and appends the lines for it to others.
 fn add_piece(
     reader: &mut Reader,
     alloc: Global,
@@ -211,7 +212,7 @@ fn add_piece(
     Ok(())
 }
 
-/// Drops all lines but the last of them.
+/// Removes all lines but the last ones.
 fn keep_last(lines: &mut Vec<Line>, count: usize) -> Result<(), Memory>
     ensures { OnOk result ((front : List Line) × (lines.old.items ≡ front ++ lines.new.items)
         × (length front ≡ length lines.old.items - count)) }
@@ -222,7 +223,7 @@ fn keep_last(lines: &mut Vec<Line>, count: usize) -> Result<(), Memory>
     Ok(())
 }
 
-/// Takes what is there of a text already, and keeps the last of its lines.
+/// Reads the existing part of a text, and keeps the last of its lines.
 fn take_there<R: LiveTrace>(
     from: &mut R,
     reader: &mut Reader,
@@ -250,7 +251,7 @@ fn take_there<R: LiveTrace>(
     Err(FollowFault::Unread(io::Error::from(ErrorKind::FileTooLarge)))
 }
 
-/// What reads a text, with the lines of its first piece; None where the text is empty.
+/// Allocates the reader of a text, and adds the lines of its first piece. Returns `None` if the text is empty.
 fn first_reader<R: Read>(
     from: &mut R,
     alloc: Global,
@@ -272,18 +273,18 @@ fn first_reader<R: Read>(
     Ok(Some(reader))
 }
 
-/// Tells that a text begins within a run.
+/// Reports that a text begins in the middle of a run.
 fn tell_part<E: Reporter>(path: &str, reader: &Reader, err: &mut E) {
     if let Reader::Part(_) = reader {
         writeln!(
             err,
-            "initview: {path} begins within a run: it is shown, and not judged"
+            "initview: {path} begins within a run; it is shown but not judged"
         );
     }
 }
 
-/// Writes the last lines of what is there of a text, and all that come.
-fn follow_last<R: LiveTrace, S: Says, E: Reporter>(
+/// Writes the last lines of the existing part of a text, and all lines that follow.
+fn follow_last<R: LiveTrace, S: LineSink, E: Reporter>(
     from: &mut R,
     alloc: Global,
     path: &str,
@@ -307,7 +308,7 @@ fn follow_last<R: LiveTrace, S: Says, E: Reporter>(
 }
 
 /// Writes all lines of a text.
-fn follow_all<R: Read, S: Says>(
+fn follow_all<R: Read, S: LineSink>(
     from: &mut R,
     alloc: Global,
     out: &mut S,
@@ -321,8 +322,8 @@ fn follow_all<R: Read, S: Says>(
     write_lines(from, &mut reader, alloc, out)
 }
 
-/// Writes the lines of a text, or those from the last so many of what is there on.
-fn follow<R: LiveTrace, S: Says, E: Reporter>(
+/// Writes the lines of a text, all of them or from the last ones of its existing part on.
+fn follow<R: LiveTrace, S: LineSink, E: Reporter>(
     from: &mut R,
     alloc: Global,
     path: &str,
@@ -341,8 +342,8 @@ fn follow<R: LiveTrace, S: Says, E: Reporter>(
     }
 }
 
-/// The same, with the exit status.
-fn follow_text<R: LiveTrace, S: Says, E: Reporter>(
+/// Writes the lines of a text in the same way, and returns the exit status.
+fn follow_text<R: LiveTrace, S: LineSink, E: Reporter>(
     from: &mut R,
     alloc: Global,
     path: &str,
@@ -361,9 +362,9 @@ fn follow_text<R: LiveTrace, S: Says, E: Reporter>(
     }
 }
 
-/// Follows the trace at a path, from the last so many lines of what is there on, where that is asked for, and gives the
+/// Follows the trace at a path, from the last lines of its existing part on if their number is given, and returns the
 /// exit status.
-pub(crate) fn follow_file<G: LiveTraces, S: Says, E: Reporter>(
+pub(crate) fn follow_file<G: LiveTraces, S: LineSink, E: Reporter>(
     growing: &G,
     alloc: Global,
     path: &str,

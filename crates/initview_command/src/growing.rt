@@ -1,4 +1,4 @@
-//! Texts that may still grow while they are read, and who writes them.
+//! Texts that may grow while they are read, and their writers.
 
 ghost use Rattle.std.specs.Prelude.{◌≡◌, ◌≤◌, ◌++◌, List, length, take, IfOk, OnOk};
 ghost use Rattle.std.specs.Io.{ReadsAtMost};
@@ -6,7 +6,7 @@ ghost use Rattle.std.specs.Io.KnownBytes.{Consumes};
 ghost use Rattle.initview_command.specs.Words.{NamedText, KnownTexts};
 ghost use Rattle.initview_command.specs.Writers.{IsWriterAt, KnownWriters};
 
-use host_files::{FolderFault, Unheard, with_folder};
+use host_files::{FolderFault, IgnoringListener, with_folder};
 use init_words::Part;
 use libc::net::poll;
 use libc::types::pollfd;
@@ -19,48 +19,48 @@ use std::rt::{Clock, Files};
 use std::{fs, io};
 use trace_pieces::{PiecedFiles, TraceReader, is_given};
 
-/// Who writes a trace, as its lock answers: init holds it while it writes.
+/// Who writes a trace, according to its lock, which init holds while it writes.
 #[derive(Clone, Copy)]
 pub enum Writer {
-    /// It has no lock: standard input, what is no plain file, or a file system without locks.
+    /// The trace has no lock: it is standard input, not a regular file, or on a file system without locks.
     Unknown,
-    /// No init: the lock is free.
+    /// No init, because the lock is free.
     Nobody,
-    /// An init, and how many seconds ago it wrote last.
+    /// An init, with the seconds since it last wrote.
     Init(u64),
 }
 
 /// A text that may grow while it is read.
 pub trait LiveTrace: Read {
-    /// Reads of what is there already, and gives no byte where it has to wait for more.
+    /// Reads bytes that exist already. Returns 0 if it would have to wait for more.
     fn read_there(&mut self, buf: &mut [u8]) -> io::Result<usize>
         ensures bound { ReadsAtMost result buf.new }
         ensures bytes { IfOk result (λ count. Consumes (Self.remaining self.old)
             (Self.remaining self.new) (take count buf.new)) };
 }
 
-/// What opens a text to follow it while it grows, knows who writes it, and reads folders.
+/// Opens texts to follow them while they grow, knows their writers, and reads folders.
 ///
-/// A contract sees of it the text that stands at a path, all of it, which ends, and its writer, where they are known.
+/// In its contracts a path has a text, all of it, which ends, and a writer, if these are known.
 pub trait LiveTraces {
-    /// The text at a path; None where it isn't known.
+    /// The text at a path, or `None` if it is not known.
     ghost text_at: { Self → KnownTexts };
 
-    /// Who writes the text at a path; None where it isn't known.
+    /// Who writes the text at a path, or `None` if that is not known.
     ghost writer_at: { Self → KnownWriters };
 
-    /// A text that is followed. A read waits for more, and gives no byte where nothing more can come.
+    /// A text that is followed. A read waits for more bytes, and returns 0 if no more can come.
     type Growing: LiveTrace + Drop;
 
     /// Opens the text at a path.
     fn open(&self, alloc: Global, path: &str) -> io::Result<Self::Growing>
         ensures { IfOk result (λ text. Self.Growing.remaining text ≡ text_at self.now path.now) };
 
-    /// Who writes the text at a path: what its lock answers.
+    /// Returns who writes the text at a path, according to its lock.
     fn writer(&self, path: &str) -> Writer
         ensures { IsWriterAt (writer_at self.now) path.now result };
 
-    /// Adds the files of an inittab's folder, as init takes them, behind those that are there.
+    /// Appends the files of an inittab's folder, in init's order.
     fn add_folder(
         &self,
         alloc: Global,
@@ -70,20 +70,20 @@ pub trait LiveTraces {
         ensures { OnOk result ((more : List NamedText)
             × (parts.new.items ≡ parts.old.items ++ more)) };
 
-    /// Whether a program is found: in one of the folders, between which stand colons, or at its path, where that begins
-    /// with `/`. One with another path is another thing for each folder that init is started in, and taken for found.
+    /// Reports whether a program is found: in one of the folders, which are separated by colons, or at its path if that
+    /// begins with `/`. Any other path depends on the folder in which init is started, and is assumed to exist.
     fn has_program(&self, alloc: Global, folders: &str, program: &str) -> Result<bool, AllocError>;
 }
 
-/// The files of the operating system, which may be written to while they are followed. A trace is read with the pieces
-/// before it. Nothing is known of their texts, nor of who writes them.
+/// The files of the operating system, which may grow while they are followed. A trace is read together with the earlier
+/// pieces of it. The contracts know neither the texts nor who writes them.
 #[derive(Drop)]
 pub struct GrowingFiles<'a, R> {
     rt: &'a R,
 }
 
 impl<'a, R> GrowingFiles<'a, R> {
-    /// The files that this system has.
+    /// Creates an opener for the files of this system.
     pub fn new(rt: &'a R) -> GrowingFiles<'a, R> {
         GrowingFiles { rt }
     }
@@ -98,8 +98,8 @@ impl<'a, R: Files<File = File> + Clock + Eprint> LiveTraces for GrowingFiles<'a,
 
     type Growing = GrowingFile<'a, R>;
 
-    /// Standard input for `-`, which ends, as what the system or a shell gives by a path below `/dev/`. Any other is
-    /// opened only where it is a plain file, with the pieces before it, and may grow.
+    /// Opens standard input for `-`. That, and paths below `/dev/` from the system or a shell, have an end. A file at
+    /// any other path is opened only if it is a regular one. It is read after its earlier pieces, and may grow.
     fn open(&self, alloc: Global, path: &str) -> io::Result<GrowingFile<'a, R>> {
         if is_given(path) {
             let path = if path == "-" { "/dev/stdin" } else { path };
@@ -109,7 +109,8 @@ impl<'a, R: Files<File = File> + Clock + Eprint> LiveTraces for GrowingFiles<'a,
         Ok(GrowingFile::Grows(files.open(path)?))
     }
 
-    /// The lock is asked for in the shared form, which keeps no other that asks from its answer, and let go at once.
+    /// Tries to take the lock in shared mode, so that other readers that try are not affected, and releases it
+    /// immediately.
     fn writer(&self, path: &str) -> Writer {
         if is_given(path) {
             return Writer::Unknown;
@@ -129,7 +130,7 @@ impl<'a, R: Files<File = File> + Clock + Eprint> LiveTraces for GrowingFiles<'a,
         let Some(last) = parts.pop() else {
             return Ok(());
         };
-        let mut more = with_folder(self.rt, alloc, last, Some(folder), &mut Unheard)?;
+        let mut more = with_folder(self.rt, alloc, last, Some(folder), &mut IgnoringListener)?;
         parts.append(&mut more)?;
         Ok(())
     }
@@ -148,7 +149,7 @@ impl<'a, R: Files<File = File> + Clock + Eprint> LiveTraces for GrowingFiles<'a,
     }
 }
 
-/// A file stands at the path that may be executed.
+/// Reports whether there is an executable regular file at the path.
 fn is_program(rt: &impl Files, path: &str) -> bool {
     match fs::metadata(rt, path) {
         Ok(found) => found.is_file() && found.mode() & 0o111 != 0,
@@ -156,7 +157,7 @@ fn is_program(rt: &impl Files, path: &str) -> bool {
     }
 }
 
-/// Who writes a file.
+/// Returns who writes a file.
 fn writer_of(rt: &impl Clock, file: &File) -> Writer {
     match file.metadata() {
         Ok(found) if found.is_file() => match file.try_lock_shared() {
@@ -168,7 +169,7 @@ fn writer_of(rt: &impl Clock, file: &File) -> Writer {
     }
 }
 
-/// The seconds from when a file was written last, by the clock that its time is of.
+/// Returns the seconds since a file was last written, by the real-time clock.
 fn seconds_since(rt: &impl Clock, found: &Metadata) -> u64 {
     match (rt.since_1970(), u64::try_from(found.mtime())) {
         (Ok(now), Ok(written)) => now.as_secs().saturating_sub(written),
@@ -176,20 +177,20 @@ fn seconds_since(rt: &impl Clock, found: &Metadata) -> u64 {
     }
 }
 
-/// How long it is waited until a file is looked at again, in milliseconds.
+/// The pause before a file is read again, in milliseconds.
 const PAUSE: i32 = 100;
 
-/// How often at most, which takes some thirteen years.
+/// The maximum number of pauses, which take about thirteen years.
 const PAUSES_LIMIT: u64 = 4_294_967_296;
 
-/// A trace that is followed: one that ends, or one that goes on, in the files that come to stand at its path.
+/// A trace that is followed: one that has an end, or one that continues, also in files that later appear at its path.
 #[derive(Drop)]
 pub enum GrowingFile<'a, R> {
     Ends(File),
     Grows(TraceReader<'a, R>),
 }
 
-/// Waits, and no longer where nothing reads standard output any more, which it tells.
+/// Waits for one pause, or until nothing reads standard output any more, and reports whether that happened.
 fn no_reader_within_pause() -> bool {
     let mut asked = [pollfd {
         fd: 1,
@@ -199,8 +200,8 @@ fn no_reader_within_pause() -> bool {
     poll(&mut asked, PAUSE) > 0
 }
 
-/// Waits until there is a byte. A trace that has had none more for 4,294,967,296 looks is an error, `TimedOut`, and that
-/// nothing reads standard output any more is one, `BrokenPipe`.
+/// Waits until there are bytes to read. Fails with `TimedOut` after 4,294,967,296 attempts, and with `BrokenPipe` if
+/// nothing reads standard output any more.
 fn wait_for_bytes<R: Files<File = File> + Eprint>(
     trace: &mut TraceReader<'_, R>,
     buf: &mut [u8],

@@ -1,4 +1,4 @@
-//! `initview`: what a trace of init says of its entries, and what is to be told of inittabs, on a command line.
+//! The commands of `initview`, which answer questions about a trace of init and about inittabs.
 #![tactic(auto)]
 
 mod asking;

@@ -1,4 +1,4 @@
-//! The plan of an inittab, and how long what init waits for took in a trace, asked for.
+//! The `plan --trace` command: the plan of an inittab, and how long the entries that init waits for took in a trace.
 
 ghost use Rattle.std.specs.Prelude.{◌≡◌, List, IfOk};
 ghost use Rattle.initview_command.specs.Words.{Event, marks_of};
@@ -21,14 +21,14 @@ use program_io::Texts;
 use std::alloc::Global;
 use trace_view::ObservedTrace;
 
-/// The plan of an inittab is asked, and the times of its critical path.
+/// A query for the plan of an inittab, and the times of its critical path.
 #[derive(Drop)]
 struct Timing {
     table: Table,
     level: Option<Level>,
 }
 
-/// The plan, and behind it the times, by the marks of the trace.
+/// Returns the plan followed by the times, which come from the marks of the trace.
 fn timed_plan(
     alloc: Global,
     level: Option<Level>,
@@ -62,7 +62,7 @@ impl Query for Timing {
     }
 }
 
-/// The plan of the files' inittab, and the times of its critical path in the trace.
+/// Answers with the plan of the files' inittab, and the times of its critical path in the trace.
 pub(crate) fn timing_answer<'a, T: Texts, G: LiveTraces>(
     texts: &T,
     growing: &G,

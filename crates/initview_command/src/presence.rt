@@ -1,4 +1,4 @@
-//! How a trace stands by now.
+//! The present state of a trace.
 
 ghost use Rattle.std.specs.Prelude.{◌≡◌, ◌∷◌, ◌+◌, ◌-◌, ◌^◌, min, List, OnOk};
 ghost use Rattle.initview_command.specs.Words.{Clock, Event, time_of, Viewed};
@@ -12,7 +12,7 @@ use std::alloc::Global;
 use trace_events::{Happening, HappeningIn};
 use trace_view::{ObservedTrace, TraceObserver, ViewEnd};
 
-/// Shows the view that the clock has gone on by these seconds.
+/// Shows the view a reading of the clock that is later by these seconds.
 fn show_clock<S: TraceObserver<Global> + Drop>(
     text: &mut ObservedTrace<S>,
     seconds: u64,
@@ -27,7 +27,7 @@ fn show_clock<S: TraceObserver<Global> + Drop>(
     Ok(())
 }
 
-/// Shows the view how the trace stands by now.
+/// Shows the view the present state of the trace.
 pub(crate) fn show_present<S: TraceObserver<Global> + Drop>(
     text: &mut ObservedTrace<S>,
     writer: Writer,
@@ -42,13 +42,13 @@ pub(crate) fn show_present<S: TraceObserver<Global> + Drop>(
     }
 }
 
-/// Tells that a trace that is shown to its end goes no further.
+/// Adds a remark if a trace that is shown to its end is not written any more.
 pub(crate) fn tell_writer(shown: &TraceOutcome, remarks: &mut Remarks) {
     if let (Writer::Nobody, None) = (shown.writer, shown.stop) {
         let path = shown.path;
         writeln!(
             remarks,
-            "initview: no init writes {path}: this is how it ended"
+            "initview: no init is writing {path}; this is its final state"
         );
     }
 }

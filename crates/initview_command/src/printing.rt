@@ -1,6 +1,6 @@
-//! Lines said on an output, in words.
+//! Lines written to an output as text.
 
-use initview_lines::{Line, SayFault, Says, Zone, words_of};
+use initview_lines::{Line, LineSink, SinkFault, Zone, words_of};
 use jiff::Error;
 use jiff::tz::{SystemTimeZone, TimeZoneDatabase};
 use libc::net::{POLLERR, poll};
@@ -11,7 +11,7 @@ use std::io;
 use std::io::{ErrorKind, Write};
 use std::rt::{Env, Files};
 
-/// The zone of the system, and the zones that it may name.
+/// The time zone of the system, and the zones that it may refer to.
 #[derive(Drop)]
 struct SystemZone {
     zone: SystemTimeZone,
@@ -19,7 +19,8 @@ struct SystemZone {
 }
 
 impl SystemZone {
-    /// Reads the zone that TZ names, else /etc/localtime; None where there is none of these, which is UTC.
+    /// Reads the zone that TZ names, or otherwise `/etc/localtime`. Returns `None` if there is neither, which means
+    /// UTC.
     fn read<R: Env + Files + AllocGlobal + Clone + Drop>(
         rt: &R,
     ) -> Result<Option<SystemZone>, Error> {
@@ -37,7 +38,7 @@ impl SystemZone {
         Ok(Some(SystemZone { zone, known }))
     }
 
-    /// The zone, which was found before.
+    /// Returns the zone, which was read before.
     fn zone(&self) -> Zone<'_> {
         match self.zone.time_zone(&self.known) {
             Ok(zone) => Zone::Local(zone),
@@ -46,7 +47,8 @@ impl SystemZone {
     }
 }
 
-/// An output on which lines are worded, and the system that has its zone. Nothing is known of what was said.
+/// An output to which lines are written as text, with the system that has its time zone. The contracts do not know what
+/// was written.
 #[derive(Drop)]
 pub struct Printed<'a, R, W: Write + Drop> {
     rt: &'a R,
@@ -57,7 +59,7 @@ pub struct Printed<'a, R, W: Write + Drop> {
 }
 
 impl<'a, R, W: Write + Drop> Printed<'a, R, W> {
-    /// The output. Times are in UTC.
+    /// Creates the output. Times are in UTC.
     pub fn on(rt: &'a R, out: W) -> Printed<'a, R, W> {
         Printed {
             rt,
@@ -69,13 +71,14 @@ impl<'a, R, W: Write + Drop> Printed<'a, R, W> {
     }
 }
 
-/// Writes a text, and sees that it is out.
+/// Writes a text and flushes the output.
 fn write_whole<W: Write>(out: &mut W, text: &[u8]) -> io::Result<()> {
     write_text(out, text)?;
     out.flush()
 }
 
-/// Standard output is a pipe that nobody reads any more. What hung up, as a terminal, has POLLHUP beside POLLERR.
+/// Reports whether standard output is a pipe that nobody reads any more. A terminal that hung up has POLLHUP in
+/// addition to POLLERR.
 fn is_pipe_without_reader() -> bool {
     let mut asked = [pollfd {
         fd: 1,
@@ -85,7 +88,7 @@ fn is_pipe_without_reader() -> bool {
     poll(&mut asked, 0) > 0 && asked[0].revents == POLLERR
 }
 
-impl<R: Env + Files + AllocGlobal + Clone + Drop, W: Write + Drop> Says for Printed<'_, R, W> {
+impl<R: Env + Files + AllocGlobal + Clone + Drop, W: Write + Drop> LineSink for Printed<'_, R, W> {
     ghost use Rattle.std.specs.Prelude.{None};
 
     ghost said = { λ printed. record {
@@ -94,24 +97,24 @@ impl<R: Env + Files + AllocGlobal + Clone + Drop, W: Write + Drop> Says for Prin
       local = printed.is_local;
     } };
 
-    fn say(&mut self, alloc: Global, lines: Vec<Line>) -> Result<(), SayFault> {
+    fn say(&mut self, alloc: Global, lines: Vec<Line>) -> Result<(), SinkFault> {
         let zone = match &self.zone {
             Some(zone) => zone.zone(),
             None => Zone::Utc,
         };
         let Ok(text) = words_of(alloc, zone, &lines) else {
-            return Err(SayFault::Memory);
+            return Err(SinkFault::Memory);
         };
         match write_whole(&mut self.out, &text) {
             Ok(()) => Ok(()),
             Err(error) => {
                 self.is_unread = error.kind() == ErrorKind::BrokenPipe;
-                Err(SayFault::Unwritten)
+                Err(SinkFault::Unwritten)
             }
         }
     }
 
-    /// A write has told it, or standard output does.
+    /// Reports whether a failed write or the state of standard output shows that nobody reads the output any more.
     fn is_unread(&mut self) -> bool {
         self.is_unread = self.is_unread || is_pipe_without_reader();
         self.is_unread

@@ -1,4 +1,4 @@
-//! The programs of an inittab, looked for in folders.
+//! Searches folders for the programs of an inittab.
 
 ghost use Rattle.std.specs.Prelude.{◌≡◌, true, IfOk, OnOk};
 ghost use Rattle.std.specs.List.{list_all};
@@ -11,7 +11,7 @@ use std::alloc::Global;
 use std::str;
 use text_lines::first_line;
 
-/// The program isn't in the folders. One that is no text isn't looked for.
+/// Reports whether the program is in none of the folders. A name that is not UTF-8 is not searched for.
 fn is_missing<G: LiveTraces>(
     growing: &G,
     alloc: Global,
@@ -24,7 +24,7 @@ fn is_missing<G: LiveTraces>(
     }
 }
 
-/// Adds a warning for each line of a file whose program isn't in the folders.
+/// Adds a warning for each line of a file whose program is in none of the folders.
 fn add_text<G: LiveTraces>(
     found: &mut Vec<LineWarning>,
     growing: &G,
@@ -50,7 +50,7 @@ fn add_text<G: LiveTraces>(
     Ok(())
 }
 
-/// Warnings about the lines of files whose program isn't in the folders.
+/// Returns the warnings about the lines of files whose program is in none of the folders.
 pub(crate) fn missing<G: LiveTraces>(
     growing: &G,
     alloc: Global,

@@ -1,4 +1,4 @@
-//! Why words are no command line: the reason, what was probably meant, and the command's line of usage.
+//! Reports of a rejected command line: the reason, what was probably meant, and the usage of the command.
 
 ghost use Rattle.std.specs.Prelude.{◌≡◌, string_bytes, IfOk};
 ghost use Rattle.command_words.specs.declared.faults.WordFault.TheVariants.{Memory};
@@ -15,7 +15,7 @@ use init_words::Id;
 use program_io::Reporter;
 use std::alloc::{AllocError, Global};
 
-/// A command, and how many words stand behind it at least and at most.
+/// A command, with the minimum and maximum number of arguments after it.
 type CommandRow = (&'static str, usize, usize);
 
 const COMMANDS: &[CommandRow] = &[
@@ -47,7 +47,7 @@ fn command_meant(name: &str) -> Option<&'static str> {
     None
 }
 
-/// The line of usage of a command.
+/// Returns the line of usage of a command.
 fn usage_of(name: &str) -> &'static str {
     for line in USAGE.lines() {
         let line = line.trim_start();
@@ -58,7 +58,7 @@ fn usage_of(name: &str) -> &'static str {
             }
         }
     }
-    "initview why|status|left|timeline|follow|lint|diff|plan ..; --help says more"
+    "initview why|status|left|timeline|follow|lint|diff|plan ..; see initview --help"
 }
 
 fn usage_line(alloc: Global, usage: &str) -> Result<String, AllocError>
@@ -70,24 +70,24 @@ fn usage_line(alloc: Global, usage: &str) -> Result<String, AllocError>
     Ok(line)
 }
 
-/// Why the value of an option is refused, and which it is.
+/// Returns the reason for rejecting the value of an option, together with the option and the value.
 fn value_reason<'a>(matches: &ArgMatches<'a>) -> Option<(&'static str, &'a str, &'static str)> {
     let level = word_of(matches, "--level");
     match (level, word_of(matches, "--width"), word_of(matches, "-n")) {
         (Some(level), _, _) if level_in(level).is_none() => {
-            Some(("--level", level, "a LEVEL is one of 0 to 9 and S"))
+            Some(("--level", level, "not a runlevel (0 to 9, S)"))
         }
         (_, Some(width), _) if width_of(width).is_none() => {
-            Some(("--width", width, "a width N is 40 to 1000 columns"))
+            Some(("--width", width, "not between 40 and 1000 columns"))
         }
         (_, _, Some(count)) if last_of(count).is_none() => {
-            Some(("-n", count, "N is 1 to 10000 lines"))
+            Some(("-n", count, "not between 1 and 10000 lines"))
         }
         _ => None,
     }
 }
 
-/// The word that is to be an id.
+/// Returns the argument that has to be an id.
 fn id_in<'a>(name: &str, words: &[&'a str]) -> Option<&'a str> {
     match (name, words) {
         ("why", [id, ..]) => Some(*id),
@@ -96,7 +96,7 @@ fn id_in<'a>(name: &str, words: &[&'a str]) -> Option<&'a str> {
     }
 }
 
-/// What is wrong with the words behind a command, and with the values of options.
+/// Returns what is wrong with the arguments of a command, and with the values of options.
 fn words_reason(
     alloc: Global,
     matches: &ArgMatches,
@@ -106,16 +106,16 @@ fn words_reason(
     let (name, least, most) = command;
     match (value_reason(matches), words.get(most), id_in(name, words)) {
         (Some((option, value, reason)), _, _) => format!(in alloc; "{option} {value}: {reason}"),
-        _ if words.len() < least => format!(in alloc; "{name}: a word is missing"),
-        (None, Some(word), _) => format!(in alloc; "{name}: one word is too many: {word}"),
+        _ if words.len() < least => format!(in alloc; "{name}: missing argument"),
+        (None, Some(word), _) => format!(in alloc; "{name}: unexpected argument: {word}"),
         (None, None, Some(word)) if Id::read(word.as_bytes()).is_none() => {
-            format!(in alloc; "{word}: an ID is 1 to 8 characters of those that inittab(5) allows")
+            format!(in alloc; "{word}: not an id: it has 1 to 8 characters that inittab(5) allows")
         }
-        _ => format!(in alloc; "{name}: an option is given beside one that rules it out"),
+        _ => format!(in alloc; "{name}: these options cannot be combined"),
     }
 }
 
-/// The options that are not those of what is asked, in a line each.
+/// Returns the options that the command does not accept, one per line.
 fn options_reason(
     alloc: Global,
     matches: &ArgMatches,
@@ -131,24 +131,24 @@ fn options_reason(
             } else {
                 "\ninitview: "
             };
-            write!(reason, "{before}{name}: no such option: {option}")?;
+            write!(reason, "{before}{name}: unknown option: {option}")?;
         }
     }
     Ok(reason)
 }
 
-/// There is no such command, and which was probably meant.
+/// Returns that there is no such command, and which one was probably meant.
 fn command_reason(alloc: Global, name: &str) -> Result<String, AllocError> {
     match command_meant(name) {
-        Some(meant) => format!(in alloc; "no such command: {name}: {meant}?"),
-        None => format!(in alloc; "no such command: {name}"),
+        Some(meant) => format!(in alloc; "unknown command: {name}; did you mean {meant}?"),
+        None => format!(in alloc; "unknown command: {name}"),
     }
 }
 
-/// Why options and words, of which the first is the command, are no command line.
+/// Returns why the options and words, of which the first is the command, are rejected.
 fn refusal_of(alloc: Global, matches: &ArgMatches, words: &[&str]) -> Result<String, AllocError> {
     let [name, rest @ ..] = words else {
-        return String::from_str(alloc, "a word is missing");
+        return String::from_str(alloc, "missing argument");
     };
     match (command_of(*name), asked(matches, words)) {
         (Some(_), Some(what)) => options_reason(alloc, matches, *name, &what),
@@ -157,7 +157,7 @@ fn refusal_of(alloc: Global, matches: &ArgMatches, words: &[&str]) -> Result<Str
     }
 }
 
-/// Tells why options and words are no command line, and gives the exit status.
+/// Reports why the options and words are rejected, and returns the exit status.
 pub(crate) fn report_refusal<E: Reporter>(
     alloc: Global,
     matches: &ArgMatches,
@@ -176,7 +176,7 @@ pub(crate) fn report_refusal<E: Reporter>(
     }
 }
 
-/// Tells why words weren't read, and gives the exit status.
+/// Reports why the arguments could not be parsed, and returns the exit status.
 pub(crate) fn report_fault<E: Reporter>(
     alloc: Global,
     fault: &WordFault,
@@ -197,7 +197,7 @@ pub(crate) fn report_fault<E: Reporter>(
     }
 }
 
-/// Tells a reason, and the usage of the command of this name; or the whole usage where help is asked for.
+/// Reports a reason with the usage of the command of this name, or the whole usage if help is requested.
 fn report_reason<E: Reporter>(alloc: Global, reason: &str, name: &str, err: &mut E) -> u8
     ensures { ReportsRefusal result (E.reports err.old) (E.reports err.new) }
 {

@@ -1,4 +1,4 @@
-//! What becomes of what runs where init reads another inittab, asked for.
+//! The `diff --trace` command: what happens to the running children if init reads another inittab.
 
 ghost use Rattle.std.specs.Prelude.{◌≡◌, ◌∷◌, List, OnOk};
 ghost use Rattle.initview_command.specs.Words.{NewTable, Event, Viewed, gone_on, reloaded, with_request};
@@ -22,7 +22,8 @@ use std::alloc::Global;
 use trace_events::{Happening, HappeningIn};
 use trace_view::ObservedTrace;
 
-/// What becomes of what runs is asked, where init reads the new inittab in the old one's place, and goes to the level.
+/// A query for what happens to the running children if init reads the new inittab in place of the old one and goes to
+/// the level.
 #[derive(Drop)]
 struct Reload {
     old: Table,
@@ -30,7 +31,7 @@ struct Reload {
     level: Option<Level>,
 }
 
-/// Shows the view that a level is asked for, where one is named.
+/// Shows the view a request for a level, if one is given.
 fn ask(text: &mut ObservedTrace<()>, level: Option<Level>) -> Result<(), Memory>
     ensures { OnOk result ((past : List Event) → Viewed text.old.viewing.viewing past
         → Viewed text.new.viewing.viewing (with_request level past)) }
@@ -44,7 +45,7 @@ fn ask(text: &mut ObservedTrace<()>, level: Option<Level>) -> Result<(), Memory>
     Ok(())
 }
 
-/// Shows the view that init goes on to a level that is asked for.
+/// Shows the view that init continues to a level that is requested.
 fn go_on(text: &mut ObservedTrace<()>) -> Result<(), Memory>
     ensures { OnOk result ((past : List Event) → Viewed text.old.viewing.viewing past
         → Viewed text.new.viewing.viewing (gone_on past)) }
@@ -66,8 +67,8 @@ fn show_table(alloc: Global, text: &mut ObservedTrace<()>, table: &Table) -> Res
     Ok(())
 }
 
-/// Shows the view that init reads an inittab, and that it goes on to a level, where one is named or was asked for. No law
-/// forbids either at any time.
+/// Shows the view that init reads an inittab, and continues to a level if one is given or was requested. No law ever
+/// forbids either.
 fn read_anew(
     alloc: Global,
     text: &mut ObservedTrace<()>,
@@ -103,7 +104,8 @@ impl Query for Reload {
     }
 }
 
-/// What becomes of what runs, where init reads the second file in the place of the first, and goes to the level.
+/// Answers what happens to the running children if init reads the second file in place of the first, and goes to the
+/// level.
 pub(crate) fn reload_answer<'a, T: Texts, G: LiveTraces>(
     texts: &T,
     growing: &G,

@@ -1,4 +1,4 @@
-//! What is asked of a trace, answered, and answers written.
+//! Answers queries about a trace, and writes answers.
 
 ghost use Rattle.std.specs.Prelude.{◌≡◌, ◌<◌, ◌^◌, List, ℕ, [], length, Option, IfOk, IfErr};
 ghost use Rattle.initview_command.specs.Words.{DEVICE_FAULT, Event, IsTextAt, Viewed, ViewEnd};
@@ -13,12 +13,12 @@ use crate::growing::{LiveTraces, Writer};
 use crate::presence::{show_present, tell_writer};
 use crate::telling::{Refusal, report_no_answer, report_unsaid};
 use init_words::Memory;
-use initview_lines::{Line, Says, is_starting, left_lines, row_line, status_lines};
+use initview_lines::{Line, LineSink, is_starting, left_lines, row_line, status_lines};
 use program_io::{DEVICE_FAULT, DONE, PieceTaker, REFUSED, Reporter, Reports, Texts, UNLAWFUL};
 use std::alloc::{AllocError, Global};
 use trace_view::{ObservedTrace, Row, TraceObserver, TraceView, ViewEnd};
 
-/// The trace of a path that was shown, who writes it, and why it is shown no further.
+/// The trace at a path after it was shown, who writes it, and why it is shown no further.
 #[derive(Clone, Copy)]
 pub(crate) struct TraceOutcome<'a> {
     pub(crate) path: &'a str,
@@ -26,25 +26,25 @@ pub(crate) struct TraceOutcome<'a> {
     pub(crate) stop: Option<ViewEnd>,
 }
 
-/// What is told before an answer is written.
+/// Remarks that are reported before an answer is written.
 pub(crate) type Remarks = Reports<Vec<u8>>;
 
-/// What is written, and the exit status.
+/// The lines of an answer, and the exit status.
 pub(crate) type Answer = (Vec<Line>, u8);
 
-/// What is asked of a trace.
+/// A query about a trace.
 pub(crate) trait Query: Drop {
-    /// What sees the happenings for it.
+    /// The observer that sees the happenings for the query.
     type Seen: TraceObserver<Global> + Drop;
 
-    /// What is written and the exit status, by the path of the trace, who writes it, why it is shown no further, and its
+    /// The lines and the exit status, for the path of the trace, who writes it, why it is shown no further, and its
     /// past.
     ghost gives: { Self → List ℕ → Writer → Option ViewEnd → List Event → List Line × ℕ };
 
-    /// Tells what the answer can't say of the trace.
+    /// Adds remarks about the trace that the answer itself can't contain.
     fn remark(&self, _view: &TraceView, _shown: &TraceOutcome, _remarks: &mut Remarks) {}
 
-    /// What is written, and the exit status.
+    /// Returns the lines of the answer, and the exit status.
     fn answer(
         self,
         alloc: Global,
@@ -64,11 +64,11 @@ pub(crate) trait Query: Drop {
 struct FileText<S: TraceObserver<Global> + Drop> {
     text: ObservedTrace<S>,
     begun: bool,
-    /// The program that unpacks it, where it is compressed.
+    /// The program that unpacks the text, if it is compressed.
     unpacker: Option<&'static str>,
 }
 
-/// The program that unpacks a text that begins so, where that is compressed.
+/// Returns the program that unpacks a text that begins like this, if it is compressed.
 fn unpacker(piece: &[u8]) -> Option<&'static str> {
     match piece {
         [0x1f, 0x8b, ..] => Some("zcat"),
@@ -78,7 +78,8 @@ fn unpacker(piece: &[u8]) -> Option<&'static str> {
     }
 }
 
-/// A text of which nothing was taken, nor seen, on the heap: a function that has one in its frame is dear to prove.
+/// Allocates a text of which nothing was read or seen. It is on the heap because functions with such a text in their
+/// frame are expensive to prove.
 fn file_text<S: TraceObserver<Global> + Drop>(alloc: Global) -> Result<Box<FileText<S>>, Memory>
     ensures { IfOk result (λ file. HasSeenText S.has_seen file.value.text []) }
 {
@@ -107,7 +108,7 @@ impl<S: TraceObserver<Global> + Drop> PieceTaker for FileText<S> {
     }
 }
 
-/// The exit status of a child that runs: 4, unknown, where no init writes the trace.
+/// Returns the exit status for a child that runs: 4, unknown, if no init writes the trace.
 fn running_status(writer: Writer) -> u8
     ensures { result ≡ running_status writer }
 {
@@ -118,8 +119,8 @@ fn running_status(writer: Writer) -> u8
     }
 }
 
-/// The exit status of what the LSB names `status`: that of a child for an id that has one, 3 for one that doesn't, 4 for
-/// one that the trace doesn't know.
+/// Returns the exit status of `status` in the LSB: that of a running child for an id that has one, 3 for one that does
+/// not, 4 for one that the trace does not know.
 fn lsb_status(writer: Writer, row: &Row) -> u8
     ensures { result ≡ lsb_status writer row.now }
 {
@@ -132,7 +133,7 @@ fn lsb_status(writer: Writer, row: &Row) -> u8
     }
 }
 
-/// The exit status of a trace that was shown up to its end, or up to here.
+/// Returns the exit status for a trace that was shown to its end, or up to this point.
 pub(crate) fn stop_status(stop: Option<ViewEnd>) -> u8
     ensures { result ≡ stop_status stop }
 {
@@ -144,7 +145,7 @@ pub(crate) fn stop_status(stop: Option<ViewEnd>) -> u8
     }
 }
 
-/// The exit status of an answer: of one id's row unknown where the trace was not shown up to its end.
+/// Returns the exit status of an answer. That of a single id is unknown if the trace was not shown to its end.
 fn status_of(view: &TraceView, question: &TraceQuery, writer: Writer, stop: Option<ViewEnd>) -> u8
     ensures { (past : List Event) → Viewed view.now past
         → result ≡ status_by question.now writer stop past }
@@ -159,7 +160,7 @@ fn status_of(view: &TraceView, question: &TraceQuery, writer: Writer, stop: Opti
     }
 }
 
-/// The answer to a question.
+/// Returns the lines that answer a question.
 fn answer_lines(
     alloc: Global,
     view: &TraceView,
@@ -175,15 +176,16 @@ fn answer_lines(
     }
 }
 
-/// Tells of each start that is open what to do.
+/// Adds a remark for each open start that says what to do.
 fn tell_starts(view: &TraceView, path: &str, remarks: &mut Remarks) {
     for entry in view.table().entries() {
         if is_starting(view, &entry.id) {
             let id = entry.id.as_str();
             writeln!(
                 remarks,
-                "initview: {path}: {id}: its last start is open: a child may live that has no number here: it is in the \
-                 session of init, where ps -e -o sid,pid,args has it"
+                "initview: {path}: {id}: the outcome of its last start is unknown: a child whose \
+                 number is not here may be running; look for it in the session of init with ps -e \
+                 -o sid,pid,args"
             );
         }
     }
@@ -216,7 +218,7 @@ impl Query for TraceQuery {
     }
 }
 
-/// Reads the trace of a path.
+/// Reads the trace at a path.
 fn read_trace<'a, T: Texts, S: TraceObserver<Global> + Drop>(
     texts: &T,
     alloc: Global,
@@ -237,7 +239,7 @@ fn read_trace<'a, T: Texts, S: TraceObserver<Global> + Drop>(
     }
 }
 
-/// The text begins within a run.
+/// Reports whether the text begins in the middle of a run.
 fn is_within(stop: Option<ViewEnd>) -> bool
     ensures { result ≡ is_within stop }
 {
@@ -247,7 +249,7 @@ fn is_within(stop: Option<ViewEnd>) -> bool
     }
 }
 
-/// What is answered of the trace of a path, unless that begins within a run.
+/// Answers a query about the trace at a path, unless it begins in the middle of a run.
 pub(crate) fn trace_answer<'a, T: Texts, G: LiveTraces, Q: Query>(
     texts: &T,
     growing: &G,
@@ -271,8 +273,8 @@ pub(crate) fn trace_answer<'a, T: Texts, G: LiveTraces, Q: Query>(
     Ok(query.answer(alloc, &mut file.text, &shown)?)
 }
 
-/// Tells the remarks, writes an answer, and gives the exit status.
-pub(crate) fn write<S: Says, E: Reporter>(
+/// Reports the remarks, writes an answer, and returns the exit status.
+pub(crate) fn write<S: LineSink, E: Reporter>(
     alloc: Global,
     answer: Result<Answer, Refusal>,
     remarks: &Remarks,
@@ -288,8 +290,8 @@ pub(crate) fn write<S: Says, E: Reporter>(
     }
 }
 
-/// Says lines, and gives the exit status, which is this where all are said.
-pub(crate) fn say_lines<S: Says, E: Reporter>(
+/// Writes lines and returns the exit status, which is `status` if all are written.
+pub(crate) fn say_lines<S: LineSink, E: Reporter>(
     alloc: Global,
     lines: Vec<Line>,
     status: u8,
@@ -304,7 +306,7 @@ pub(crate) fn say_lines<S: Says, E: Reporter>(
     }
 }
 
-/// Tells up to which line a trace is shown, where that isn't all of it.
+/// Reports up to which line a trace is shown, if not all of it is.
 pub(crate) fn tell_stop<E: Reporter>(
     path: &str,
     stop: Option<ViewEnd>,
@@ -316,26 +318,26 @@ pub(crate) fn tell_stop<E: Reporter>(
             let why = law.words();
             writeln!(
                 err,
-                "initview: {path}:{line}: {why}: shown up to the line before it"
+                "initview: {path}:{line}: {why}; shown up to the line before it"
             );
         }
         Some(ViewEnd::Torn(line)) => {
             writeln!(
                 err,
-                "initview: {path}:{line}: not a line of a trace: shown up to the line before it"
+                "initview: {path}:{line}: not a line of a trace; shown up to the line before it"
             );
         }
         Some(ViewEnd::Within) => {
             writeln!(
                 err,
-                "initview: {path} begins within a run: show it with the pieces before it"
+                "initview: {path} begins within a run; show it together with the pieces before it"
             );
         }
         None => {
             if let Some(line) = unfinished {
                 writeln!(
                     err,
-                    "initview: {path}:{line}: the happening is not finished: shown up to the line before it"
+                    "initview: {path}:{line}: the happening is incomplete; shown up to the line before it"
                 );
             }
         }

@@ -1,11 +1,11 @@
-//! What is asked of inittabs, answered.
+//! The commands about inittabs: `lint`, `diff` and `plan`.
 
 ghost use Rattle.std.specs.Prelude.{◌≡◌, ◌++◌, ◌∷◌, [], map, drop, ℕ, List, IfOk, IfErr, OnOk};
 ghost use Rattle.initview_command.specs.Words.{DEVICE_FAULT, IsTextAt, NamedText};
 ghost use Rattle.initview_command.specs.Asking.{path_texts};
 ghost use Rattle.initview_command.specs.Refusals.{refusal_status};
 ghost use Rattle.initview_command.specs.Showing.{answer_value};
-ghost use Rattle.initview_command.specs.Tables.{Answers, AreFiles, AreFilesAt, AreNone, FailsBy, IsAnswer, IsRefused, NoneOf, found_status, level_asked, lint_by, old_of, plan_by, table_in};
+ghost use Rattle.initview_command.specs.Tables.{Answers, AreFiles, AreFilesAt, AreNone, FailsWith, IsAnswer, IsRefused, NoneOf, found_status, level_asked, lint_by, old_of, plan_by, table_in};
 
 use crate::asking::{Paths, TableQuestion};
 use crate::growing::LiveTraces;
@@ -20,7 +20,7 @@ use program_io::{DONE, REFUSED, Reporter, Texts};
 use std::alloc::{AllocError, Global};
 use std::io;
 
-/// Reads the file of a path, and adds it to the others.
+/// Reads the file at a path and appends it to the others.
 fn add_file<T: Texts>(texts: &T, alloc: Global, path: &str, parts: &mut Vec<Part>) -> io::Result<()>
     ensures { OnOk result ((text : List ℕ) × IsTextAt (T.text_at texts.now) path.now text
         × (parts.new.items
@@ -32,7 +32,7 @@ fn add_file<T: Texts>(texts: &T, alloc: Global, path: &str, parts: &mut Vec<Part
     Ok(())
 }
 
-/// Reads the files of the paths, in their order.
+/// Reads the files at the paths, in order.
 fn read_named<'a, T: Texts>(
     texts: &T,
     alloc: Global,
@@ -51,7 +51,7 @@ fn read_named<'a, T: Texts>(
     Ok(parts)
 }
 
-/// Reads the files of the paths, in their order, and behind them those of a folder, where one is named.
+/// Reads the files at the paths, in order, and after them those of a folder if one is given.
 pub(crate) fn read_files<'a, T: Texts, G: LiveTraces>(
     texts: &T,
     growing: &G,
@@ -72,7 +72,7 @@ pub(crate) fn read_files<'a, T: Texts, G: LiveTraces>(
     }
 }
 
-/// The exit status of what was found: 1 with faults, 2 with warnings alone.
+/// Returns the exit status for what was found: 1 for faults, 2 for warnings only.
 fn found_status(found: Findings) -> u8
     ensures { result ≡ found_status found }
 {
@@ -83,26 +83,26 @@ fn found_status(found: Findings) -> u8
     }
 }
 
-/// Says that an inittab has lines that are left out, and what tells which.
+/// Adds a remark that init ignores lines of an inittab, and which command lists them.
 fn tell_faulty(parts: &[Part], faults: &[PartFault], remarks: &mut Remarks) {
     let count = faults.len();
     if let (Some(part), true) = (parts.first(), count > 0) {
         let name = part.name.as_str();
         writeln!(
             remarks,
-            "initview: {name}: lines that are left out: {count}: initview lint says which"
+            "initview: {name}: lines ignored: {count}; run initview lint to list them"
         );
     }
 }
 
-/// The table of files.
+/// Returns the table of the files.
 pub(crate) fn table_in(
     alloc: Global,
     parts: &[Part],
     remarks: &mut Remarks,
 ) -> Result<Table, TableFault>
     ensures table { IfOk result (λ table. table ≡ table_in parts.now) }
-    ensures fault { IfErr result (FailsBy (AreNone parts.now)) }
+    ensures fault { IfErr result (FailsWith (AreNone parts.now)) }
 {
     match read_parts(alloc, parts) {
         Ok((table, faults)) => {
@@ -115,7 +115,7 @@ pub(crate) fn table_in(
     }
 }
 
-/// The level that is asked about: the one that is named, else the table's default, else S.
+/// Returns the level that a command is about: the given one, otherwise the table's default, otherwise S.
 pub(crate) fn level_asked(level: Option<Level>, table: &Table) -> Level
     ensures { result ≡ level_asked level table.now }
 {
@@ -125,11 +125,11 @@ pub(crate) fn level_asked(level: Option<Level>, table: &Table) -> Level
     }
 }
 
-/// The faults and warnings of an inittab, with further ones, and the exit status.
+/// Returns the faults and warnings of an inittab, with further warnings, and the exit status.
 fn lint_answer(alloc: Global, parts: &[Part], missing: &[LineWarning]) -> Result<Answer, TableFault>
     ensures told { IfOk result (λ given. (given.0.items ≡ (lint_by parts.now missing.now).0)
         × (given.1 ≡ (lint_by parts.now missing.now).1)) }
-    ensures fault { IfErr result (FailsBy (AreNone parts.now)) }
+    ensures fault { IfErr result (FailsWith (AreNone parts.now)) }
 {
     match lint_parts(alloc, parts, missing) {
         Ok((lines, found)) => Ok((lines, found_status(found))),
@@ -139,7 +139,7 @@ fn lint_answer(alloc: Global, parts: &[Part], missing: &[LineWarning]) -> Result
     }
 }
 
-/// The files behind the first.
+/// Returns the files after the first one.
 fn after_first(parts: &[Part]) -> &[Part]
     ensures { result.now ≡ drop 1 parts.now }
 {
@@ -149,8 +149,8 @@ fn after_first(parts: &[Part]) -> &[Part]
     }
 }
 
-/// The files of the old inittab of a diff, as a slice: the second file is put before the first, since both tables go on in
-/// the files behind them.
+/// Returns the files of the old inittab of a diff as a slice. The first two files are swapped for that, because both
+/// tables continue in the files after them.
 #[tactic(auto, using(crate::proofs::Files::old_short, crate::proofs::Files::old_swapped))]
 fn old_of(parts: &mut [Part]) -> &[Part]
     ensures { result.now ≡ old_of parts.old }
@@ -162,7 +162,7 @@ fn old_of(parts: &mut [Part]) -> &[Part]
     after_first(parts)
 }
 
-/// What an inittab starts on the way to a level.
+/// Returns what an inittab starts on the way to a level.
 pub(crate) fn plan_of(
     alloc: Global,
     level: Option<Level>,
@@ -173,7 +173,7 @@ pub(crate) fn plan_of(
     Ok(plan_lines(alloc, level_asked(level, table), table)?)
 }
 
-/// The old and the new table of a diff.
+/// Returns the old and the new table of a diff.
 pub(crate) fn old_and_new(
     alloc: Global,
     parts: &mut [Part],
@@ -181,14 +181,14 @@ pub(crate) fn old_and_new(
 ) -> Result<(Table, Table), TableFault>
     ensures tables { IfOk result (λ both. (both.0 ≡ table_in (old_of parts.old))
         × (both.1 ≡ table_in (drop 1 parts.old))) }
-    ensures fault { IfErr result (FailsBy (NoneOf parts.old)) }
+    ensures fault { IfErr result (FailsWith (NoneOf parts.old)) }
 {
     let new = table_in(alloc, after_first(parts), remarks)?;
     let old = table_in(alloc, old_of(parts), remarks)?;
     Ok((old, new))
 }
 
-/// What is answered of inittabs, and the exit status.
+/// Answers a question about inittabs, and returns the exit status.
 fn answer<G: LiveTraces>(
     growing: &G,
     alloc: Global,
@@ -199,7 +199,7 @@ fn answer<G: LiveTraces>(
 ) -> Result<Answer, TableFault>
     ensures told { IfOk result (λ given.
         IsAnswer question parts.old given.0.items given.1) }
-    ensures fault { IfErr result (FailsBy (IsRefused question parts.old)) }
+    ensures fault { IfErr result (FailsWith (IsRefused question parts.old)) }
 {
     match question {
         TableQuestion::Lint => lint_answer(alloc, parts, &[]),
@@ -222,7 +222,7 @@ fn answer<G: LiveTraces>(
     }
 }
 
-/// What is answered of the inittabs at the paths.
+/// Answers a question about the inittabs at the paths.
 pub(crate) fn tables_answer<'a, T: Texts, G: LiveTraces>(
     texts: &T,
     growing: &G,

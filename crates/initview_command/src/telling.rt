@@ -1,30 +1,30 @@
-//! Why nothing is said.
+//! Reports of missing answers and of failed output.
 
 ghost use Rattle.std.specs.Prelude.{◌≡◌};
-ghost use Rattle.initview_command.specs.Words.{HasReported, SaysNothing};
+ghost use Rattle.initview_command.specs.Words.{AppendsReport, WritesNothing};
 ghost use Rattle.initview_command.specs.Refusals.{fault_status, memory_line, refusal_status};
-ghost use Rattle.initview_command.specs.Showing.{EndsUnsaid};
+ghost use Rattle.initview_command.specs.Showing.{EndsUnwritten};
 
 use host_files::FolderFault;
 use init_words::Memory;
 use inittab_text::TableFault;
-use initview_lines::{SayFault, Says};
+use initview_lines::{LineSink, SinkFault};
 use jiff::Error;
 use program_io::{DEVICE_FAULT, DONE, REFUSED, Reporter, report_failure, report_fault};
 use std::io;
 
-/// Why there is no answer.
+/// The reason why there is no answer.
 #[derive(Drop)]
 pub(crate) enum Refusal<'a> {
-    /// The file of a path can't be read.
+    /// The file at a path can't be read.
     Unread(&'a str, io::Error),
-    /// A folder of files of inittabs can't be read.
+    /// A folder with files of inittabs can't be read.
     Folder(FolderFault),
-    /// The trace of a path is compressed, and this program unpacks it.
+    /// The trace at a path is compressed; this program unpacks it.
     Packed(&'a str, &'static str),
-    /// The trace begins within a run, as is remarked.
+    /// The trace begins in the middle of a run, as a remark says.
     Within,
-    /// Files are no inittab.
+    /// The files are not an inittab.
     Table(TableFault),
     /// Out of memory.
     Memory,
@@ -52,7 +52,7 @@ impl<'a> From<TableFault> for Refusal<'a> {
     }
 }
 
-/// Tells why there is no answer, and gives the exit status.
+/// Reports why there is no answer, and returns the exit status.
 pub(crate) fn report_no_answer<E: Reporter>(refusal: &Refusal, err: &mut E) -> u8
     ensures { result ≡ refusal_status refusal.now }
 {
@@ -65,7 +65,7 @@ pub(crate) fn report_no_answer<E: Reporter>(refusal: &Refusal, err: &mut E) -> u
         Refusal::Packed(path, unpacker) => {
             writeln!(
                 err,
-                "initview: {path} is compressed: {unpacker} {path} | initview status -"
+                "initview: {path} is compressed; use {unpacker} {path} | initview status -"
             );
             DEVICE_FAULT
         }
@@ -75,7 +75,7 @@ pub(crate) fn report_no_answer<E: Reporter>(refusal: &Refusal, err: &mut E) -> u
     }
 }
 
-/// Tells why files are no inittab, and gives the exit status.
+/// Reports why files are not an inittab, and returns the exit status.
 fn report_no_table<E: Reporter>(fault: TableFault, err: &mut E) -> u8
     ensures { result ≡ fault_status fault }
 {
@@ -86,22 +86,27 @@ fn report_no_table<E: Reporter>(fault: TableFault, err: &mut E) -> u8
     }
 }
 
-/// Tells why lines were not all said, and gives the exit status. Of lines that nobody reads any more nothing is told.
-pub(crate) fn report_unsaid<S: Says, E: Reporter>(fault: SayFault, out: &mut S, err: &mut E) -> u8
-    ensures ends { EndsUnsaid result (S.said out.new) }
-    ensures said { SaysNothing (S.said out.old) (S.said out.new) }
+/// Reports why not all lines were written, and returns the exit status. If nobody reads the output any more, nothing is
+/// reported.
+pub(crate) fn report_unsaid<S: LineSink, E: Reporter>(
+    fault: SinkFault,
+    out: &mut S,
+    err: &mut E,
+) -> u8
+    ensures ends { EndsUnwritten result (S.said out.new) }
+    ensures said { WritesNothing (S.said out.old) (S.said out.new) }
     ensures silent { result ≡ DONE → E.reports err.new ≡ E.reports err.old }
 {
     match fault {
-        SayFault::Memory => report_memory(err),
-        SayFault::Unwritten => report_unwritten(out, err),
+        SinkFault::Memory => report_memory(err),
+        SinkFault::Unwritten => report_unwritten(out, err),
     }
 }
 
-/// The same of an output that failed.
-fn report_unwritten<S: Says, E: Reporter>(out: &mut S, err: &mut E) -> u8
-    ensures ends { EndsUnsaid result (S.said out.new) }
-    ensures said { SaysNothing (S.said out.old) (S.said out.new) }
+/// Does the same for an output that failed.
+fn report_unwritten<S: LineSink, E: Reporter>(out: &mut S, err: &mut E) -> u8
+    ensures ends { EndsUnwritten result (S.said out.new) }
+    ensures said { WritesNothing (S.said out.old) (S.said out.new) }
     ensures silent { result ≡ DONE → E.reports err.new ≡ E.reports err.old }
 {
     if out.is_unread() {
@@ -110,20 +115,20 @@ fn report_unwritten<S: Says, E: Reporter>(out: &mut S, err: &mut E) -> u8
     report_fault("initview", "cannot write", err)
 }
 
-/// Tells why the times can't be local, and gives the exit status.
+/// Reports why times can't be local, and returns the exit status.
 pub(crate) fn report_zone<E: Reporter>(error: Error, err: &mut E) -> u8
     ensures { result ≡ DEVICE_FAULT }
 {
     writeln!(
         err,
-        "initview: cannot read the time zone: {error}: name another by TZ, or leave --local out"
+        "initview: cannot read the time zone: {error}; set TZ to another one, or omit --local"
     );
     DEVICE_FAULT
 }
 
 pub(crate) fn report_memory<E: Reporter>(err: &mut E) -> u8
     ensures status { result ≡ DEVICE_FAULT }
-    ensures report { HasReported (E.reports err.old) (E.reports err.new) memory_line }
+    ensures report { AppendsReport (E.reports err.old) (E.reports err.new) memory_line }
 {
     report_fault("initview", "out of memory", err)
 }

@@ -1,4 +1,4 @@
--- The words of the proofs of this crate.
+-- Names that all proofs of this crate import.
 pub use Rattle.std.proofs.Common.{◌≡◌, refl, ap, ℕ, true, false, List, [], Option, Some, None, Bool, cond, ◌∷◌, ◌++◌}
 pub use Rattle.std.proofs.Common.{reverse, sym, ◌∙◌, subst, ◌+◌, ◌^◌, ◌<◌, ◌≤◌, length, arith, filter, is_some, map}
 pub use Rattle.std.proofs.Common.{rules, option_copied}
@@ -16,7 +16,7 @@ pub use Rattle.trace_view.specs.Views.{TextState, ViewGoesOn, IsAt, left_of}
 pub use Rattle.trace_view.proofs.SeenTexts.{seen_at, stops_more, shown}
 pub use Rattle.initview_lines.specs.declared.lines.Line.{Line}
 pub use Rattle.initview_lines.specs.Happenings.{follow_in, happening_lines, line_at, news_of}
-pub use Rattle.initview_lines.specs.Following.{IsSaying, HasSaid, SaysOn, IsSaidOf}
+pub use Rattle.initview_lines.specs.Following.{IsFollowingText, HasFollowedText, FollowsText, AreFollowedLines}
 pub use Rattle.std.specs.Option.{option_map, option_map_or}
 pub use Rattle.trace_verdict.specs.Fronts.{BeginsNever, line_left}
 pub use Rattle.trace_verdict.specs.Readers.{Reading, capped, ReadsNext}

@@ -1,4 +1,4 @@
--- Behind an inittab that is read, the stage of a level that is asked for is entered first.
+-- After init reads an inittab, its first due step enters the stage on the way to a requested level.
 use Rattle.initview_lines.proofs.CommonWords.{◌≡◌, refl, ap, ℕ, true, false, List, [], Option, Some, None, Level, Entry}
 use Rattle.initview_lines.proofs.CommonWords.{Stage, Event, is_quiet, stage_of, entered_by, next_stage, read_again}
 use Rattle.trace_events.specs.declared.steps.Goal.{Goal}

@@ -1,15 +1,15 @@
--- One happening more is said, or all is taken.
+-- Lemmas on adding the lines for one more happening, or reaching the end of the text.
 use Rattle.initview_lines.proofs.CommonWords.{◌≡◌, refl, ℕ, Bool, true, false, cond, List, [], ◌∷◌, ◌++◌, reverse}
 use Rattle.initview_lines.proofs.CommonWords.{Option, Some, None, sym, ap, ◌∙◌, subst, Event, past_push, Viewed}
 use Rattle.initview_lines.proofs.CommonWords.{TextState, ViewGoesOn, IsAt, seen_at, Line, follow_in, happening_lines}
-use Rattle.initview_lines.proofs.CommonWords.{IsSaying, HasSaid, SaysOn}
+use Rattle.initview_lines.proofs.CommonWords.{IsFollowingText, HasFollowedText, FollowsText}
 use Rattle.std.proofs.Common.{append_assoc}
 
 pub some_said : (next : Option Event) (h : Event) (old new : TextState) (past_lines before after : List Line)
     (text : List ℕ)
     → next ≡ Some h → ((trace : List Event) → ViewGoesOn next old new trace text)
     → ((past : List Event) → Viewed new.viewing (h ∷ past) → after ≡ before ++ happening_lines h past)
-    → IsSaying old (past_lines ++ before) text → IsSaying new (past_lines ++ after) text
+    → IsFollowingText old (past_lines ++ before) text → IsFollowingText new (past_lines ++ after) text
 some_said next h old new past_lines before after text is goes lines at =
     let P : Option Event → Type 0 = λ n. ViewGoesOn n old new at.0 text in
     let on : IsAt new (at.0 ++ h ∷ []) text = subst P is (goes at.0) at.1 in (
@@ -23,19 +23,19 @@ some_said next h old new past_lines before after text is goes lines at =
     )
 
 pub none_said : (next : Option Event) (old new : TextState) (past_lines : List Line) (text : List ℕ) → next ≡ None
-    → ((trace : List Event) → ViewGoesOn next old new trace text) → IsSaying old past_lines text
-    → HasSaid new past_lines text
+    → ((trace : List Event) → ViewGoesOn next old new trace text) → IsFollowingText old past_lines text
+    → HasFollowedText new past_lines text
 none_said next old new past_lines text is goes at =
     let P : Option Event → Type 0 = λ n. ViewGoesOn n old new at.0 text in
     (at.0, subst P is (goes at.0) at.1, at.2)
 
--- one happening more is said, or all is taken
+-- the lines for one more happening were added
 pub more_said : (more : Bool) (old new : TextState) (before after : List Line) (text : List ℕ) → more ≡ true
-    → SaysOn more old before new after text → IsSaying old before text → IsSaying new after text
+    → FollowsText more old before new after text → IsFollowingText old before text → IsFollowingText new after text
 more_said true old new before after text is on = on
 more_said false old new before after text is on = absurd (cc)
 
 pub all_said : (more : Bool) (old new : TextState) (before after : List Line) (text : List ℕ) → more ≡ false
-    → SaysOn more old before new after text → IsSaying old before text → HasSaid new after text
+    → FollowsText more old before new after text → IsFollowingText old before text → HasFollowedText new after text
 all_said false old new before after text is on = on
 all_said true old new before after text is on = absurd (cc)

@@ -1,4 +1,4 @@
--- A text that begins within a run: one happening more, and a piece more.
+-- Lemmas on reading one more happening, or one more piece, of a text that begins in the middle of a run.
 use Rattle.initview_lines.proofs.CommonWords.{◌≡◌, refl, sym, ap, ◌∙◌, ℕ, ◌+◌, ◌^◌, ◌<◌, ◌≤◌, Bool, true, false, List}
 use Rattle.initview_lines.proofs.CommonWords.{[], ◌∷◌, ◌++◌, length, reverse, Option, Some, None, arith, option_map}
 use Rattle.initview_lines.proofs.CommonWords.{Event, time_of, BeginsNever, line_left, Reading, capped, ReadsNext}
@@ -13,12 +13,12 @@ use Rattle.trace_text.proofs.ReadTexts.{trace_text-push, are_in_range-push}
 use Rattle.trace_verdict.proofs.Fronts.{never_some}
 use Rattle.trace_view.specs.declared.text_views.ViewEnd.TheVariants.{Torn}
 
--- the number of the line of what is not read
+-- the number of the line at which the unread part begins
 line_next : (reading : Reading) (trace : List Event) (text : List ℕ) → length text < 2 ^ 64 → IsReadOf reading trace
     text → 1 ≤ length reading.over → capped (reading.lines + 1) ≡ newlines (trace_text trace) + 1
 line_next reading trace text small read some = grind (arith, capped_is, lines_within)
 
--- by whether it stopped
+-- a reader that has not stopped
 read_at : (stop : Option ViewEnd) (reading : Reading) (trace : List Event) (text : List ℕ) → stop ≡ None
     → ReadBy stop reading trace text → IsReadOf reading trace text
 read_at None reading trace text none read = read
@@ -29,7 +29,7 @@ at_read : (stop : Option ViewEnd) (reading : Reading) (trace : List Event) (text
 at_read None reading trace text none read = read
 at_read (Some stop) reading trace text none read = absurd (cc)
 
--- one happening more
+-- one more happening
 read_next : (reading new : Reading) (trace : List Event) (text : List ℕ) (h : Event) → length text < 2 ^ 64
     → ReadsNext reading new (Some h) → IsReadOf reading trace text → IsReadOf new (trace ++ h ∷ []) text
 read_next reading new trace text h small next read = record {
@@ -98,7 +98,7 @@ pub still_told : (old : PartState) (why : ViewEnd) (past_lines : List Line) (tex
     → IsTelling old past_lines text → HasTold old past_lines text
 still_told old why past_lines text is at = (at.0, still old.stop why old.reading at.0 text is at.1, at.2, at.3)
 
--- a piece more
+-- one more piece
 more_stopped : (stop : Option ViewEnd) (why : ViewEnd) (reading : Reading) (trace : List Event) (text piece : List ℕ)
     → stop ≡ Some why → TakenBy stop reading trace text → ReadBy stop reading trace (text ++ piece)
 more_stopped (Some stop) why reading trace text piece is taken = stops_more stop trace text piece taken
@@ -125,7 +125,7 @@ pub fed_more : (old : PartState) (new : Reading) (past_lines : List Line) (text 
 fed_more old new past_lines text piece none is told =
     (told.0, more_read old.stop old.reading new told.0 text piece none is told.1, told.2, told.3)
 
--- by whether one more was told
+-- the lines of one more happening were added
 pub more_told : (more : Bool) (old new : PartState) (before after : List Line) (text : List ℕ) → more ≡ true
     → TellsOn more old before new after text → IsTelling old before text → IsTelling new after text
 more_told true old new before after text is on = on
@@ -136,7 +136,7 @@ pub all_told : (more : Bool) (old new : PartState) (before after : List Line) (t
 all_told false old new before after text is on = on
 all_told true old new before after text is on = absurd (cc)
 
--- what is told of the text
+-- the line at which an incomplete happening begins
 left_is : (reading : Reading) (trace : List Event) (text over : List ℕ) → length text < 2 ^ 64
     → IsReadOf reading trace text → reading.over ≡ over
     → option_map capped (line_left reading.lines over) ≡ line_left (newlines (trace_text trace)) over

@@ -1,4 +1,4 @@
--- What stands behind some lines of a text, walked to from a place in it.
+-- Lemmas on the text after some lines, reached from a position in the text.
 use Rattle.std.specs.Prelude.{option_and_then}
 use Rattle.std.proofs.Common.{zero, suc, ◌-◌, slice_get}
 use Rattle.std.proofs.lemmas.Option.{option_and_then_some, same_Some}
@@ -8,7 +8,7 @@ use Rattle.initview_lines.specs.declared.lint.Cursor.{Cursor}
 use Rattle.initview_lines.specs.Lint.{IsCursor, text_of}
 use Rattle.initview_lines.proofs.CommonWords.{◌≡◌, ℕ, ◌≤◌, List, Some, sym, ap, ◌∙◌, arith}
 
--- behind lines that were passed the same lines stand
+-- the text after all lines is the text after the remaining lines of what follows the first ones
 pub after_lines-from : (passed count : ℕ) (text rest : List ℕ) → after_lines passed text ≡ Some rest → passed ≤ count
     → after_lines count text ≡ after_lines (count - passed) rest
 after_lines-from zero count text rest is within =
@@ -22,7 +22,7 @@ after_lines-from (suc n) (suc count) text rest is within =
     ∙ after_lines-from n count parts.1 rest more (omega arith)
     ∙ ap (λ k. after_lines k rest) (sym less))
 
--- so from a place in the file that is no later
+-- the same from a position in the file that is no later
 pub from_near : (parts : List NamedText) (near : Cursor) (part before : ℕ) → near.part ≡ part → near.before ≤ before
     → IsCursor parts near
     → after_lines before (text_of (slice_get parts part)) ≡ after_lines (before - near.before) near.rest.now

@@ -1,4 +1,4 @@
--- What becomes of an id behind a reading of inittab, by what a view says of it.
+-- What happens to an id after inittab was read, in terms of what a view keeps.
 use Rattle.initview_lines.proofs.CommonWords.{◌≡◌, refl, sym, ◌∙◌, ap, ℕ, Bool, false, List, cond, Option, Some, None}
 use Rattle.initview_lines.proofs.CommonWords.{option_map, option_map_or, Entry, entry_of, act_of, Event, table_of}
 use Rattle.initview_lines.proofs.CommonWords.{Child, same_process, idle_entry, idle_change, stopped_change}
@@ -11,12 +11,12 @@ use Rattle.initview_lines.specs.declared.changes.Change.{Change}
 use Rattle.initview_lines.specs.declared.changes.Change.TheVariants.{NotHere}
 use Rattle.initview_lines.specs.declared.lines.Line.TheVariants as line
 
--- an entry that is found
+-- an entry that is found in the table
 pub idle_found : (id : List ℕ) (past : List Event) (o : Option Entry) → entry_of id (table_of past) ≡ o
     → option_map_or (idle_entry past) o NotHere ≡ idle_change past id
 idle_found id past o is = sym (ap (λ x. option_map_or (idle_entry past) x NotHere) is)
 
--- what becomes of the child that is told of an id
+-- what happens to the child of an id
 by_child : (past : List Event) (o : Option Child) (idle : Change) (same : Bool)
     → change_by (option_map number_of o) (option_map_or (is_excluded past) o false) idle same
     ≡ option_map_or (λ child. cond (is_excluded past child) (stopped_change idle) (kept_change same)) o idle

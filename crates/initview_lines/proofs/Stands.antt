@@ -1,4 +1,4 @@
--- What a view says of a past.
+-- What a view reports about a past.
 use Rattle.initview_lines.proofs.CommonWords.{◌≡◌, refl, ap, ◌∙◌, ℕ, Bool, List, [], ◌∷◌, ◌++◌, Option, Level, Stage}
 use Rattle.initview_lines.proofs.CommonWords.{Event, stage_of, grace_of, time_of, Row, row_of, is_announced}
 use Rattle.initview_lines.proofs.CommonWords.{is_complete_now}
@@ -6,7 +6,7 @@ use Rattle.initview_lines.proofs.CommonWords.{asked_level, first_wish, Line, hea
 use Rattle.std.proofs.lemmas.List.{append_assoc}
 use Rattle.trace_view.specs.declared.wishes.Wish.{Wish}
 
--- a line, and two lists of lines behind it
+-- a head followed by two lists of lines
 pub whole : (head : Line) (entries ids zero one two three : List Line) → zero ≡ [] → one ≡ zero ++ head ∷ []
     → two ≡ one ++ entries → three ≡ two ++ ids → three ≡ head ∷ (entries ++ ids)
 whole head entries ids zero one two three none a b c =

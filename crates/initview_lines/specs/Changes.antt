@@ -1,5 +1,4 @@
--- What becomes of the entries of an inittab in a level, where init reads another one in its place (inittab(5),
--- init(8)).
+-- What happens to the entries of an inittab in a level if another one replaces it (inittab(5), init(8)).
 use Rattle.std.specs.Prelude.{ℕ, Bool, false, ◌&&◌, if◌then◌else◌, List, ◌∷◌, ◌++◌, filter, map, Option, Some, None}
 use Rattle.std.specs.Prelude.{is_none}
 use Rattle.std.specs.List.{list_any}
@@ -14,25 +13,28 @@ use Rattle.initview_lines.specs.declared.changes.Change.TheVariants.{NotHere}
 use Rattle.initview_lines.specs.declared.lines.Line.{Line}
 use Rattle.initview_lines.specs.declared.lines.Line.TheVariants as line
 
+-- there is an entry, which is started by itself in the level
 abbrev pub starts_there : Level → Option Entry → Bool
 starts_there level None = false
 starts_there level (Some e) = is_started (Run level) e
 
--- a child of the entry is there: a stage on the way to the level starts it of itself, and it may live there
+-- the entry has a child: a stage on the way to the level starts it by itself, and its child may live in the level
 abbrev pub is_there : Level → Option Entry → Bool
 is_there level None = false
 is_there level (Some e) = list_any (λ stage. is_started stage e) (stages_to level) && lives_of e (Run level)
 
+-- the action of an entry, if there is one
 abbrev pub act_there : Option Entry → Option Act
 act_there entry = option_map (λ (e : Entry). e.act) entry
 
--- both entries have one process
+-- both entries have the same process
 abbrev pub same_process : Option Entry → Option Entry → Bool
 same_process (Some old) (Some new) = bytes_eq old.process.items new.process.items
 same_process _ _ = false
 
--- a child that may live is kept, and has another process from its next start on; one that may not is stopped, and the
--- entry started anew where it starts there; so is one that had no child there
+-- A child that may live by the new inittab is kept; if the process is another one, that is run at its next start. A
+-- child that may not live is stopped, and the entry is started again if it starts in the level. An entry without a
+-- child is started if it starts in the level.
 abbrev pub change_in : Level → Option Entry → Option Entry → Change
 change_in level old new =
     if is_there level old then
@@ -40,7 +42,7 @@ change_in level old new =
     else (if starts_there level new then StopStart else Stop)
     else (if starts_there level new then Start else NotHere)
 
--- what becomes of an id: its action in the new inittab, and its change
+-- what happens to an id: its action in the new inittab, and its change
 abbrev pub change_line : Level → List Entry → List Entry → List ℕ → Line
 change_line level old new id =
     line.Change id (act_there (entry_of id new)) (change_in level (entry_of id old) (entry_of id new)) None
@@ -48,11 +50,11 @@ change_line level old new id =
 abbrev pub entry_change : Level → List Entry → List Entry → Entry → Line
 entry_change level old new e = change_line level old new e.id
 
--- a table has no such entry
+-- a table has no entry with the id
 abbrev pub is_gone : List Entry → Entry → Bool
 is_gone table e = is_none (entry_of e.id table)
 
--- the level, then the entries of the new inittab in its order, then those that are gone
+-- the level, then the entries of the new inittab in order, then the old entries that the new inittab lacks
 abbrev pub changes_in : Level → List Entry → List Entry → List Line
 changes_in level old new =
     line.Stage (Some (Run level)) ∷ map (entry_change level old new) (new ++ filter (is_gone new) old)

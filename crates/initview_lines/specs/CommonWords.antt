@@ -1,4 +1,4 @@
--- The words of the definitions and clauses of this crate that come from others.
+-- Names from other crates that the definitions and clauses of this crate use.
 pub use Rattle.init_words.specs.declared.actions.Act.{Act}
 pub use Rattle.init_words.specs.declared.entries.Entry.{Entry}
 pub use Rattle.init_words.specs.declared.levels.Level.{Level}

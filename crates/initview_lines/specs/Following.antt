@@ -1,25 +1,27 @@
--- What is said of a text that comes in pieces, by a view of it.
+-- The lines for a text that comes in pieces and is shown to a view.
 use Rattle.std.specs.Prelude.{◌≡◌, ℕ, Bool, true, false, List, reverse, Option, None}
 use Rattle.initview_lines.specs.CommonWords.{Event, ViewEnd, IsShown, TextState, HasShown, IsAt}
 use Rattle.trace_events.specs.Lawful.{first_breach}
 use Rattle.initview_lines.specs.declared.lines.Line.{Line}
 use Rattle.initview_lines.specs.Happenings.{follow_in}
 
--- the view is at work on the text, or has taken it: these are the lines of the trace that it has seen
-abbrev pub IsSaying : TextState → List Line → List ℕ → Type 0
-IsSaying state past_lines text = (trace : List Event) × IsAt state trace text × (past_lines ≡ follow_in (reverse trace))
-
-abbrev pub HasSaid : TextState → List Line → List ℕ → Type 0
-HasSaid state past_lines text = (trace : List Event) × HasShown state trace text
+-- the view is at work on the text, and these are the lines for the trace that it has seen
+abbrev pub IsFollowingText : TextState → List Line → List ℕ → Type 0
+IsFollowingText state past_lines text = (trace : List Event) × IsAt state trace text
     × (past_lines ≡ follow_in (reverse trace))
 
--- it goes on with the text, or has taken it
-abbrev pub SaysOn : Bool → TextState → List Line → TextState → List Line → List ℕ → Type 0
-SaysOn true old before new after text = IsSaying old before text → IsSaying new after text
-SaysOn false old before new after text = IsSaying old before text → HasSaid new after text
+-- the view has taken the text, and these are the lines for the trace that it has seen
+abbrev pub HasFollowedText : TextState → List Line → List ℕ → Type 0
+HasFollowedText state past_lines text = (trace : List Event) × HasShown state trace text
+    × (past_lines ≡ follow_in (reverse trace))
 
--- these are the lines of a trace that is shown of the text, and breaks no law
-abbrev pub IsSaidOf : List ℕ → Option ViewEnd → Option ℕ → List Line → Type 0
-IsSaidOf text stop open_line past_lines =
+-- the view continues with the text, or has taken it
+abbrev pub FollowsText : Bool → TextState → List Line → TextState → List Line → List ℕ → Type 0
+FollowsText true old before new after text = IsFollowingText old before text → IsFollowingText new after text
+FollowsText false old before new after text = IsFollowingText old before text → HasFollowedText new after text
+
+-- these are the lines for a trace that is shown of the text and breaks no law
+abbrev pub AreFollowedLines : List ℕ → Option ViewEnd → Option ℕ → List Line → Type 0
+AreFollowedLines text stop open_line past_lines =
     (trace : List Event) × IsShown text stop open_line trace × (first_breach (reverse trace) ≡ None)
     × (past_lines ≡ follow_in (reverse trace))

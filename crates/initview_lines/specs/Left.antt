@@ -1,4 +1,4 @@
--- What a run leaves: the children that were born and not reaped, and the entries whose start is open.
+-- What is left of a run: the children that were born and not reaped, and the entries whose start is open.
 use Rattle.std.specs.Prelude.{Bool, true, false, List, ◌++◌, filter, map, ℕ, Option, Some, None}
 use Rattle.initview_lines.specs.CommonWords.{Entry, Event, Child, table_of, unreaped_children, Row, row_of}
 use Rattle.init_words.specs.declared.orders.OrderKind.{OrderKind}
@@ -13,18 +13,20 @@ child_line shape child = line.Left shape child.id (Some child.number)
 abbrev pub start_line : RowFormat → Entry → Line
 start_line shape entry = line.Left shape entry.id None
 
--- a start of it is open, and no child of it was born
+-- there is no child, and a start is open
 abbrev pub is_unanswered : Option ℕ → Option OrderKind → Bool
 is_unanswered None (Some Start) = true
 is_unanswered _ _ = false
 
+-- a start of the id is open, and it has no child
 abbrev pub is_starting : Row → Bool
 is_starting row = is_unanswered row.child row.order
 
+-- a start of the entry is open, and it has no child
 abbrev pub is_open : List Event → Entry → Bool
 is_open past entry = is_starting (row_of entry.id past)
 
--- the children, the youngest first, and then the starts, in the order of the table
+-- the children, the youngest first, then the open starts, in the order of the table
 abbrev pub left_in : RowFormat → List Event → List Line
 left_in shape past =
     map (child_line shape) (unreaped_children past) ++ map (start_line shape) (filter (is_open past) (table_of past))

@@ -11,5 +11,5 @@ pub mod Plans
 pub mod Reasons
 pub mod Reloads
 pub mod Rows
-pub mod Saying
+pub mod Outputs
 pub mod Times

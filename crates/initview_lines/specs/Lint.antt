@@ -1,4 +1,4 @@
--- All that is told of the files of an inittab.
+-- The messages of `lint` about the files of an inittab.
 use Rattle.std.specs.Prelude.{◌≡◌, ℕ, Bool, false, ◌-◌, not, if◌then◌else◌, List, [], ◌∷◌, ◌++◌, filter, map}
 use Rattle.std.specs.Prelude.{slice_get, Option, Some, None}
 use Rattle.std.specs.List.{list_any}
@@ -26,81 +26,93 @@ use Rattle.initview_lines.specs.declared.lint.Findings.{Findings}
 use Rattle.initview_lines.specs.declared.lint.Findings.TheVariants as found
 use Rattle.initview_lines.specs.declared.lint.Cursor.{Cursor}
 
--- the name and the text of the file of a number
+-- the name of a file; empty if there is no such file
 abbrev pub name_of : Option NamedText → List ℕ
 name_of part = option_map_or (λ (p : NamedText). p.name) part []
 
+-- the text of a file; empty if there is no such file
 abbrev pub text_of : Option NamedText → List ℕ
 text_of part = option_map_or (λ (p : NamedText). p.bytes) part []
 
--- a text up to its newline
+-- the text up to its first newline
 abbrev pub up_to : Option (List ℕ × List ℕ) → List ℕ → List ℕ
 up_to None text = text
 up_to (Some parts) text = parts.0
 
+-- the first line of a text; empty if there is no text
 abbrev pub line_begun : Option (List ℕ) → List ℕ
 line_begun None = []
 line_begun (Some text) = up_to (cut 10 text) text
 
--- the line of a number, counted from 1
+-- the line with this number, counted from 1
 abbrev pub line_at : ℕ → List ℕ → List ℕ
 line_at number text = line_begun (after_lines (number - 1) text)
 
--- a place in the files: what stands there is what stands behind so many lines
+-- a position in the files is right: the rest is the text after this number of lines
 abbrev pub IsCursor : List NamedText → Cursor → Type 0
 IsCursor parts cursor = after_lines cursor.before (text_of (slice_get parts cursor.part)) ≡ Some cursor.rest.now
 
--- the id or the action of a line, where a check of it fails, and the action that was probably meant
+-- the id or the action of an entry, if a check of it fails
 abbrev pub field_of : LineKind → FieldBytes → List ℕ
 field_of kind.Id f = f.id
 field_of kind.Twice f = f.id
 field_of kind.Action f = f.action
 field_of _ f = []
 
+-- the field at fault in a line; empty if it does not have the fields of an entry
 abbrev pub field_in : LineKind → Option FieldBytes → List ℕ
 field_in kind fields = option_map_or (field_of kind) fields []
 
+-- the action that was probably meant
 abbrev pub meant_for : LineKind → List ℕ → Option Act
 meant_for kind.Action word = meant word
 meant_for _ word = None
 
--- a line that is left out: the first check that it fails
+-- an ignored line: its number, the first check that it fails, the field at fault and the action that was probably meant
 abbrev pub left_out : PartFault → List ℕ → FileLine
 left_out fault field = told.LeftOut fault.line fault.kind field (meant_for fault.kind field)
 
+-- the message about an ignored line with this text
 abbrev pub told_of : Option NamedText → PartFault → List ℕ → Line
 told_of part fault line = File (name_of part) (left_out fault (field_in fault.kind (fields_of (skip_blanks line))))
 
+-- the message about a fault
 abbrev pub fault_line : Option NamedText → PartFault → Line
 fault_line part fault = told_of part fault (line_at fault.line (text_of part))
 
+-- the message about a fault in one of the files
 abbrev pub fault_line_of : List NamedText → PartFault → Line
 fault_line_of parts fault = fault_line (slice_get parts fault.part) fault
 
--- lines that begin with no id, as BusyBox has them, are told of once
+-- the line begins without an id, as in BusyBox's inittab
 abbrev pub has_no_id : FieldBytes → Bool
 has_no_id f = is_empty f.id
 
 abbrev pub lacks_id : List ℕ → Bool
 lacks_id line = option_map_or has_no_id (fields_of (skip_blanks line)) false
 
+-- the line with the fault begins without an id
 abbrev pub is_nameless : List NamedText → PartFault → Bool
 is_nameless parts fault = lacks_id (line_at fault.line (text_of (slice_get parts fault.part)))
 
+-- some line with a fault begins without an id
 abbrev pub has_nameless : List NamedText → List PartFault → Bool
 has_nameless parts faults = list_any (is_nameless parts) faults
 
--- a warning about a line, and one about the whole, where it is so
+-- the line for a warning
 abbrev pub warning_line : List NamedText → LineWarning → Line
-warning_line parts found = File (name_of (slice_get parts found.part)) (told.Warned found.line found.kind)
+warning_line parts found = File (name_of (slice_get parts found.part)) (told.WasTermedBefore found.line found.kind)
 
+-- a message about the whole inittab, which names its first file, if the condition holds
 abbrev pub note_if : Bool → List NamedText → FileLine → List Line
 note_if so parts note = if so then File (name_of (slice_get parts 0)) note ∷ [] else []
 
--- entries start in the default level
+-- some entry starts in the default level
 abbrev pub serves : List Entry → Bool
 serves table = option_map_or (λ level. list_any (λ e. starts_of e (Run level)) table) (default_level_of table) false
 
+-- all messages, in this order: ignored lines that begin with an id; that lines begin without one; warnings; that no
+-- entry starts in the default level
 abbrev pub lint_lines : List NamedText → List PartFault → List LineWarning → List Entry → List Line
 lint_lines parts faults warnings table =
     map (fault_line_of parts) (filter (λ fault. not (is_nameless parts fault)) faults)
@@ -108,18 +120,19 @@ lint_lines parts faults warnings table =
     ++ (map (warning_line parts) warnings
     ++ note_if (not (serves table)) parts (told.Default (default_level_of table))))
 
--- a fault counts before any warning
+-- what was found: any fault comes before any warning
 abbrev pub found_by : List PartFault → List LineWarning → Bool → Findings
 found_by (fault ∷ faults) warnings served = found.Faults
 found_by [] (warning ∷ warnings) served = found.Warnings
 found_by [] [] served = if served then found.Nothing else found.Warnings
 
--- what is told and what was found
+-- the messages, and what was found
 abbrev pub lint_by : List NamedText → List PartFault → List LineWarning → List Entry → List Line × Findings
 lint_by parts faults warnings table =
     (lint_lines parts faults warnings table, found_by faults warnings (serves table))
 
--- of files: the faults of the reader, the warnings that hold, further ones, and the default level of their table
+-- the result for files: the faults of the reader, the warnings that apply and the further ones, and the default level
+-- of their table
 abbrev pub lint_in : List NamedText → List LineWarning → List Line × Findings
 lint_in parts more =
     lint_by parts (faults_of_parts (texts_of parts)) (warnings_of (texts_of parts) ++ more)

@@ -1,5 +1,5 @@
--- What is said of a text that begins within a run: what each of its happenings says by itself, with the time of the
--- clock that the text has had. None is judged.
+-- The lines for a text that begins in the middle of a run: what each of its happenings says by itself, with the time of
+-- the clock in the text. Nothing is judged.
 use Rattle.std.specs.Prelude.{◌≡◌, ℕ, Bool, true, false, List, [], ◌∷◌, ◌++◌, reverse, Option, Some, None}
 use Rattle.text_lines.specs.Lines.{newlines}
 use Rattle.initview_lines.specs.CommonWords.{Event, time_of, Reading, ViewEnd, ShownBy, StopsAt}
@@ -9,17 +9,18 @@ use Rattle.trace_verdict.specs.Fronts.{is_open}
 use Rattle.initview_lines.specs.declared.lines.Line.{Line}
 use Rattle.initview_lines.specs.Happenings.{line_at, news_of}
 
--- of happenings, the oldest first
+-- the lines for happenings, the oldest first
 abbrev pub part_in : List Event → List Line
 part_in [] = []
 part_in (happening ∷ past) = part_in past ++ line_at (time_of (happening ∷ past)) (news_of happening [])
 
--- these are the lines of all happenings of the text, as far as it has any
+-- these are the lines for all happenings of the text, up to the point where it goes no further
 abbrev pub IsToldOf : List ℕ → Option ViewEnd → Option ℕ → List Line → Type 0
 IsToldOf text stop open_line past_lines =
     (trace : List Event) × ShownBy stop open_line trace text × (past_lines ≡ part_in (reverse trace))
 
--- what is not read of a text that comes in pieces, and how many lines are; the time; and why it goes no further
+-- a reader of a text that comes in pieces: the unread part and the number of lines read, the time, and why it goes no
+-- further
 pub record PartState : Type 0 where
   pub reading : Reading
   pub time : ℕ
@@ -31,27 +32,29 @@ pub record IsReadOf (reading : Reading) (trace : List Event) (text : List ℕ) :
   pub whole : trace_text trace ++ reading.over ≡ text
   pub lines : reading.lines ≡ newlines (trace_text trace)
 
+-- the trace is what was read of the text so far, or up to where reading stopped
 abbrev pub ReadBy : Option ViewEnd → Reading → List Event → List ℕ → Type 0
 ReadBy None reading trace text = IsReadOf reading trace text
 ReadBy (Some stop) reading trace text = StopsAt stop trace text
 
--- besides, what is not read ends within a happening
+-- besides, the unread part ends within a happening
 abbrev pub TakenBy : Option ViewEnd → Reading → List Event → List ℕ → Type 0
 TakenBy None reading trace text = IsReadOf reading trace text × (is_open reading.over ≡ true)
 TakenBy (Some stop) reading trace text = StopsAt stop trace text
 
--- the text is being read, or was taken: these are the lines of the trace that was read of it
+-- the text is being read, and these are the lines for the trace that was read of it
 abbrev pub IsTelling : PartState → List Line → List ℕ → Type 0
 IsTelling state past_lines text =
     (trace : List Event) × ReadBy state.stop state.reading trace text × (state.time ≡ time_of (reverse trace))
     × (past_lines ≡ part_in (reverse trace))
 
+-- the text was taken, and these are the lines for the trace that was read of it
 abbrev pub HasTold : PartState → List Line → List ℕ → Type 0
 HasTold state past_lines text =
     (trace : List Event) × TakenBy state.stop state.reading trace text × (state.time ≡ time_of (reverse trace))
     × (past_lines ≡ part_in (reverse trace))
 
--- one happening more is told, or the text is taken
+-- the lines of one more happening were added, or the text is taken
 abbrev pub TellsOn : Bool → PartState → List Line → PartState → List Line → List ℕ → Type 0
 TellsOn true old before new after text = IsTelling old before text → IsTelling new after text
 TellsOn false old before new after text = IsTelling old before text → HasTold new after text

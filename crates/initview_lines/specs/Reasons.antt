@@ -1,4 +1,4 @@
--- Why an id isn't started next, and what to do.
+-- Why an id is not started next, and what to do.
 use Rattle.std.specs.Prelude.{ℕ, if◌then◌else◌, List, [], ◌∷◌, ◌++◌, Option, None}
 use Rattle.init_words.specs.Ids.{same_id}
 use Rattle.initview_lines.specs.CommonWords.{Event, stage_of, Why, line_at_fault, row_of}
@@ -10,31 +10,32 @@ use Rattle.initview_lines.specs.declared.reasons.Chain.{Chain}
 use Rattle.initview_lines.specs.declared.reasons.Link.{Link}
 use Rattle.initview_lines.specs.Rows.{id_row}
 
--- the id that keeps an id back: the one that init waits for, which waits for none before it; else itself
+-- the root cause: the id that init waits for, which itself waits for none before it; otherwise the id itself
 abbrev pub root_of : List ℕ → Why → List ℕ
 root_of id (why.StageOwed awaited) = awaited
 root_of id (why.EarlierOwed earlier) = earlier
 root_of id _ = id
 
--- the id whose child is stopped before an id is started: the one that has to end first; else itself
+-- the id whose child is stopped before an id is started: the one that has to end first; otherwise the id itself
 abbrev pub stopped_of : List ℕ → Why → List ℕ
 stopped_of id (why.ExcludedKept child) = child.id
 stopped_of id _ = id
 
--- an id with its line at fault; and what keeps it back
+-- an id with the line of the trace that causes its reason
 abbrev pub link_of : List ℕ → List Event → Link
 link_of id past = record { id = id; line = line_at_fault id (why_of id past) past }
 
+-- an id and its root cause
 abbrev pub chain_of : List ℕ → List Event → Chain
 chain_of id past = record { asked = link_of id past; root = link_of (root_of id (why_of id past)) past }
 
--- the line at fault; as time goes on no reason may be left
+-- the line that causes the reason; none if nothing keeps the id back any more, which can change as time passes
 abbrev pub fault_line : Why → Option ℕ → Option ℕ
 fault_line why.Nothing line = None
 fault_line _ line = line
 
--- why an id isn't started next, how far the stopping of that child has come, and the line at fault of the trace of a
--- name
+-- why an id is not started next, the state of the child that is stopped first, and the line of the trace with this name
+-- that causes the reason
 abbrev pub reason_line : List ℕ → Link → List Event → Line
 reason_line name link past = line.Why (record {
   at = id_row past link.id;
@@ -44,15 +45,16 @@ reason_line name link past = line.Why (record {
   line = fault_line (why_of link.id past) link.line;
 })
 
--- what to do, by the stage, the action and the reason
+-- what to do, which depends on the stage, the action and the reason
 abbrev pub advice_line : List ℕ → List Event → Line
 advice_line id past = line.Advice (stage_of past) (row_of id past).act (why_of id past)
 
--- the id, where another one keeps it back; what keeps it back; and what to do about that
+-- the reason for the id, if another one is its root cause
 abbrev pub asked_lines : List ℕ → Chain → List Event → List Line
 asked_lines name chain past =
     if same_id chain.asked.id chain.root.id then [] else reason_line name chain.asked past ∷ []
 
+-- the reason for the id, if another one is its root cause; the reason for the root cause; and what to do about that
 abbrev pub why_in : List ℕ → Chain → List Event → List Line
 why_in name chain past =
     asked_lines name chain past ++ (reason_line name chain.root past ∷ advice_line chain.root.id past ∷ [])

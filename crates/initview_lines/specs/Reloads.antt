@@ -1,4 +1,5 @@
--- What becomes of each id where init, as a past left it, reads another inittab now (inittab(5), init(8), telinit(8)).
+-- What happens to each id if init, in the state after a past, reads another inittab now (inittab(5), init(8),
+-- telinit(8)).
 use Rattle.std.specs.Prelude.{ℕ, Bool, true, false, not, ◌&&◌, ◌||◌, if◌then◌else◌, List, ◌∷◌, ◌++◌, filter, map}
 use Rattle.std.specs.Prelude.{Option, Some, None, is_none}
 use Rattle.std.specs.Option.{option_map, option_map_or}
@@ -14,76 +15,81 @@ use Rattle.initview_lines.specs.declared.lines.Line.{Line}
 use Rattle.initview_lines.specs.declared.lines.Line.TheVariants as line
 use Rattle.initview_lines.specs.Changes.{is_gone, same_process}
 
--- a level is asked for, where one is named
+-- a request for a level, if one is given
 abbrev pub with_request : Option Level → List Event → List Event
 with_request None past = past
 with_request (Some level) past = Got (got.Level level (grace_of past)) ∷ past
 
--- init enters a stage, where there is one to enter
+-- init enters a stage, if there is a next one
 abbrev pub entered : Option (Stage × ℕ) → List Event → List Event
 entered None past = past
 entered (Some next) past = Enter next.0 next.1 ∷ past
 
+-- init enters the next stage, if there is one
 abbrev pub gone_on : List Event → List Event
 gone_on past = entered (next_stage past) past
 
--- init reads an inittab, as for telinit q, or for telinit with a level where one is named
+-- init reads an inittab, as for telinit q, after a request for a level if one is given
 abbrev pub read_again : List Entry → Option Level → List Event → List Event
 read_again table level past = NewTable table ∷ with_request level past
 
--- and enters the stage that is next on the way to a level that is asked for
+-- the past after init read an inittab, and entered the next stage on the way to a requested level
 abbrev pub reloaded : List Entry → Option Level → List Event → List Event
 reloaded table level past = gone_on (read_again table level past)
 
--- In what follows the past is one in which the inittab was just read, so that nothing is called (is_called).
+-- The definitions below are about a past in which the inittab was just read, so no entry is called (`is_called`).
 
--- an entry starts in the stage in force, and its action asks for it where it was not started yet
+-- the entry starts in the stage in force, and its action wants a start if it was not started yet
 abbrev pub starts_itself : Entry → List Event → Bool
 starts_itself e past = starts_now e past && wanted_by e.act true true false
 
--- its action asks for it where nothing of it runs
+-- its action wants a start when it has no child
 abbrev pub asks_anew : Entry → List Event → Bool
 asks_anew e past = wanted_by e.act true (not (is_asked e.id past)) false
 
--- what becomes of an entry that has no child
+-- what happens to an entry without a child
 abbrev pub idle_entry : List Event → Entry → Change
 idle_entry past e = if starts_itself e past then (if asks_anew e past then Start else NotAgain) else NotHere
 
+-- what happens to an id without a child
 abbrev pub idle_change : List Event → List ℕ → Change
 idle_change past id = option_map_or (idle_entry past) (entry_of id (table_of past)) NotHere
 
--- what becomes of a child that is stopped, by what becomes of its id then
+-- what happens to a child that is stopped, given what happens to its id afterwards
 abbrev pub stopped_change : Change → Change
 stopped_change Start = StopStart
 stopped_change _ = Stop
 
--- what becomes of a child that goes on, where its process is the same
+-- what happens to a child that keeps running, given whether its process is the same
 abbrev pub kept_change : Bool → Change
 kept_change same = if same then Keep else NextStart
 
--- what becomes of a child: it is stopped where it may not live by the table and the stage in force, as is_excluded has
--- it; else it goes on, and its processes are those of the old and of the new inittab
+-- what happens to a child: it is stopped if it is excluded (`is_excluded`) by the table and the stage in force;
+-- otherwise it keeps running, and the processes of the old and the new inittab are compared
 abbrev pub child_change : List Entry → List Event → List ℕ → Child → Change
 child_change old past id child =
     if is_excluded past child then stopped_change (idle_change past id)
     else kept_change (same_process (entry_of id old) (entry_of id (table_of past)))
 
--- what becomes of an id: of its unreaped child, where it has one
+-- what happens to an id: to its unreaped child if it has one
 abbrev pub change_now : List Entry → List Event → List ℕ → Change
 change_now old past id = option_map_or (child_change old past id) (child_of id past) (idle_change past id)
 
--- the same by what a view keeps: whether the entry starts, and is wanted; the child, and whether it is excluded
+-- the same for an entry without a child, from what a view keeps: whether it starts in the stage, and whether it is
+-- wanted
 abbrev pub idle_by : Act → Bool → Bool → Change
 idle_by action starts wanted =
     if starts && wanted_by action true true false then (if is_limited action || wanted then Start else NotAgain)
     else NotHere
 
+-- the same for an id, from what a view keeps: its child's number, whether that child is excluded, what would happen
+-- without a child, and whether its process is the same
 abbrev pub change_by : Option ℕ → Bool → Change → Bool → Change
 change_by None excluded idle same = idle
 change_by (Some number) excluded idle same =
     if excluded then stopped_change idle else kept_change same
 
--- what becomes of an id: its action in the new inittab, its change, and its child's number
+-- what happens to an id: its action in the new inittab, its change, and its child's number
 abbrev pub line_now : List Entry → List Event → List ℕ → Line
 line_now old past id =
     line.Change id (act_of id (table_of past)) (change_now old past id) (option_map number_of (child_of id past))
@@ -91,11 +97,11 @@ line_now old past id =
 abbrev pub entry_now : List Entry → List Event → Entry → Line
 entry_now old past e = line_now old past e.id
 
--- an inittab has no entry of the id
+-- an inittab has no entry with the id
 abbrev pub is_new : List Entry → List ℕ → Bool
 is_new table id = is_none (entry_of id table)
 
--- the stage, the entries of the new inittab in its order, those of the old one that are gone, and the children that
+-- the stage, the entries of the new inittab in order, the old entries that the new inittab lacks, and the children that
 -- have an entry in neither
 abbrev pub reload_in : List Entry → List Event → List Line
 reload_in old past =

@@ -1,4 +1,4 @@
--- How init and its entries stand. Times and spans are seconds.
+-- The states of init and its entries. Times and durations are in seconds.
 use Rattle.std.specs.Prelude.{ℕ, ◌-◌, List, ◌∷◌, ◌++◌, map, Option, Some, None}
 use Rattle.std.specs.Option.{option_map}
 use Rattle.respawn_limit.specs.declared.TheConstants.{HOLD}
@@ -14,7 +14,7 @@ use Rattle.initview_lines.specs.declared.lines.Line.TheVariants as line
 use Rattle.initview_lines.specs.declared.lines.RowFormat.{RowFormat}
 use Rattle.initview_lines.specs.declared.lines.Stopping.{Stopping}
 
--- how init stands
+-- the state of init
 abbrev pub head_of : List Event → Head
 head_of past = record {
   stage = stage_of past;
@@ -26,23 +26,24 @@ head_of past = record {
   wish = first_wish past;
 }
 
--- since when a child runs, by its latest birth
+-- the time since the latest birth
 abbrev pub runs_at : ℕ → Option Births → Option ℕ
 runs_at now births = option_map (λ (b : Births). now - b.latest) births
 
--- since when init was told that TERM was sent, and how long yet until KILL is
+-- the time since init was told that SIGTERM was sent, and the time until SIGKILL is sent
 abbrev pub stopping_at : ℕ → ℕ → Option ℕ → Option Stopping
 stopping_at now grace told = option_map (λ t. record { term = now - t; kill = grace - (now - t) }) told
 
--- how long a hold goes on
+-- the time until a hold ends
 abbrev pub held_at : ℕ → Why → Option ℕ
 held_at now (why.Held since) = Some (HOLD - (now - since))
 held_at now _ = None
 
+-- the time since the last end
 abbrev pub ended_at : ℕ → Option Ending → Option ℕ
 ended_at now last = option_map (λ (e : Ending). now - e.time) last
 
--- how an id stands
+-- the state of an id, from what a view keeps of it
 abbrev pub row_by : ℕ → ℕ → List ℕ → Row → IdRow
 row_by now grace id row = record {
   id = id;
@@ -53,6 +54,7 @@ row_by now grace id row = record {
   ended = ended_at now row.last;
 }
 
+-- the state of an id after a past
 abbrev pub id_row : List Event → List ℕ → IdRow
 id_row past id = row_by (time_of past) (grace_of past) id (row_of id past)
 
@@ -62,8 +64,8 @@ row_at shape past id = line.Row shape (id_row past id)
 abbrev pub entry_row : RowFormat → List Event → Entry → Line
 entry_row shape past entry = row_at shape past entry.id
 
--- all of it: init, the entries in the order of the table, and the ids whose child outlives its entry, the youngest
--- first
+-- the states of init, of the entries in the order of the table, and of the ids whose child outlives its entry, the
+-- youngest first
 abbrev pub status_in : RowFormat → List Event → List Line
 status_in shape past =
     line.Head shape (head_of past)

@@ -1,4 +1,5 @@
--- How long what init waits for took in a trace, on the critical path to a level: each from its first birth to its end.
+-- How long the entries that init waits for on the critical path to a level took in a trace, each from its first birth
+-- to its end.
 use Rattle.std.specs.List.{fold}
 use Rattle.std.specs.Prelude.{ℕ, ◌-◌, ◌&&◌, ◌==◌, max, nat_lt, if◌then◌else◌, List, [], ◌∷◌, ◌++◌, map, Option, Some}
 use Rattle.std.specs.Prelude.{None}
@@ -15,39 +16,44 @@ use Rattle.initview_lines.specs.Plans.{waited_in}
 use Rattle.initview_timeline.specs.Frames.{plus}
 use Rattle.initview_timeline.specs.Lives.{lives_of, marks_for}
 
--- an entry, and the first life of its children
+-- the life of the first child
 abbrev pub first_of : List Life → Option Life
 first_of [] = None
 first_of (life ∷ lives) = Some life
 
+-- an entry, and the life of its first child
 abbrev pub timed_of : List TimelineMark → Waited → Timed
 timed_of marks w = record { entry = w; life = first_of (lives_of (marks_for (Some w.id) marks)) }
 
--- the seconds of a life that ended, and 0 of any other
+-- the seconds from a birth to an end, or 0 if there is none
 abbrev pub seconds_to : ℕ → Option Ending → ℕ
 seconds_to from None = 0
 seconds_to from (Some ending) = ending.time - from
 
+-- the seconds of a life that ended, and 0 for any other
 abbrev pub seconds_of : Option Life → ℕ
 seconds_of None = 0
 seconds_of (Some life) = seconds_to life.from life.end
 
--- the seconds of all, and those of the longest
+-- the sum of the seconds
 abbrev pub sum_of : List Timed → ℕ
 sum_of timed = fold (λ sum (t : Timed). plus sum (seconds_of t.life)) 0 timed
 
+-- the longest time
 abbrev pub longest_of : List Timed → ℕ
 longest_of timed = fold (λ longest (t : Timed). max longest (seconds_of t.life)) 0 timed
 
--- an entry, and how long it took, or why that is unknown
+-- how many seconds an entry took, and whether they are the longest
 abbrev pub seconds_took : ℕ → ℕ → TimeTaken
 seconds_took longest seconds =
     if nat_lt 0 seconds && seconds == longest then took.Longest seconds else took.Seconds seconds
 
+-- how long a child took, or that it still runs
 abbrev pub end_took : ℕ → ℕ → Option Ending → TimeTaken
 end_took longest from None = took.RunsStill
 end_took longest from (Some ending) = seconds_took longest (ending.time - from)
 
+-- how long an entry took, or that it was not started
 abbrev pub took_of : ℕ → Option Life → TimeTaken
 took_of longest None = took.NotStarted
 took_of longest (Some life) = end_took longest life.from life.end
@@ -55,10 +61,12 @@ took_of longest (Some life) = end_took longest life.from life.end
 abbrev pub time_line : ℕ → Timed → Line
 time_line longest t = line.TimeTaken t.entry.id t.entry.act (took_of longest t.life)
 
--- init waits for one after the other, so that the way to the level takes as long as all of them
+-- the heading, the time of each entry and the sum; because init waits for the entries one after another, the way to the
+-- level takes the sum of their times
 abbrev pub times_by : Level → List Timed → List Line
 times_by level timed =
     line.PathTimes ∷ (map (time_line (longest_of timed)) timed ++ line.Whole level (sum_of timed) ∷ [])
 
+-- the times of the entries on the critical path to a level, given the marks of a trace
 abbrev pub times_in : Level → List Entry → List TimelineMark → List Line
 times_in level table marks = times_by level (map (timed_of marks) (waited_in level table))

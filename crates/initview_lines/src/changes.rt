@@ -1,4 +1,4 @@
-//! What becomes of the entries of an inittab in a level, where init reads another one in its place.
+//! What happens to the entries of an inittab in a level if another one replaces it.
 
 ghost use Rattle.std.specs.Prelude.{◌≡◌, ◌++◌, Some, filter, map, option_copied, IfOk, OnOk};
 ghost use Rattle.initview_lines.specs.CommonWords.{may_live, is_started, stages_to};
@@ -10,26 +10,26 @@ use init_words::{Act, Entry, Id, Level, Stage, lives, starts};
 use inittab_text::Table;
 use std::alloc::{AllocError, Global};
 
-/// What becomes of an id.
+/// What happens to an id.
 #[derive(Clone, Copy, PartialEq, Eq)]
 pub enum Change {
-    /// Its child goes on.
+    /// Its child keeps running.
     Keep,
-    /// Its child goes on, and has another process from its next start on.
+    /// Its child keeps running, and its next start runs another process.
     NextStart,
     /// Its child is stopped.
     Stop,
-    /// Its child is stopped, and another one started.
+    /// Its child is stopped, and another one is started.
     StopStart,
     /// It is started.
     Start,
-    /// It was started in the level already, and isn't started again.
+    /// It was started in the level already, and is not started again.
     NotAgain,
-    /// Nothing starts it in the level of itself, before or after.
+    /// Nothing starts it in the level by itself, before or after.
     NotHere,
 }
 
-/// A stage starts the entry of itself.
+/// Reports whether entering a stage starts the entry by itself.
 pub(crate) fn is_started(stage: Stage, entry: &Entry) -> bool
     ensures { result ≡ is_started stage entry.now }
 {
@@ -45,7 +45,7 @@ fn starts_there(level: Level, entry: Option<&Entry>) -> bool
     }
 }
 
-/// Init starts the entry of itself on the way to the level.
+/// Reports whether init starts the entry by itself on the way to the level.
 fn is_on_way(level: Level, entry: &Entry) -> bool
     ensures { result ≡ list_any (λ stage. is_started stage entry.now) (stages_to level) }
 {
@@ -54,7 +54,7 @@ fn is_on_way(level: Level, entry: &Entry) -> bool
         || is_started(Stage::Run(level), entry)
 }
 
-/// A child of the entry is there.
+/// Reports whether the entry has a child in the level.
 fn is_there(level: Level, entry: Option<&Entry>) -> bool
     ensures { result ≡ is_there level (option_copied entry.entry) }
 {
@@ -73,7 +73,7 @@ fn act_there(entry: Option<&Entry>) -> Option<Act>
     }
 }
 
-/// A child that was born with the action may live in the stage.
+/// Reports whether a child that was born with the action may live in the stage.
 fn may_live(entry: Option<&Entry>, act: Option<Act>, stage: Stage) -> bool
     ensures { result ≡ may_live (option_copied entry.entry) act (Some stage) }
 {
@@ -92,7 +92,7 @@ pub(crate) fn same_process(old: Option<&Entry>, new: Option<&Entry>) -> bool
     }
 }
 
-/// What becomes in a level of an id that had the one entry and has the other.
+/// Returns what happens in a level to an id whose old and new entries are these.
 fn change_in(level: Level, old: Option<&Entry>, new: Option<&Entry>) -> Change
     ensures { result ≡ change_in level (option_copied old.entry) (option_copied new.entry) }
 {
@@ -118,7 +118,7 @@ fn change_in(level: Level, old: Option<&Entry>, new: Option<&Entry>) -> Change
     }
 }
 
-/// What becomes of an id in a level.
+/// Returns what happens to an id in a level.
 fn change_line(level: Level, old: &Table, new: &Table, id: &Id) -> Line
     ensures { result ≡ change_line level old.now new.now id.now }
 {
@@ -146,8 +146,8 @@ fn changes(alloc: Global, level: Level, old: &Table, new: &Table) -> Result<Vec<
         .collect(alloc)
 }
 
-/// What becomes of each id in a level, where init reads the new table in the place of the old one: the level, then each
-/// entry of the new table, then each that is gone.
+/// Returns what happens to each id in a level if init reads the new table in place of the old one. The level comes
+/// first, then each entry of the new table, then each entry that the new table lacks.
 pub fn change_lines(
     alloc: Global,
     level: Level,

@@ -16,7 +16,7 @@ pub(crate) fn stage_letter(stage: Stage) -> u8 {
     }
 }
 
-/// The sign of a piece in a column, the first of it or another one.
+/// Returns the character for a piece in a column, which may be the piece's first one.
 fn sign_of(what: Drawn, first: bool) -> u8 {
     match what {
         Drawn::Name(stage, _) => stage_letter(stage),
@@ -32,7 +32,7 @@ fn sign_of(what: Drawn, first: bool) -> u8 {
     }
 }
 
-/// The sign of the last of some pieces that stands in a column, or what was found before.
+/// Returns the character for the last of the pieces in a column, or `ground` if there is none.
 fn last_in(frame: Frame, column: u64, ground: u8, pieces: &[Piece]) -> u8 {
     let mut found = ground;
     for piece in pieces {
@@ -52,7 +52,7 @@ fn add_cells(text: &mut Vec<u8>, frame: Frame, pieces: &Pieces) -> Result<(), Al
     Ok(())
 }
 
-/// Adds how an id is at the end.
+/// Adds the state of an id at the end.
 pub(crate) fn add_state(text: &mut Vec<u8>, state: State) -> Result<(), AllocError> {
     match state {
         State::Due => put(text, b"not yet"),
@@ -81,7 +81,7 @@ fn add_row(text: &mut Vec<u8>, alloc: Global, frame: Frame, row: &Row) -> Result
     put(text, b"\n")
 }
 
-/// Adds the times of a drawing, with a blank or a line's end between them.
+/// Adds the times of a drawing, separated by a blank or a newline.
 pub(crate) fn add_times(
     text: &mut Vec<u8>,
     zone: Zone,
@@ -98,7 +98,7 @@ pub(crate) fn add_times(
     add_zone(text, zone, timeline.end)
 }
 
-/// Adds how it all is at the end, up to of how many ids something is ill.
+/// Adds the stage at the end, and the number of ids with faults.
 pub(crate) fn add_facts(text: &mut Vec<u8>, timeline: &Timeline) -> Result<(), AllocError> {
     add_stage(text, timeline.stage)?;
     put(
@@ -111,7 +111,7 @@ pub(crate) fn add_facts(text: &mut Vec<u8>, timeline: &Timeline) -> Result<(), A
     )
 }
 
-/// A row is one of those that are drawn.
+/// Reports whether a row is drawn.
 pub(crate) fn is_drawn(which: WhichRows, row: &Row) -> bool {
     match which {
         WhichRows::All => true,
@@ -119,12 +119,12 @@ pub(crate) fn is_drawn(which: WhichRows, row: &Row) -> bool {
     }
 }
 
-/// Of how many ids something is ill.
+/// Returns the number of rows with faults.
 pub(crate) fn ill(rows: &[Row]) -> u64 {
     rows.iter().filter(|row| is_ill(row)).count() as u64
 }
 
-/// A time whose place isn't before this one.
+/// Returns a time that is not drawn before this position.
 fn time_of_place(frame: Frame, position: u64) -> u64 {
     let part = position.saturating_mul(frame.span());
     frame.start.saturating_add(part.div_ceil(frame.last.max(1)))
@@ -140,7 +140,7 @@ fn add_axis(text: &mut Vec<u8>, zone: Zone, frame: Frame) -> Result<(), AllocErr
     put(text, b"\n")
 }
 
-/// Adds parts that stand one a line, each on the line of the part before it where that has room within the columns.
+/// Adds parts, given one per line, and joins them into lines of at most `width` columns.
 fn add_wrapped(text: &mut Vec<u8>, width: u64, parts: &[u8]) -> Result<(), AllocError> {
     let mut column: u64 = 0;
     for part in parts.split(|byte| *byte == b'\n') {
@@ -160,7 +160,7 @@ fn add_wrapped(text: &mut Vec<u8>, width: u64, parts: &[u8]) -> Result<(), Alloc
     put(text, b"\n")
 }
 
-/// Adds the times, and how it all is at the end.
+/// Adds the times, and the state at the end.
 fn add_front(
     text: &mut Vec<u8>,
     alloc: Global,
@@ -179,9 +179,9 @@ fn add_front(
     add_wrapped(text, width, &facts)
 }
 
-/// Rows of a timeline as lines of so many columns: its times; how it is at the end; the time of every fourteenth column; a
-/// row for the stages, and one for each id; and what the signs mean. Nine columns are those of the ids, thirteen those of
-/// how they are at the end and how much went wrong, and the others those of the times, of which there is one at least.
+/// Adds rows of a timeline as lines with this number of columns: its times; the state at the end; the time of every
+/// fourteenth column; a row for the stages, and one for each id; and the legend. Nine columns are for the ids, thirteen
+/// for their states at the end and their numbers of faults, and the others, at least one, for the times.
 pub(crate) fn add_chart(
     text: &mut Vec<u8>,
     alloc: Global,

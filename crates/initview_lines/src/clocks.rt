@@ -1,4 +1,4 @@
-//! Readings of the clock in words, by the calendar and the zones of jiff.
+//! Readings of the clock as text, by the calendar and the time zones of jiff.
 
 use crate::dimensions::YEAR;
 use crate::words::{add_number, put};
@@ -7,16 +7,15 @@ use jiff::tz::TimeZone;
 use jiff::{SignedDuration, Timestamp};
 use std::alloc::AllocError;
 
-/// The zone in which times are told.
+/// The time zone of the times that are printed.
 #[derive(Clone, Copy)]
 pub enum Zone<'a> {
     Utc,
-    /// That of the system.
+    /// The zone of the system.
     Local(TimeZone<'a>),
 }
 
-/// What a clock of a zone shows: the day, the seconds since the beginning of 1970 there, and by how many it is ahead of
-/// Coordinated Universal Time.
+/// A local time: the day, the seconds since the beginning of 1970 in local time, and the offset from UTC in seconds.
 #[derive(Clone, Copy)]
 struct Reading {
     day: Date,
@@ -28,8 +27,8 @@ fn instant(seconds: u64) -> Option<Timestamp> {
     Timestamp::from_second(i64::try_from(seconds).ok()?).ok()
 }
 
-/// By how many seconds a zone is ahead. In 1970, where no clock of init's has been, it is none; nothing is known behind
-/// the last instant that jiff has, 26 hours before the year 10000.
+/// Returns a zone's offset from UTC in seconds. It is 0 in 1970, where no real clock of init has been, and `None` after
+/// the last instant of jiff, 26 hours before the year 10000.
 fn ahead(zone: Zone, seconds: u64) -> Option<i32> {
     match zone {
         Zone::Local(zone) if seconds >= YEAR => Some(zone.to_offset(instant(seconds)?).seconds()),
@@ -42,7 +41,7 @@ fn day(seconds: u64) -> Option<Date> {
     Date::new(1970, 1, 1).ok()?.checked_add(since).ok()
 }
 
-/// What a clock of a zone shows; nothing where its year has more than four digits.
+/// Returns the local time in a zone, or `None` if its year has more than four digits.
 fn shown(zone: Zone, seconds: u64) -> Option<Reading> {
     let ahead = ahead(zone, seconds)?;
     let seconds = seconds.checked_add_signed(i64::from(ahead))?;
@@ -53,7 +52,8 @@ fn shown(zone: Zone, seconds: u64) -> Option<Reading> {
     })
 }
 
-/// The seconds since the beginning of 1970 in a zone; where it isn't known there, those in UTC.
+/// Returns the seconds since the beginning of 1970 in the local time of a zone, or in UTC if the local time is not
+/// known.
 pub(crate) fn local_seconds(zone: Zone, seconds: u64) -> u64 {
     match shown(zone, seconds) {
         Some(reading) => reading.seconds,
@@ -61,12 +61,12 @@ pub(crate) fn local_seconds(zone: Zone, seconds: u64) -> u64 {
     }
 }
 
-/// Both readings are told by one offset.
+/// Reports whether both readings have the same offset from UTC.
 pub(crate) fn is_one_offset(zone: Zone, one: u64, other: u64) -> bool {
     ahead(zone, one) == ahead(zone, other)
 }
 
-/// Adds a number in two digits behind a sign.
+/// Adds a number with two digits after a separator.
 fn add_two(text: &mut Vec<u8>, sign: &[u8], number: u64) -> Result<(), AllocError> {
     let zero: &[u8] = if number < 10 { b"0" } else { b"" };
     put(text, sign)?;
@@ -88,7 +88,7 @@ fn add_date(text: &mut Vec<u8>, day: Date) -> Result<(), AllocError> {
     add_two(text, b"-", u64::from(day.day().unsigned_abs()))
 }
 
-/// Adds the day of a reading of the clock, or nothing in 1970, or where the year has more than four digits.
+/// Adds the day of a reading of the clock, or nothing in 1970 and in years with more than four digits.
 pub(crate) fn add_day(text: &mut Vec<u8>, zone: Zone, seconds: u64) -> Result<(), AllocError> {
     match shown(zone, seconds) {
         Some(reading) if seconds >= YEAR => add_date(text, reading.day),
@@ -96,8 +96,8 @@ pub(crate) fn add_day(text: &mut Vec<u8>, zone: Zone, seconds: u64) -> Result<()
     }
 }
 
-/// Adds the day and the time of day, or that alone in 1970, where no clock of init's has been; the seconds where the year
-/// has more than four digits.
+/// Adds the day and the time of day. In 1970, where no real clock of init has been, it adds the time of day only; in
+/// years with more than four digits the seconds.
 pub(crate) fn add_moment(text: &mut Vec<u8>, zone: Zone, seconds: u64) -> Result<(), AllocError> {
     let Some(reading) = shown(zone, seconds) else {
         return add_number(text, b"", seconds, b"");
@@ -109,7 +109,7 @@ pub(crate) fn add_moment(text: &mut Vec<u8>, zone: Zone, seconds: u64) -> Result
     add_hours(text, zone, seconds)
 }
 
-/// Adds the name of the zone behind a moment: ` UTC`, or as ` CET`; nothing in 1970.
+/// Adds the name of the zone after a time: ` UTC`, or for example ` CET`; nothing in 1970.
 pub(crate) fn add_zone(text: &mut Vec<u8>, zone: Zone, seconds: u64) -> Result<(), AllocError> {
     match (zone, instant(seconds)) {
         _ if seconds < YEAR => Ok(()),
@@ -122,15 +122,16 @@ pub(crate) fn add_zone(text: &mut Vec<u8>, zone: Zone, seconds: u64) -> Result<(
     }
 }
 
-/// Adds an offset as RFC 3339 writes it: `+01:00`.
+/// Adds an offset in the format of RFC 3339: `+01:00`.
 fn add_offset(text: &mut Vec<u8>, ahead: i32) -> Result<(), AllocError> {
     let minutes = u64::from(ahead.unsigned_abs()) / 60;
     add_two(text, if ahead < 0 { b"-" } else { b"+" }, minutes / 60)?;
     add_two(text, b":", minutes % 60)
 }
 
-/// Adds the time of day of a reading of the clock, in seconds since the beginning of 1970, as RFC 3339 writes it:
-/// `2026-01-31T07:15:00Z`, or with the offset of a zone. It has no years of five digits: then the seconds.
+/// Adds a reading of the clock, in seconds since the beginning of 1970, in the format of RFC 3339:
+/// `2026-01-31T07:15:00Z`, or with the offset of a zone. The format has no years with five digits; for them it adds the
+/// seconds.
 pub(crate) fn add_time_of_day(
     text: &mut Vec<u8>,
     zone: Zone,
@@ -148,7 +149,7 @@ pub(crate) fn add_time_of_day(
     }
 }
 
-/// Adds a reading of the clock: the time of day, or the seconds alone in 1970.
+/// Adds a reading of the clock in that format, or the seconds only in 1970.
 pub(crate) fn add_clock(text: &mut Vec<u8>, zone: Zone, seconds: u64) -> Result<(), AllocError> {
     if seconds < YEAR {
         add_number(text, b"", seconds, b"")

@@ -1,9 +1,10 @@
-//! How a timeline looks: its measures, in pixels where it isn't scaled, and what each kind of piece is drawn as.
+//! The appearance of a timeline: its dimensions, in pixels if it is not scaled, and the shapes of its pieces.
 
-/// How wide the rows are, which is the place of the last time.
+/// The width of the rows, which is the position of the last time.
 pub const DRAWING: u64 = 900;
 
-/// How high the row of the stages is, and how far it is from one row to the next, or where there are more than so many.
+/// The height of the row of the stages; the distance between rows; the distance between more than `MANY` rows; and that
+/// number of rows.
 pub const LEVEL: u64 = 26;
 
 pub const TALL: u64 = 22;
@@ -12,22 +13,22 @@ pub const LOW: u64 = 12;
 
 pub const MANY: usize = 60;
 
-/// What stands above the rows and below them.
+/// The height of everything above the rows and below them.
 pub const MARGINS: u64 = 148;
 
-/// How wide a stage is at least that has its words on it, or its letter.
+/// The minimum width of a stage that is labelled with its name, and with its letter.
 pub const WORDS_ROOM: u64 = 104;
 
 pub const LETTER_ROOM: u64 = 12;
 
-/// Seconds.
+/// Units of time, in seconds.
 pub const HOUR: u64 = 3_600;
 
 pub const DAY: u64 = 86_400;
 
 pub const YEAR: u64 = 31_536_000;
 
-/// The steps of an axis, in seconds, and how many ticks there are at most.
+/// The steps of an axis, in seconds, and the maximum number of ticks.
 pub const STEPS: [u64; 18] = [
     1, 2, 5, 10, 20, 30, 60, 120, 300, 600, 1_200, 1_800, 3_600, 7_200, 14_400, 21_600, 43_200,
     86_400,
@@ -35,7 +36,7 @@ pub const STEPS: [u64; 18] = [
 
 pub const TICKS: u64 = 10;
 
-/// A line down, and the time of day and what stands below it, above the rows and below them.
+/// A vertical line, and the time of day and the text below it, above the rows and below them.
 pub const TICK: &[u8] = b")\"><line class=\"t\" y1=\"-6\" y2=\"100%\"/>";
 
 pub const TOP_HOURS: &[u8] = b"<text class=\"m\" y=\"-22\">";
@@ -46,7 +47,7 @@ pub const LOW_HOURS: &[u8] = b"<text class=\"m\" y=\"100%\" dy=\"18\">";
 
 pub const LOW_SECONDS: &[u8] = b"</text><text class=\"m q\" y=\"100%\" dy=\"30\">";
 
-/// A row of an id: its ground and its name, how it is at the end, and how much went wrong.
+/// The row of an id: its background and its name, its state at the end, and its number of faults.
 pub const BAND: &[u8] =
     b"\" overflow=\"visible\"><rect class=\"b\" x=\"-80\" width=\"1130\" height=\"100%\"/><text x=\"-8\" y=\"50%\" dy=\".34em\" class=\"i";
 
@@ -54,7 +55,7 @@ pub const STATE: &[u8] = b"</text><text x=\"912\" y=\"50%\" dy=\".34em\" class=\
 
 pub const FAULTS: &[u8] = b"</text><text x=\"1042\" y=\"50%\" dy=\".34em\" class=\"i r\">";
 
-/// The bars and the signs, up to their place.
+/// The bars and the marks, up to their positions.
 pub const STAGE: &[u8] = b"<rect class=\"n\" y=\"2\" height=\"18\" x=\"";
 
 pub const SETTLED: &[u8] = b"<rect class=\"g\" y=\"2\" height=\"18\" x=\"";
@@ -80,11 +81,11 @@ pub const KILLED: &[u8] = b"<use href=\"#K\" y=\"50%\" x=\"";
 
 pub const UNBORN: &[u8] = b"<use href=\"#U\" y=\"50%\" x=\"";
 
-/// What stands before the height of the document.
+/// The text before the height of the document.
 pub const HEAD: &[u8] =
     b"<svg xmlns=\"http://www.w3.org/2000/svg\" role=\"img\" width=\"1130\" height=\"";
 
-/// What stands between its title and its heading: the colors, on a light ground and on a dark one.
+/// The text between the title and the heading: the colors, on a light background and on a dark one.
 pub const STYLE: &[u8] = b"</title>
 <style>
 text{font:12px monospace;pointer-events:none}
@@ -140,7 +141,7 @@ text{fill:#e3e6ea}
 <rect class=\"p\" width=\"100%\" height=\"100%\"/>
 <text class=\"z\" x=\"80\" y=\"20\">";
 
-/// What the shapes mean.
+/// The legend of the shapes.
 pub const LEGEND: &[u8] = b" with faults</tspan></text>
 <g transform=\"translate(80 52)\">
 <g transform=\"translate(0)\"><rect class=\"l\" width=\"18\" height=\"12\"/><text class=\"q\" x=\"24\" y=\"11\">runs</text></g>
@@ -150,28 +151,28 @@ pub const LEGEND: &[u8] = b" with faults</tspan></text>
 <g transform=\"translate(398)\"><rect class=\"f\" x=\"7\" y=\"-1\" width=\"4\" height=\"14\"/><text class=\"q\" x=\"24\" y=\"11\">failed</text></g>
 <g transform=\"translate(479)\"><use href=\"#K\" x=\"9\" y=\"6\"/><text class=\"q\" x=\"24\" y=\"11\">KILL sent</text></g>
 <g transform=\"translate(582)\"><use href=\"#U\" x=\"9\" y=\"6\"/><text class=\"q\" x=\"24\" y=\"11\">start failed</text></g>
-<g transform=\"translate(707)\"><rect class=\"n\" width=\"18\" height=\"12\"/><text class=\"q\" x=\"24\" y=\"11\">on the way</text></g>
+<g transform=\"translate(707)\"><rect class=\"n\" width=\"18\" height=\"12\"/><text class=\"q\" x=\"24\" y=\"11\">unsettled</text></g>
 <g transform=\"translate(817)\"><rect class=\"g\" width=\"18\" height=\"12\"/><text class=\"q\" x=\"24\" y=\"11\">settled</text></g>
 </g>
 ";
 
-/// What stands before the height of the rows.
+/// The text before the height of the rows.
 pub const TALL_ROWS: &[u8] = b"<svg x=\"80\" y=\"104\" overflow=\"visible\" height=\"";
 
 pub const LOW_ROWS: &[u8] =
     b"<svg class=\"small\" x=\"80\" y=\"104\" overflow=\"visible\" height=\"";
 
-/// The name of the row of the stages, and of what stands behind the rows.
+/// The name of the row of the stages, and the names of the columns after the rows.
 pub const AT_END: &[u8] =
     b"<text class=\"i z\" x=\"-8\" y=\"15\">level</text><text class=\"q\" x=\"912\" y=\"15\">at the end</text><text class=\"i q\" x=\"1042\" y=\"15\">faults</text>
 ";
 
-/// What the signs of lines mean: three lines where they have room, each of parts that stand one a line here.
+/// The legend of the characters in lines: three lines if they fit, each of parts that are given one per line here.
 pub const LEGEND_LINES: [&[u8]; 3] = [
     b"level: i sysinit,
 b boot,
 0 to 9 and S;
-- on the way,
+- unsettled,
 = settled",
     b"| started,
 = runs,

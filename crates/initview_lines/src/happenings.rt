@@ -1,4 +1,4 @@
-//! What an operator is told of happenings.
+//! The news in the happenings of a trace, for an operator.
 
 ghost use Rattle.std.specs.Prelude.{◌≡◌, [], ◌∷◌, ◌++◌, List, OnOk};
 ghost use Rattle.initview_lines.specs.CommonWords.{Event, Viewed};
@@ -11,10 +11,10 @@ use std::alloc::{AllocError, Global};
 use trace_events::{Handed, Happening, HappeningIn};
 use trace_view::TraceView;
 
-/// What an operator is told.
+/// A message to an operator.
 #[derive(Clone, Copy)]
 pub enum News {
-    /// An inittab of so many entries is in force.
+    /// An inittab with this number of entries is in force.
     Table(usize),
     NotRead,
     Entered(Stage),
@@ -26,15 +26,15 @@ pub enum News {
     NotBorn(Id),
     Ended(Id, ChildNumber, Status),
     NotSeen(Id),
-    /// A signal, by the open order, and the number of the child.
+    /// A signal, named by the open order, and the number of the child.
     Sent(Id, Option<OrderKind>, Option<ChildNumber>),
     NotSent(Id, Option<OrderKind>, Option<ChildNumber>),
     Got(HeardRequest),
     Handed(Handed),
 }
 
-/// What a happening says by itself that an operator is told. Of what he need not see there is none: an order, a death, a
-/// look that found its child alive, an answer that reached init, a reading of the clock, a round.
+/// Returns the news in a happening by itself, or `None` for one that an operator does not need to see: an order, a
+/// death, a look that found its child alive, an answer that reached init, a reading of the clock, a round.
 pub(crate) fn news_alone(happening: &HappeningIn<Global>) -> Option<News>
     ensures { result ≡ news_of happening.now [] }
 {
@@ -58,7 +58,7 @@ pub(crate) fn news_alone(happening: &HappeningIn<Global>) -> Option<News>
     }
 }
 
-/// What an operator is told of the happening that the view has seen last.
+/// Returns the news in the happening that the view has seen last.
 fn news_of(view: &TraceView, happening: &HappeningIn<Global>) -> Option<News>
     ensures { (past : List Event) → Viewed view.now (happening.now ∷ past)
         → result ≡ news_of happening.now past }
@@ -70,7 +70,7 @@ fn news_of(view: &TraceView, happening: &HappeningIn<Global>) -> Option<News>
     }
 }
 
-/// Adds what an operator is told of the happening that the view has seen last, with the time of the trace's clock.
+/// Adds the news in the happening that the view has seen last, with the time of the trace's clock.
 pub fn add_happening(
     lines: &mut Vec<Line>,
     view: &TraceView,

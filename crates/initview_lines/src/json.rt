@@ -1,4 +1,4 @@
-//! How init and an entry stand, as objects of JSON for programs. That a text is quoted is proved, the rest is rows of
+//! The states of init and its entries as JSON objects. That texts are quoted correctly is proved; the rest is tested by
 //! `tools/rows/initview`.
 
 ghost use Rattle.std.specs.Prelude.{◌≡◌, ◌++◌, OnOk};
@@ -64,7 +64,7 @@ fn state_of(row: &Row) -> &'static [u8] {
     }
 }
 
-/// The id for whose end is waited.
+/// Returns the id whose end init waits for.
 fn awaited(why: &Why) -> Option<&[u8]> {
     match why {
         Why::EarlierOwed(id) | Why::StageOwed(id) => Some(id.as_bytes()),
@@ -73,7 +73,7 @@ fn awaited(why: &Why) -> Option<&[u8]> {
     }
 }
 
-/// Adds the object of an id and its child's number, where that is known, in a line.
+/// Adds the object of an id and the number of its child, if known, on one line.
 pub(crate) fn add_left(
     text: &mut Vec<u8>,
     id: &Id,
@@ -89,7 +89,7 @@ pub(crate) fn add_left(
     )
 }
 
-/// Adds the object of an id, in a line.
+/// Adds the object of an id on one line.
 pub(crate) fn add_row(text: &mut Vec<u8>, at: &IdRow) -> Result<(), AllocError> {
     let row = &at.row;
     fill(
@@ -141,7 +141,7 @@ fn truth(so: bool) -> &'static [u8] {
     if so { b"true" } else { b"false" }
 }
 
-/// Adds the object of init, in a line.
+/// Adds the object of init on one line.
 pub(crate) fn add_head(text: &mut Vec<u8>, head: &Head) -> Result<(), AllocError> {
     fill(
         text,

@@ -1,4 +1,4 @@
-//! A line of what is said: what it tells, not how it is worded. Times and spans are seconds.
+//! A line of an answer: its content, not its wording. Times and durations are in seconds.
 
 ghost use Rattle.std.specs.Prelude.{◌≡◌, ◌∷◌, [], IfOk};
 ghost use Rattle.initview_lines.specs.declared.lines.Line.TheVariants as line;
@@ -14,87 +14,87 @@ use initview_timeline::Timeline;
 use std::alloc::{AllocError, Global};
 use trace_view::{Row, Why, Wish};
 
-/// In which way it is written how init and its entries stand.
+/// The format for the states of init and its entries.
 #[derive(Clone, Copy)]
 pub enum RowFormat {
     /// Lines in columns.
     Lines,
-    /// An object of JSON a line.
+    /// A JSON object per line.
     Json,
 }
 
-/// Which rows of a timeline are drawn.
+/// The rows of a timeline that are drawn.
 #[derive(Clone, Copy)]
 pub enum WhichRows {
     All,
-    /// Those with faults.
+    /// Rows with faults.
     Faulty,
 }
 
-/// How init stands.
+/// The state of init.
 #[derive(Clone, Copy)]
 pub struct Head {
     /// The stage in force.
     pub stage: Option<Stage>,
-    /// It is a level that was announced settled, and no table was read since.
+    /// Whether the stage is a level that was announced settled and no table was read since.
     pub settled: bool,
-    /// It is a level in which nothing is owed at this moment.
+    /// Whether the stage is a level in which nothing is owed at this moment.
     pub complete: bool,
     pub time: u64,
-    /// Between the two signals that stop a child.
+    /// The time from SIGTERM to SIGKILL.
     pub grace: u64,
-    /// The level that is asked for and not yet entered.
+    /// The level that is requested and not entered yet.
     pub goal: Option<Level>,
     /// The request that is carried out first.
     pub wish: Option<Wish>,
 }
 
-/// How far the stopping of a child has come.
+/// The progress of stopping a child.
 #[derive(Clone, Copy)]
 pub struct Stopping {
-    /// Since init was told that TERM was sent.
+    /// The time since init was told that SIGTERM was sent.
     pub term: u64,
-    /// Until KILL is.
+    /// The time until SIGKILL is sent.
     pub kill: u64,
 }
 
-/// How an id stands, and since when or how long yet.
+/// The state of an id, with the times that belong to it.
 #[derive(Clone, Copy)]
 pub struct IdRow {
     pub id: Id,
     pub row: Row,
-    /// Since its child was born.
+    /// The time since its child was born.
     pub runs: Option<u64>,
     pub stopping: Option<Stopping>,
-    /// Until it is held no more.
+    /// The time until its hold ends.
     pub held: Option<u64>,
-    /// Since it ended last.
+    /// The time since its child last ended.
     pub ended: Option<u64>,
 }
 
-/// Why an id isn't started next, in a stage.
+/// Why an id is not started next, in a stage.
 #[derive(Drop)]
 pub struct Reason {
     pub at: IdRow,
     pub stage: Option<Stage>,
-    /// The id whose child is stopped before: the one that has to end first; else the same.
+    /// The id whose child is stopped first, because it has to end first; otherwise the same id.
     pub stopped: IdRow,
-    /// The trace, and its line at fault, where there is one and a reason is left.
+    /// The trace, and the line of it that causes the reason, if there is one and the reason still holds.
     pub trace: Bytes,
     pub line: Option<u64>,
 }
 
-/// What is told of a file of an inittab, or of a line of it, whose number counts from 1.
+/// A message about a file of an inittab, or about one of its lines, which are counted from 1.
 #[derive(Drop)]
 pub enum FileLine {
-    /// The line is left out: the first check that it fails, the id or the action that is at fault, and the action that was
-    /// probably meant.
+    /// The line is ignored: the first check that it fails, the id or the action that is at fault, and the action that
+    /// was probably meant.
     LeftOut(u32, LineKind, Bytes, Option<Act>),
-    /// The line does otherwise than it seems to.
-    Warned(usize, Warning),
-    /// The line as it is, whose entry is kept.
+    /// The line does not do what it seems to.
+    WasTermedBefore(usize, Warning),
+    /// The unchanged line, whose entry is in the table.
     Kept(usize, Bytes),
-    /// Lines begin with no id.
+    /// Lines begin without an id.
     Nameless,
     /// No entry starts in the default level, or there is none.
     Default(Option<Level>),
@@ -102,50 +102,50 @@ pub enum FileLine {
     NoLine(Id),
 }
 
-/// A line, or a text of its own that isn't made of lines here.
+/// A line, or a text that does not consist of such lines.
 #[derive(Drop)]
 pub enum Line {
-    /// How init stands.
+    /// The state of init.
     Head(RowFormat, Head),
-    /// How an id stands.
+    /// The state of an id.
     Row(RowFormat, IdRow),
-    /// A child was born for the id and not reaped; or its start is open, where there is no number.
+    /// A child of the id was born and not reaped; or, without a number, its start is open.
     Left(RowFormat, Id, Option<ChildNumber>),
-    /// Why an id isn't started next.
+    /// Why an id is not started next.
     Why(Reason),
-    /// What to do about an entry of an action that isn't started next, in a stage.
+    /// What to do about an entry with this action that is not started next, in a stage.
     Advice(Option<Stage>, Option<Act>, Why),
-    /// What follows is of this stage.
+    /// A heading: the lines that follow are about this stage.
     Stage(Option<Stage>),
-    /// What becomes of an id, which has this action then, and its child.
+    /// What happens to an id, its action afterwards, and its child.
     Change(Id, Option<Act>, Change, Option<ChildNumber>),
-    /// An entry is started; init waits for its end.
+    /// An entry is started, and whether init waits for its end.
     Start(Id, Act, bool),
-    /// What follows is the critical path.
+    /// A heading: the critical path follows.
     CriticalPath,
-    /// An entry of it, behind the end of another one.
+    /// An entry of the critical path, after the end of another one.
     OnPath(Id, Act, Option<Id>),
-    /// The level is reached, behind the end of an entry.
+    /// The level is reached, after the end of an entry.
     Reached(Level, Option<Id>),
-    /// What follows is how long each entry of the critical path took in a trace.
+    /// A heading: the times that the entries of the critical path took in a trace follow.
     PathTimes,
-    /// How long an entry of it took.
+    /// The time that an entry of the critical path took.
     TimeTaken(Id, Act, TimeTaken),
-    /// How long they all took on the way to the level.
+    /// The time that all of them took on the way to the level.
     Whole(Level, u64),
-    /// What is told of the file of a name.
+    /// A message about the file with this name.
     File(Bytes, FileLine),
-    /// What happened at a time.
+    /// Something that happened at a time.
     Happened(u64, News),
-    /// Rows of a timeline, in lines of so many columns.
+    /// Rows of a timeline, in lines with this number of columns.
     Chart(u64, WhichRows, Timeline),
-    /// The same, as a picture.
+    /// Rows of a timeline, as a picture.
     Svg(WhichRows, Timeline),
-    /// A text as it is.
+    /// Any text.
     Text(Bytes),
 }
 
-/// A text as it is, as all that is said.
+/// Returns an answer that consists of a text.
 pub fn text_line(alloc: Global, text: Vec<u8>) -> Result<Vec<Line>, AllocError>
     ensures { IfOk result (λ lines. lines.items ≡ line.Text text.items ∷ []) }
 {

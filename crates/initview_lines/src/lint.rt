@@ -1,4 +1,4 @@
-//! What is told of the files of an inittab that is not in force yet.
+//! The messages about the files of an inittab that is not in force yet.
 
 ghost use Rattle.std.specs.Prelude.{◌≡◌, ◌≤◌, ◌++◌, ◌↔◌, filter, map, not, option_copied, option_map, slice_get, IfOk, IfSome, OnOk, IsErrOf};
 ghost use Rattle.std.specs.List.{list_any};
@@ -24,13 +24,13 @@ use text_lines::{after_lines, cut, without_blanks};
 #[derive(Clone, Copy, PartialEq, Eq)]
 pub enum Findings {
     Nothing,
-    /// Warnings, and no line that is left out.
+    /// Warnings, but no line that init ignores.
     Warnings,
-    /// A line that is left out.
+    /// A line that init ignores.
     Faults,
 }
 
-/// The file of a number.
+/// Returns the file with this number.
 fn part_at(parts: &[Part], number: usize) -> Option<&Part>
     ensures { option_copied result ≡ slice_get parts.now number }
 {
@@ -38,7 +38,7 @@ fn part_at(parts: &[Part], number: usize) -> Option<&Part>
     Some(part)
 }
 
-/// The name of a file.
+/// Returns the name of a file.
 fn name_of(part: Option<&Part>) -> &[u8]
     ensures { result.now ≡ name_of (option_copied part.entry) }
 {
@@ -48,7 +48,7 @@ fn name_of(part: Option<&Part>) -> &[u8]
     }
 }
 
-/// The text of a file.
+/// Returns the text of a file.
 fn text_of(part: Option<&Part>) -> &[u8]
     ensures { result.now ≡ text_of (option_copied part.entry) }
 {
@@ -58,7 +58,7 @@ fn text_of(part: Option<&Part>) -> &[u8]
     }
 }
 
-/// What is told of a file.
+/// Returns a message about a file.
 pub(crate) fn file_line(
     alloc: Global,
     part: Option<&Part>,
@@ -70,7 +70,7 @@ pub(crate) fn file_line(
     Ok(Line::File(name, told))
 }
 
-/// Adds what is told of the first file, where it is so.
+/// Adds a message about the first file, if `so` is set.
 pub(crate) fn add_note(
     lines: &mut Vec<Line>,
     alloc: Global,
@@ -86,7 +86,7 @@ pub(crate) fn add_note(
     Ok(())
 }
 
-/// The first line of a text.
+/// Returns the first line of a text.
 fn first_of(text: &[u8]) -> &[u8]
     ensures { result.now ≡ up_to (cut 10 text.now) text.now }
 {
@@ -96,7 +96,7 @@ fn first_of(text: &[u8]) -> &[u8]
     }
 }
 
-/// The line of a number, counted from 1.
+/// Returns the line with this number, counted from 1.
 fn line_at(number: u32, text: &[u8]) -> &[u8]
     ensures { result.now ≡ line_at number text.now }
 {
@@ -106,7 +106,7 @@ fn line_at(number: u32, text: &[u8]) -> &[u8]
     }
 }
 
-/// The id or the action of a line, where a check of it fails.
+/// Returns the id or the action of a line, if a check of it fails.
 fn field_in(kind: LineKind, line: &[u8]) -> &[u8]
     ensures { result.now ≡ field_in kind (fields_of line.now) }
 {
@@ -120,7 +120,7 @@ fn field_in(kind: LineKind, line: &[u8]) -> &[u8]
     }
 }
 
-/// The action that a field was probably meant to be.
+/// Returns the action that was probably meant by a field.
 fn meant_for(kind: LineKind, field: &[u8]) -> Option<Act>
     ensures { result ≡ meant_for kind field.now }
 {
@@ -130,7 +130,7 @@ fn meant_for(kind: LineKind, field: &[u8]) -> Option<Act>
     }
 }
 
-/// What is told of a line that is left out, by its text.
+/// Returns the message about an ignored line with this text.
 fn told_of(
     alloc: Global,
     part: Option<&Part>,
@@ -149,7 +149,7 @@ fn told_of(
     )
 }
 
-/// What is told of a line that is left out.
+/// Returns the message about an ignored line.
 pub(crate) fn fault_line(
     alloc: Global,
     part: Option<&Part>,
@@ -160,7 +160,7 @@ pub(crate) fn fault_line(
     told_of(alloc, part, fault, line_at(fault.line, text_of(part)))
 }
 
-/// The line begins with no id.
+/// Reports whether the line begins without an id.
 fn lacks_id(line: &[u8]) -> bool
     ensures { result ≡ lacks_id line.now }
 {
@@ -170,7 +170,7 @@ fn lacks_id(line: &[u8]) -> bool
     }
 }
 
-/// A place in the files: behind how many lines of which, and what stands there.
+/// A position in the files: the file, the number of lines before the position, and the text after it.
 #[derive(Clone, Copy)]
 struct Cursor<'a> {
     part: usize,
@@ -178,7 +178,8 @@ struct Cursor<'a> {
     rest: &'a [u8],
 }
 
-/// Where to walk from to the place behind so many lines of a file: a place in it that is no later, or else its top.
+/// Returns the position from which to walk to the line after `before` lines of a file: `from` if it is in this file and
+/// no later, otherwise the beginning of the file.
 fn nearest<'a>(parts: &'a [Part], from: Cursor<'a>, part: usize, before: usize) -> Cursor<'a>
     ensures part { result.part ≡ part }
     ensures before { result.before ≤ before }
@@ -195,7 +196,7 @@ fn nearest<'a>(parts: &'a [Part], from: Cursor<'a>, part: usize, before: usize) 
     }
 }
 
-/// The place behind so many lines of a file.
+/// Returns the position after this number of lines of a file.
 fn cursor_after<'a>(
     parts: &'a [Part],
     from: Cursor<'a>,
@@ -212,7 +213,7 @@ fn cursor_after<'a>(
     Some(Cursor { part, before, rest })
 }
 
-/// The line of a fault, and the place from which the next one is looked for.
+/// Returns the line with a fault, and the position from which the next one is searched for.
 fn line_of<'a>(parts: &'a [Part], from: Cursor<'a>, fault: &PartFault) -> (&'a [u8], Cursor<'a>)
     ensures line { IsCursor parts.now from.entry → result.0.now
         ≡ line_at fault.now.line (text_of (slice_get parts.now fault.now.part)) }
@@ -225,7 +226,7 @@ fn line_of<'a>(parts: &'a [Part], from: Cursor<'a>, fault: &PartFault) -> (&'a [
     }
 }
 
-/// What is told of the lines that are left out, but for those that begin with no id; and whether there are such.
+/// Returns the messages about ignored lines, except those that begin without an id, and whether there are any of those.
 fn fault_lines(
     alloc: Global,
     parts: &[Part],
@@ -260,7 +261,7 @@ fn fault_lines(
 fn warning_line(alloc: Global, parts: &[Part], found: &LineWarning) -> Result<Line, AllocError>
     ensures { IfOk result (λ line. line ≡ warning_line parts.now found.now) }
 {
-    let warned = FileLine::Warned(found.line, found.kind);
+    let warned = FileLine::WasTermedBefore(found.line, found.kind);
     file_line(alloc, part_at(parts, found.part), warned)
 }
 
@@ -286,7 +287,7 @@ fn any_starts(entries: &[Entry], level: Level) -> bool
     entries.iter().any(|entry| starts(entry, Stage::Run(level)))
 }
 
-/// Entries start in the default level.
+/// Reports whether entries start in the default level.
 fn serves(table: &Table) -> bool
     ensures { result ≡ serves table.now }
 {
@@ -296,7 +297,7 @@ fn serves(table: &Table) -> bool
     }
 }
 
-/// What was found, by what is told.
+/// Returns what was found, given the faults and the warnings.
 fn found_by(faults: &[PartFault], warnings: &[LineWarning], serves: bool) -> Findings
     ensures { result ≡ found_by faults.now warnings.now serves }
 {
@@ -345,9 +346,9 @@ fn lint_table(
     Ok((lint_lines(alloc, parts, faults, &warnings, table)?, found))
 }
 
-/// Reads an inittab(5) of several files, as `read_parts` does, and tells of it: first its lines that are left out, then its
-/// warnings, behind its own those of the caller, and at last that no entry starts in a default level. Over 256 files are
-/// refused, and files of over 1,048,576 bytes together.
+/// Reads an inittab(5) of several files, as `read_parts` does, and returns the messages about it: first about the lines
+/// that init ignores, then the warnings, its own before those of the caller, and last that no entry starts in the
+/// default level. More than 256 files, or more than 1,048,576 bytes in total, are rejected.
 pub fn lint_parts(
     alloc: Global,
     parts: &[Part],

@@ -14,7 +14,7 @@ use inittab_text::{PartFault, TableFault, read_parts};
 use std::alloc::{AllocError, Global};
 use text_lines::{cut, first_line, without_blanks};
 
-/// The id of a line: what stands before its first colon.
+/// Returns the id of a line, which is the text before its first colon.
 fn id_written(line: &[u8]) -> &[u8]
     ensures { result.now ≡ id_written line.now }
 {
@@ -31,7 +31,7 @@ fn is_fault_at(part: usize, number: usize, fault: &PartFault) -> bool
     fault.part as usize == part && fault.line as usize == number
 }
 
-/// The fault that the reader has of a line.
+/// Returns the fault that the reader found in a line.
 fn fault_at(faults: &[PartFault], part: usize, number: usize) -> Option<&PartFault>
     ensures { option_copied result ≡ fault_at faults.now part number }
 {
@@ -40,7 +40,7 @@ fn fault_at(faults: &[PartFault], part: usize, number: usize) -> Option<&PartFau
         .find(|fault| is_fault_at(part, number, *fault))
 }
 
-/// What is told of a line: why it is left out, or what it says.
+/// Returns the message about a line: why it is ignored, or the line itself.
 fn line_told(
     alloc: Global,
     file: &Part,
@@ -60,7 +60,7 @@ fn line_told(
     }
 }
 
-/// Adds what is told of a line, where it has the id.
+/// Adds the message about a line, if it has the id.
 fn add_own(
     lines: &mut Vec<Line>,
     alloc: Global,
@@ -81,7 +81,7 @@ fn add_own(
     Ok(())
 }
 
-/// Adds what is told of the lines of a file.
+/// Adds the messages about the lines of a file.
 fn add_file(
     lines: &mut Vec<Line>,
     alloc: Global,
@@ -105,7 +105,7 @@ fn add_file(
     Ok(())
 }
 
-/// Adds what is told of the lines of all files.
+/// Adds the messages about the lines of all files.
 fn add_files(
     lines: &mut Vec<Line>,
     alloc: Global,
@@ -126,7 +126,7 @@ fn add_files(
     Ok(())
 }
 
-/// What is told of the id's lines, by the reader's faults.
+/// Returns the messages about the id's lines, given the reader's faults.
 fn lines_by(
     alloc: Global,
     files: &[Part],
@@ -142,9 +142,9 @@ fn lines_by(
     Ok(lines)
 }
 
-/// Reads an inittab(5) of several files, as `read_parts` does, and tells of each line that has the id: why it is left out,
-/// or what it says, where its entry is kept. Where no line has it, that is told. Over 256 files are refused, and files of
-/// over 1,048,576 bytes together.
+/// Reads an inittab(5) of several files, as `read_parts` does, and returns a message about each line that has the id:
+/// why it is ignored, or the line itself if its entry is in the table. If no line has the id, a message says so. More
+/// than 256 files, or more than 1,048,576 bytes in total, are rejected.
 pub fn id_lines(alloc: Global, files: &[Part], id: &Id) -> Result<Vec<Line>, TableFault>
     ensures told { IfOk result (λ lines. lines.items ≡ id_lines id.now files.now) }
     ensures parts { IsErrOf result TableFault.Parts ↔ AreTooMany (texts_of files.now) }

@@ -1,5 +1,5 @@
-//! What an operator is told of a text that begins within a run: what each of its happenings says by itself. Nothing is known
-//! from before it, so that nothing is judged.
+//! The news in a text that begins in the middle of a run: what each of its happenings says by itself. Nothing before
+//! the text is known, so nothing is judged.
 
 ghost use Rattle.std.specs.Prelude.{◌≡◌, ◌^◌, ◌<◌, ◌∷◌, ◌++◌, [], List, ℕ, length, true, option_map, IfOk, OnOk};
 ghost use Rattle.initview_lines.specs.CommonWords.{Event, time_of, line_left, capped, left_of};
@@ -18,9 +18,10 @@ use trace_text::ReadFault;
 use trace_verdict::TextReader;
 use trace_view::ViewEnd;
 
-/// A text that begins within a run and comes in pieces, cut anywhere, up to the first line that begins no happening.
+/// A text that begins in the middle of a run and comes in pieces, cut anywhere, up to the first line that begins no
+/// happening.
 ///
-/// A contract sees of it which texts it has taken (`HasTold`).
+/// Contracts refer to the texts that it has taken (`HasTold`).
 #[derive(Drop)]
 pub struct PartView {
     reader: TextReader<Global>,
@@ -36,7 +37,7 @@ impl Model for PartView {
     ghost view = { λ v. record { reading = v.reader; time = v.time; stop = v.stop } };
 }
 
-/// The time behind a happening: a clock that is set back changes nothing.
+/// Returns the time after a happening. A clock that is set back does not change it.
 fn time_after(time: u64, happening: &HappeningIn<Global>) -> u64
     ensures { (past : List Event) → time ≡ time_of past
         → result ≡ time_of (happening.now ∷ past) }
@@ -47,7 +48,7 @@ fn time_after(time: u64, happening: &HappeningIn<Global>) -> u64
     }
 }
 
-/// Adds what a happening says by itself that an operator is told.
+/// Adds the news in a happening by itself.
 fn add_alone(
     lines: &mut Vec<Line>,
     time: u64,
@@ -63,7 +64,7 @@ fn add_alone(
 }
 
 impl PartView {
-    /// Nothing was taken yet. It takes no memory.
+    /// Creates a view that has taken nothing. It allocates no memory.
     pub fn new(alloc: Global) -> PartView
         ensures { HasTold result [] [] }
     {
@@ -74,7 +75,7 @@ impl PartView {
         }
     }
 
-    /// Adds the line of the next happening, if one is whole.
+    /// Adds the line for the next happening, if that is complete.
     fn tell_next(&mut self, lines: &mut Vec<Line>) -> Result<bool, Memory>
         ensures goes { IfOk result (λ more. (past_lines : List Line) (text : List ℕ)
             → length text < 2 ^ 64 → TellsOn more self.old (past_lines ++ lines.old.items)
@@ -113,8 +114,8 @@ impl PartView {
         Ok(())
     }
 
-    /// Takes the next piece of the text, cut anywhere, and adds the lines of all that is whole of it. Where memory runs out
-    /// it is of no more use.
+    /// Takes the next piece of the text, cut anywhere, and adds the lines for all complete happenings. The view can't
+    /// be used any more if memory runs out.
     pub fn take(&mut self, piece: &[u8], lines: &mut Vec<Line>) -> Result<(), Memory>
         ensures { OnOk result ((past_lines : List Line) (text : List ℕ)
             → length (text ++ piece.now) < 2 ^ 64
@@ -126,7 +127,7 @@ impl PartView {
         Ok(())
     }
 
-    /// The number of the line, from 1, at which the last happening begins where that isn't finished.
+    /// Returns the number of the line, counted from 1, at which the last happening begins, if that is incomplete.
     fn open_line(&self) -> Option<u64>
         ensures { result ≡ left_of self.now.stop
             (option_map capped (line_left self.now.reading.lines self.now.reading.over)) }
@@ -137,8 +138,8 @@ impl PartView {
         }
     }
 
-    /// Why it goes no further, and the number of the line, from 1, at which the last happening begins where that isn't
-    /// finished.
+    /// Returns why the view goes no further, and the number of the line, counted from 1, at which the last happening
+    /// begins, if that is incomplete.
     pub fn end(&self) -> (Option<ViewEnd>, Option<u64>)
         ensures { (past_lines : List Line) (text : List ℕ) → length text < 2 ^ 64
             → HasTold self.now past_lines text → IsToldOf text result.0 result.1 past_lines }

@@ -1,4 +1,4 @@
-//! Phrases: words with places for values.
+//! Phrases: text with placeholders for values.
 
 use crate::clocks::{Zone, add_clock, add_time_of_day};
 use crate::json::add_quoted;
@@ -7,13 +7,13 @@ use init_words::{Id, Level, Stage, Status};
 use std::alloc::AllocError;
 use trace_view::Wish;
 
-/// A value that stands in a phrase.
+/// A value in a phrase.
 #[derive(Clone, Copy)]
 pub(crate) enum Value<'a> {
     Text(&'a [u8]),
-    /// A text, and spaces behind it up to a width.
+    /// A text, padded with spaces to a width.
     Padded(usize, &'a [u8]),
-    /// A text of a file, whose control characters a terminal is not to obey.
+    /// Text from a file, with its control characters escaped for terminals.
     Shown(&'a [u8]),
     Id(Id),
     /// The number of a child.
@@ -30,11 +30,11 @@ pub(crate) enum Value<'a> {
     Wish(Wish),
     /// A reading of the clock, for people.
     Clock(Zone<'a>, u64),
-    /// The same as RFC 3339 writes it, in UTC.
+    /// A reading of the clock in the format of RFC 3339, in UTC.
     Time(u64),
 }
 
-/// Adds a phrase, in which each `@` is the place of the next value.
+/// Adds a phrase in which each `@` is replaced by the next value.
 pub(crate) fn fill(text: &mut Vec<u8>, phrase: &[u8], values: &[Value]) -> Result<(), AllocError> {
     let mut next = 0;
     for byte in phrase {
@@ -69,10 +69,10 @@ fn add_value(text: &mut Vec<u8>, value: &Value) -> Result<(), AllocError> {
     }
 }
 
-/// Adds what a wish is for.
+/// Adds the words for a request that is pending.
 fn add_wish(text: &mut Vec<u8>, wish: Wish) -> Result<(), AllocError> {
     match wish {
-        Wish::Reexec => put(text, b"execute init anew"),
+        Wish::Reexec => put(text, b"re-execute init"),
         Wish::Reread => put(text, b"read inittab again"),
         Wish::Level(level) => {
             put(text, b"go to ")?;

@@ -1,7 +1,7 @@
-//! The lines of a text that comes in pieces.
+//! The lines for a text that comes in pieces.
 
 ghost use Rattle.std.specs.Prelude.{◌≡◌, ◌^◌, ◌<◌, List, ℕ, ◌++◌, length, true, IfOk, OnOk};
-ghost use Rattle.initview_lines.specs.Following.{HasSaid, SaysOn};
+ghost use Rattle.initview_lines.specs.Following.{HasFollowedText, FollowsText};
 ghost use Rattle.initview_lines.specs.declared.lines.Line.{Line};
 
 use crate::happenings::add_happening;
@@ -9,11 +9,11 @@ use crate::lines::Line;
 use init_words::Memory;
 use trace_view::TextView;
 
-/// Adds the line of the next happening, if one is whole.
+/// Adds the line for the next happening, if that is complete.
 fn next_line(view: &mut TextView, lines: &mut Vec<Line>) -> Result<bool, Memory>
     ensures goes { IfOk result
         (λ more. (past_lines : List Line) (text : List ℕ) → length text < 2 ^ 64
-        → SaysOn more view.old (past_lines ++ lines.old.items) view.new
+        → FollowsText more view.old (past_lines ++ lines.old.items) view.new
         (past_lines ++ lines.new.items) text) }
     ensures shorter { IfOk result (λ more. more ≡ true
         → length view.new.reading.over < length view.old.reading.over) }
@@ -27,13 +27,13 @@ fn next_line(view: &mut TextView, lines: &mut Vec<Line>) -> Result<bool, Memory>
     }
 }
 
-/// Shows a view the next piece of its text, cut anywhere, and adds the lines of all that is whole of it. Where memory runs
-/// out the view is of no more use.
+/// Shows a view the next piece of its text, cut anywhere, and adds the lines for all complete happenings. The view
+/// can't be used any more if memory runs out.
 pub fn take_lines(view: &mut TextView, piece: &[u8], lines: &mut Vec<Line>) -> Result<(), Memory>
     ensures { OnOk result
         ((past_lines : List Line) (text : List ℕ) → length (text ++ piece.now) < 2 ^ 64
-        → HasSaid view.old (past_lines ++ lines.old.items) text
-        → HasSaid view.new (past_lines ++ lines.new.items) (text ++ piece.now)) }
+        → HasFollowedText view.old (past_lines ++ lines.old.items) text
+        → HasFollowedText view.new (past_lines ++ lines.new.items) (text ++ piece.now)) }
 {
     view.feed(piece)?;
     while next_line(view, lines)? {}

@@ -1,4 +1,4 @@
-//! Which entries init starts of itself on its way to a level, and its critical path.
+//! The entries that init starts by itself, that is, without a call, on its way to a level; and the critical path.
 
 ghost use Rattle.std.specs.Prelude.{◌≡◌, ◌++◌, None, filter, map, IfOk, OnOk};
 ghost use Rattle.initview_lines.specs.CommonWords.{is_on_path, path_along, started_in, stages_to};
@@ -10,14 +10,14 @@ use init_words::{Act, Entry, Id, Level, Stage, waited};
 use inittab_text::Table;
 use std::alloc::{AllocError, Global};
 
-/// An entry for whose end init waits.
+/// An entry whose end init waits for.
 #[derive(Clone, Copy)]
 pub struct Waited {
     pub id: Id,
     pub act: Act,
 }
 
-/// The stages on the way to a level: no boot on the way to S.
+/// Returns the stages on the way to a level. There is no boot stage on the way to S.
 fn stages_to(alloc: Global, level: Level) -> Result<Vec<Stage>, AllocError>
     ensures { IfOk result (λ stages. stages.items ≡ stages_to level) }
 {
@@ -38,7 +38,7 @@ fn starts(alloc: Global, stage: Stage, entries: &[Entry]) -> Result<Vec<Line>, A
         .collect(alloc)
 }
 
-/// Adds stages, and behind each the entries that it starts of itself.
+/// Adds stages, each followed by the entries that it starts by itself.
 fn add_stages(
     lines: &mut Vec<Line>,
     alloc: Global,
@@ -57,7 +57,7 @@ fn add_stages(
     Ok(())
 }
 
-/// The entry is on the critical path of a stage.
+/// Reports whether the entry is on the critical path of a stage.
 fn is_on_path(stage: Stage, entry: &Entry) -> bool
     ensures { result ≡ is_on_path stage entry.now }
 {
@@ -78,7 +78,7 @@ fn waited_at(alloc: Global, stage: Stage, entries: &[Entry]) -> Result<Vec<Waite
         .collect(alloc)
 }
 
-/// The critical path through stages.
+/// Returns the critical path through several stages.
 fn path_along(alloc: Global, stages: &[Stage], entries: &[Entry]) -> Result<Vec<Waited>, AllocError>
     ensures { IfOk result (λ path. path.items ≡ map waiting (path_along entries.now stages.now)) }
 {
@@ -91,7 +91,7 @@ fn path_along(alloc: Global, stages: &[Stage], entries: &[Entry]) -> Result<Vec<
     Ok(path)
 }
 
-/// The critical path to a level.
+/// Returns the critical path to a level.
 pub(crate) fn waited_in(
     alloc: Global,
     level: Level,
@@ -102,7 +102,7 @@ pub(crate) fn waited_in(
     path_along(alloc, &stages_to(alloc, level)?, entries)
 }
 
-/// Adds the entries of a path, and gives its last.
+/// Adds the entries of a path, and returns the last one.
 fn add_path(lines: &mut Vec<Line>, path: &[Waited]) -> Result<Option<Id>, AllocError>
     ensures { IfOk result (λ last. (last ≡ last_of None path.now)
         × (lines.new.items ≡ lines.old.items ++ path_lines None path.now)) }
@@ -126,9 +126,9 @@ fn add_critical_path(lines: &mut Vec<Line>, level: Level, path: &[Waited]) -> Re
     Ok(())
 }
 
-/// The entries that init starts of itself on its way to a level: each stage, and behind it each entry in the order in which
-/// they start, with whether init waits for its end before it goes on. Behind them the critical path: the entries whose
-/// ends the way to the level goes through, and which of them each waits for.
+/// Returns the entries that init starts by itself on its way to a level: each stage, followed by its entries in the
+/// order of their starts, with whether init waits for their end before it continues. Then comes the critical path: the
+/// entries whose ends the way to the level depends on, each with the one that it waits for.
 pub fn plan_lines(alloc: Global, level: Level, table: &Table) -> Result<Vec<Line>, AllocError>
     ensures { IfOk result (λ lines. lines.items ≡ plan_in level table.now) }
 {

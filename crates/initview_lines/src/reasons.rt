@@ -1,4 +1,4 @@
-//! Why an id isn't started next, and what to do.
+//! Why an id is not started next, and what to do.
 
 ghost use Rattle.std.specs.Prelude.{◌≡◌, List, IfOk};
 ghost use Rattle.initview_lines.specs.CommonWords.{Event, Lined, Viewed};
@@ -11,21 +11,22 @@ use init_words::Id;
 use std::alloc::{AllocError, Global};
 use trace_view::{LastLines, TraceView, Why};
 
-/// An id that isn't started next, with the line of the trace at fault, where there is one.
+/// An id that is not started next, with the line of the trace that causes it, if there is one.
 #[derive(Clone, Copy)]
 struct Link {
     id: Id,
     line: Option<u64>,
 }
 
-/// An id that isn't started next, and the one that keeps it back at the last.
+/// An id that is not started next, and the id that is the root cause.
 #[derive(Clone, Copy)]
 pub struct Chain {
     asked: Link,
     root: Link,
 }
 
-/// The id that keeps an id back: the one that init waits for, which waits for none before it; else itself.
+/// Returns the id that is the root cause: the one that init waits for, which itself waits for none before it; otherwise
+/// the id itself.
 fn root_of(id: Id, why: Why) -> Id
     ensures { result ≡ root_of id why }
 {
@@ -36,7 +37,8 @@ fn root_of(id: Id, why: Why) -> Id
     }
 }
 
-/// The id whose child is stopped before an id is started: the one that has to end first; else itself.
+/// Returns the id whose child is stopped before an id is started: the one that has to end first; otherwise the id
+/// itself.
 fn stopped_of(id: Id, why: Why) -> Id
     ensures { result ≡ stopped_of id why }
 {
@@ -46,7 +48,7 @@ fn stopped_of(id: Id, why: Why) -> Id
     }
 }
 
-/// The line at fault, where a reason is left.
+/// Returns the line that causes the reason, if the reason still holds.
 fn fault_line(why: Why, line: Option<u64>) -> Option<u64>
     ensures { result ≡ fault_line why line }
 {
@@ -66,7 +68,7 @@ fn link_of(view: &TraceView, lines: &LastLines, id: Id) -> Link
     }
 }
 
-/// The id, and what keeps it back, with their lines.
+/// Returns the id and its root cause, with their lines.
 pub fn chain_of(view: &TraceView, lines: &LastLines, id: Id) -> Chain
     ensures { (past : List Event) → Viewed view.now past → Lined lines.now past
         → result ≡ chain_of id past }
@@ -77,8 +79,8 @@ pub fn chain_of(view: &TraceView, lines: &LastLines, id: Id) -> Chain
     }
 }
 
-/// Why an id isn't started next, the same of the one that keeps it back, and what to do. Lines at fault are those of the
-/// trace of this name.
+/// Returns why an id is not started next, the same for the root cause, and what to do. The line numbers are those of
+/// the trace with this name.
 pub fn why_lines(
     alloc: Global,
     view: &TraceView,

@@ -1,4 +1,4 @@
-//! What becomes of each id where init, as a trace left it, reads another inittab now.
+//! What happens to each id if init, in the state at the end of a trace, reads another inittab now.
 
 ghost use Rattle.std.specs.Prelude.{◌≡◌, ◌++◌, ℕ, IsTrue, List, Option, Some, false, filter, map, option_copied, option_map, IfOk, OnOk};
 ghost use Rattle.initview_lines.specs.CommonWords.{Entry, Event, is_quiet, stage_of, table_of, Level, Stage, entry_of, Viewed, next_stage};
@@ -16,8 +16,9 @@ use inittab_text::Table;
 use std::alloc::{AllocError, Global};
 use trace_view::TraceView;
 
-/// Where init reads another inittab in a stage, at a moment at which no start and no signal is open, the stage that its
-/// next step enters is the one in which is shown what becomes of each id. It does nothing: its contract is the law.
+/// States that if init reads another inittab in a stage, at a moment at which no start and no signal is open, the stage
+/// that its next step enters is the one for which the changes are shown. The function does nothing; its contract is the
+/// law.
 pub fn law_of_reloads()
     ensures { (goal : Goal) (table : List Entry) (level : Option Level) (past : List Event)
         (now : Stage) (next : Stage) (seconds : ℕ)
@@ -26,7 +27,7 @@ pub fn law_of_reloads()
         → first (due goal (read_again table level past)) ≡ step.Enter next seconds }
 {}
 
-/// What becomes of an entry that has no child, by whether it starts in the stage and is wanted.
+/// Returns what happens to an entry without a child, given whether it starts in the stage and is wanted.
 fn idle_by(act: Act, starts: bool, wanted: bool) -> Change
     ensures { result ≡ idle_by act starts wanted }
 {
@@ -48,7 +49,7 @@ fn idle_entry(view: &TraceView, entry: &Entry) -> Change
     idle_by(entry.act, view.starts(entry), view.is_wanted(entry))
 }
 
-/// What becomes of an id that has no child.
+/// Returns what happens to an id without a child.
 fn idle_change(view: &TraceView, id: &Id) -> Change
     ensures { (past : List Event) → Viewed view.now past → result ≡ idle_change past id.now }
 {
@@ -99,7 +100,7 @@ fn act_in(entry: Option<&Entry>) -> Option<Act>
     }
 }
 
-/// What becomes of an id, with the number of its child.
+/// Returns what happens to an id, with the number of its child.
 fn line_now(old: &Table, view: &TraceView, id: &Id) -> Line
     ensures { (past : List Event) → Viewed view.now past → result ≡ line_now old.now past id.now }
 {
@@ -166,9 +167,9 @@ fn add_left(
     Ok(())
 }
 
-/// What becomes of each id, where this is the view of a trace behind which init read another inittab than the old one: the
-/// stage in force, each entry of the new inittab in its order, each of the old one that is gone, and each child that has
-/// an entry in neither. A line has the number of the child that is stopped or kept.
+/// Returns what happens to each id, given the view of a trace after which init read another inittab in place of the old
+/// one: the stage in force, each entry of the new inittab in order, each entry of the old one that the new one lacks,
+/// and each child that has an entry in neither. A line has the number of the child that is stopped or kept.
 pub fn reload_lines(alloc: Global, old: &Table, view: &TraceView) -> Result<Vec<Line>, AllocError>
     ensures { IfOk result (λ lines. (past : List Event) → Viewed view.now past
         → lines.items ≡ reload_in old.now past) }

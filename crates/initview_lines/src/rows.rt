@@ -1,4 +1,4 @@
-//! How init and its entries stand.
+//! The states of init and its entries.
 
 ghost use Rattle.std.specs.Prelude.{◌≡◌, ◌++◌, ◌∷◌, [], List, map, IfOk, OnOk};
 ghost use Rattle.initview_lines.specs.CommonWords.{Event, Viewed};
@@ -10,8 +10,7 @@ use respawn_limit::HOLD;
 use std::alloc::{AllocError, Global};
 use trace_view::{Births, Ending, Row, TraceView, Why};
 
-/// How init and its entries stand: first init, then each entry in the order of the table, and each id whose child outlives
-/// its entry.
+/// Returns the states of init, of each entry in the order of the table, and of each id whose child outlives its entry.
 pub fn status_lines(
     alloc: Global,
     view: &TraceView,
@@ -30,7 +29,7 @@ pub fn status_lines(
     Ok(lines)
 }
 
-/// How one id stands.
+/// Returns the state of one id.
 pub fn row_line(
     alloc: Global,
     view: &TraceView,
@@ -93,7 +92,7 @@ fn add_ids(
     Ok(())
 }
 
-/// The seconds since a child was born.
+/// Returns the seconds since a child was born.
 fn runs_at(now: u64, births: Option<Births>) -> Option<u64>
     ensures { result ≡ runs_at now births }
 {
@@ -103,7 +102,7 @@ fn runs_at(now: u64, births: Option<Births>) -> Option<u64>
     }
 }
 
-/// How far the stopping of a child has come, by when it was told that TERM was sent.
+/// Returns the progress of stopping a child, given when init was told that SIGTERM was sent.
 fn stopping_at(now: u64, grace: u64, told: Option<u64>) -> Option<Stopping>
     ensures { result ≡ stopping_at now grace told }
 {
@@ -119,7 +118,7 @@ fn stopping_at(now: u64, grace: u64, told: Option<u64>) -> Option<Stopping>
     }
 }
 
-/// The seconds that a hold goes on.
+/// Returns the seconds until a hold ends.
 fn held_at(now: u64, why: Why) -> Option<u64>
     ensures { result ≡ held_at now why }
 {
@@ -129,7 +128,7 @@ fn held_at(now: u64, why: Why) -> Option<u64>
     }
 }
 
-/// The seconds since the end of a child.
+/// Returns the seconds since the end of a child.
 fn ended_at(now: u64, last: Option<Ending>) -> Option<u64>
     ensures { result ≡ ended_at now last }
 {

@@ -14,7 +14,7 @@ use init_words::Stage;
 use initview_timeline::{Drawn, Frame, Piece, Pieces, Row, Timeline, is_ill, is_loud};
 use std::alloc::AllocError;
 
-/// Adds bytes as a text of XML.
+/// Adds bytes as XML text.
 fn add_escaped(text: &mut Vec<u8>, bytes: &[u8]) -> Result<(), AllocError> {
     for byte in bytes {
         match byte {
@@ -28,7 +28,7 @@ fn add_escaped(text: &mut Vec<u8>, bytes: &[u8]) -> Result<(), AllocError> {
     Ok(())
 }
 
-/// How a piece is drawn, up to its place.
+/// Returns the shape of a piece, up to its position.
 fn look_of(what: Drawn) -> &'static [u8] {
     match what {
         Drawn::Stage(_) => STAGE,
@@ -45,7 +45,7 @@ fn look_of(what: Drawn) -> &'static [u8] {
     }
 }
 
-/// Adds what a piece is, behind its times.
+/// Adds what a piece is, after its times.
 fn add_said(text: &mut Vec<u8>, what: Drawn) -> Result<(), AllocError> {
     match what {
         Drawn::Stage(_) | Drawn::Name(_, _) => put(text, b"entered"),
@@ -62,7 +62,7 @@ fn add_said(text: &mut Vec<u8>, what: Drawn) -> Result<(), AllocError> {
     }
 }
 
-/// Adds of whom a piece is: a stage, an id, or a child of it.
+/// Adds what a piece belongs to: a stage, an id, or a child of it.
 fn add_whose(text: &mut Vec<u8>, id: &[u8], what: Drawn) -> Result<(), AllocError> {
     match what {
         Drawn::Stage(stage) | Drawn::Settled(stage) | Drawn::Name(stage, _) => {
@@ -76,7 +76,7 @@ fn add_whose(text: &mut Vec<u8>, id: &[u8], what: Drawn) -> Result<(), AllocErro
     }
 }
 
-/// Begins a piece: what is said of it where the pointer rests on it, and how it is drawn.
+/// Begins a piece: its tooltip, and its shape.
 fn add_tip(text: &mut Vec<u8>, zone: Zone, id: &[u8], piece: &Piece) -> Result<(), AllocError> {
     put(text, b"<g><title>")?;
     add_whose(text, id, piece.what)?;
@@ -92,7 +92,7 @@ fn add_tip(text: &mut Vec<u8>, zone: Zone, id: &[u8], piece: &Piece) -> Result<(
     put(text, look_of(piece.what))
 }
 
-/// Adds a stage's words where there is room for them, else its letter where there is room for that.
+/// Adds the name of a stage if it fits, otherwise its letter if that fits.
 fn add_name(text: &mut Vec<u8>, room: u64, stage: Stage) -> Result<(), AllocError> {
     if room >= WORDS_ROOM {
         add_stage(text, Some(stage))
@@ -103,7 +103,8 @@ fn add_name(text: &mut Vec<u8>, room: u64, stage: Stage) -> Result<(), AllocErro
     }
 }
 
-/// Adds bars, each from its place on, as wide as it lasts, and signs, each at its place, with the name of a stage.
+/// Adds bars, each from its start and as wide as its duration, and marks, each at its position, and the names of
+/// stages.
 fn add_pieces(
     text: &mut Vec<u8>,
     zone: Zone,
@@ -130,7 +131,7 @@ fn add_pieces(
     Ok(())
 }
 
-/// Adds a time of the axis, above or below the rows, and below it the seconds from the first time, or the day.
+/// Adds a time of the axis, above or below the rows, and below it the seconds since the first time, or the day.
 fn add_axis_time(
     text: &mut Vec<u8>,
     zone: Zone,
@@ -150,7 +151,7 @@ fn add_axis_time(
     put(text, b"</text>")
 }
 
-/// The seconds from one tick to the next: of days, where hours are too many.
+/// Returns the seconds between two ticks. They are whole days if hours would be too many.
 fn step_of(span: u64) -> u64 {
     for step in STEPS {
         if span < step.saturating_mul(TICKS) {
@@ -160,7 +161,8 @@ fn step_of(span: u64) -> u64 {
     (span / (TICKS * DAY) + 1).saturating_mul(DAY)
 }
 
-/// The time of a tick: below an hour they are counted from the first time, else they stand at whole steps of the day.
+/// Returns the time of a tick. If less than an hour is shown, ticks are counted from the first time, otherwise they are
+/// at whole steps of the day.
 fn tick_time(zone: Zone, frame: Frame, number: u64) -> u64 {
     let step = step_of(frame.span());
     let shown = local_seconds(zone, frame.start);
@@ -176,7 +178,7 @@ fn tick_time(zone: Zone, frame: Frame, number: u64) -> u64 {
         .saturating_add(number.saturating_mul(step))
 }
 
-/// Adds the ticks that aren't behind the last time: a line down, and its time above the rows and below them.
+/// Adds the ticks that are not after the last time: a vertical line, and its time above the rows and below them.
 fn add_ticks(text: &mut Vec<u8>, zone: Zone, frame: Frame) -> Result<(), AllocError> {
     for number in 0..TICKS {
         let time = tick_time(zone, frame, number);
@@ -195,12 +197,12 @@ fn add_ticks(text: &mut Vec<u8>, zone: Zone, frame: Frame) -> Result<(), AllocEr
     Ok(())
 }
 
-/// Ends a text that is loud where it has to be.
+/// Returns the end of an element, which is highlighted if `loud` is set.
 fn loud_if(loud: bool) -> &'static [u8] {
     if loud { b" r\">" } else { b"\">" }
 }
 
-/// Adds the row of an id at a place from above.
+/// Adds the row of an id at a vertical position.
 fn add_row(
     text: &mut Vec<u8>,
     zone: Zone,
@@ -224,7 +226,7 @@ fn add_row(
     put(text, b"</svg>\n")
 }
 
-/// Adds what stands above the rows: the size, the colors, the times, how it all is at the end, and what the shapes mean.
+/// Adds the part above the rows: the size, the colors, the times, the state at the end, and the legend.
 fn add_front(
     text: &mut Vec<u8>,
     zone: Zone,
@@ -250,15 +252,16 @@ fn add_front(
     add_number(text, b"", bottom, b"\">\n")
 }
 
-/// How many rows are drawn.
+/// Returns the number of rows that are drawn.
 fn drawn(which: WhichRows, rows: &[Row]) -> usize {
     rows.iter().filter(|row| is_drawn(which, row)).count()
 }
 
-/// Rows of a timeline as an SVG document: its times, how it all is at the end and what the shapes mean; an axis of the times of day
-/// above the rows and below them; a row for the stages, and one for each id, with how it is at the end and how much went
-/// wrong. Lives are quiet; what went wrong is loud; each shape says by a tooltip what it is. The document is 1,130 wide, and
-/// its rows are 22 high each, or 12 where there are more than 60. A browser shows it by itself, on a light or a dark ground.
+/// Adds rows of a timeline as an SVG document: its times, the state at the end and the legend; an axis with the times
+/// of day above the rows and below them; a row for the stages, and one for each id, with its state at the end and its
+/// number of faults. Faults are highlighted, and each shape has a tooltip that says what it is. The document is 1,130
+/// wide, and its rows are 22 high, or 12 if there are more than 60. A browser shows it by itself, on a light or a dark
+/// background.
 pub(crate) fn add_svg(
     text: &mut Vec<u8>,
     zone: Zone,

@@ -1,11 +1,11 @@
-//! A text in memory of its own.
+//! A byte string that owns its memory.
 
 ghost use Rattle.std.specs.Prelude.{◌≡◌, IfOk};
 
 use std::alloc::{AllocError, Global};
 use std::marker::Model;
 
-/// A text in memory of its own.
+/// A byte string that owns its memory.
 #[derive(Drop)]
 pub struct Bytes {
     text: Vec<u8>,
@@ -20,14 +20,14 @@ impl Model for Bytes {
 }
 
 impl Bytes {
-    /// The text, which is there already.
+    /// Takes over an existing text.
     pub fn of(text: Vec<u8>) -> Bytes
         ensures { result ≡ text.items }
     {
         Bytes { text }
     }
 
-    /// A copy of the text.
+    /// Copies a text.
     pub fn copy_of(alloc: Global, text: &[u8]) -> Result<Bytes, AllocError>
         ensures { IfOk result (λ bytes. bytes ≡ text.now) }
     {

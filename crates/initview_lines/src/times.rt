@@ -1,4 +1,4 @@
-//! How long what init waits for on its way to a level took in a trace.
+//! How long the entries that init waits for on its way to a level took in a trace.
 
 ghost use Rattle.std.specs.Prelude.{◌≡◌, ◌∷◌, ◌++◌, [], map, IfOk, OnOk};
 ghost use Rattle.initview_lines.specs.Times.{end_took, first_of, longest_of, seconds_of, seconds_to, sum_of, time_line, timed_of, times_by, times_in, took_of};
@@ -11,17 +11,17 @@ use initview_timeline::{Life, TimelineMark, lives_of, marks_for};
 use std::alloc::{AllocError, Global};
 use trace_view::Ending;
 
-/// How long an entry took for whose end init waits, from its first birth to its end, in seconds.
+/// How long an entry whose end init waits for took, from its first birth to its end, in seconds.
 #[derive(Clone, Copy)]
 pub enum TimeTaken {
     NotStarted,
     RunsStill,
     Seconds(u64),
-    /// No entry of the path took longer.
+    /// The same, and no entry of the path took longer.
     Longest(u64),
 }
 
-/// An entry that init waits for, and the first life of its children, where it has one.
+/// An entry that init waits for, and the life of its first child, if it had one.
 #[derive(Clone, Copy)]
 pub struct Timed {
     pub entry: Waited,
@@ -92,7 +92,7 @@ fn seconds_to(from: u64, end: Option<Ending>) -> u64
     }
 }
 
-/// The seconds of a life that ended.
+/// Returns the seconds of a life that ended, or 0.
 fn seconds_of(life: Option<Life>) -> u64
     ensures { result ≡ seconds_of life }
 {
@@ -164,8 +164,8 @@ fn add_times(
     Ok(())
 }
 
-/// Adds how long each entry took whose end init waits for on its way to a level, by the marks of a trace, the oldest
-/// first: the seconds from its first birth to its end. The longest of them are marked, and the last line has them all.
+/// Adds how long each entry whose end init waits for on its way to a level took, given the marks of a trace, the oldest
+/// first: the seconds from its first birth to its end. The longest times are marked, and the last line has their sum.
 pub fn add_path_times(
     lines: &mut Vec<Line>,
     alloc: Global,

@@ -1,4 +1,4 @@
-//! How lines are worded. `tools/rows/initview` tests it; no clause says a word.
+//! The wording of lines. It is tested by `tools/rows/initview`, and no contract mentions it.
 
 use crate::changes::Change;
 use crate::chart::add_chart;
@@ -18,7 +18,7 @@ use std::alloc::{AllocError, Global};
 use trace_events::Handed;
 use trace_view::Why;
 
-/// Lines in words, one after another. Times are in the zone, but for those of JSON, which are in UTC.
+/// Returns the text of lines. Times are in the given zone, except those in JSON, which are in UTC.
 pub fn words_of(alloc: Global, zone: Zone, lines: &[Line]) -> Result<Vec<u8>, AllocError> {
     let mut text = Vec::new(alloc);
     for line in lines {
@@ -67,7 +67,7 @@ fn add_line(text: &mut Vec<u8>, alloc: Global, zone: Zone, line: &Line) -> Resul
     }
 }
 
-/// Adds what is told of a file, behind its name.
+/// Adds a message about a file, after its name.
 fn add_file_line(text: &mut Vec<u8>, alloc: Global, told: &FileLine) -> Result<(), AllocError> {
     match told {
         FileLine::LeftOut(line, kind, field, meant) => {
@@ -77,7 +77,7 @@ fn add_file_line(text: &mut Vec<u8>, alloc: Global, told: &FileLine) -> Result<(
             fill(text, b":@: @", &[position, Value::Text(reason.as_bytes())])?;
             add_hint(text, kind, field.as_slice(), *meant)
         }
-        FileLine::Warned(line, kind) => fill(
+        FileLine::WasTermedBefore(line, kind) => fill(
             text,
             b":@: warning: @",
             &[Value::Number(*line as u64), Value::Text(kind.words())],
@@ -89,21 +89,21 @@ fn add_file_line(text: &mut Vec<u8>, alloc: Global, told: &FileLine) -> Result<(
         ),
         FileLine::Nameless => put(
             text,
-            b": lines begin with no id, as in BusyBox's inittab: write one before the first colon",
+            b": lines begin without an id, as in BusyBox's inittab; write one before the first colon",
         ),
         FileLine::Default(Some(_)) => put(
             text,
-            b": warning: no entry starts in the level of initdefault",
+            b": warning: no entry starts in the initdefault level",
         ),
         FileLine::Default(None) => put(
             text,
-            b": warning: no initdefault names a level: init goes to S",
+            b": warning: no initdefault names a level; init goes to S",
         ),
         FileLine::NoLine(id) => fill(text, b": no line has the id @", &[Value::Id(*id)]),
     }
 }
 
-/// Adds what is told behind the check that a line fails.
+/// Adds a hint after the check that a line fails.
 fn add_hint(
     text: &mut Vec<u8>,
     kind: LineKind,
@@ -113,16 +113,20 @@ fn add_hint(
     let field = Value::Shown(field);
     match (kind, meant) {
         (LineKind::Fields, _) => put(text, b": a line is id:runlevels:action:process"),
-        (LineKind::Id, _) => fill(text, b" @: 1 to 8 characters, the first no #", &[field]),
+        (LineKind::Id, _) => fill(text, b" @: 1 to 8 characters, the first not #", &[field]),
         (LineKind::Levels, _) => put(text, b": at most 11 characters"),
         (LineKind::Action, Some(act)) => {
-            fill(text, b" @: @?", &[field, Value::Text(act.word())])
+            fill(
+                text,
+                b" @; did you mean @?",
+                &[field, Value::Text(act.word())],
+            )
         }
         (LineKind::Action, None) => fill(text, b" @", &[field]),
-        (LineKind::Length, _) => put(text, b": at most 127 bytes: write a script"),
+        (LineKind::Length, _) => put(text, b": at most 127 bytes; write a script"),
         (LineKind::Empty, _) => Ok(()),
-        (LineKind::Text, _) => put(text, b": it is not UTF-8, or has a NUL"),
-        (LineKind::Twice, _) => fill(text, b" @: the first line of it counts", &[field]),
+        (LineKind::Text, _) => put(text, b": it is not UTF-8, or contains a NUL"),
+        (LineKind::Twice, _) => fill(text, b" @: only its first line counts", &[field]),
         (LineKind::Many, _) => put(text, b": at most 4096"),
     }
 }
@@ -131,13 +135,13 @@ fn add_took(text: &mut Vec<u8>, id: &Id, act: Act, took: TimeTaken) -> Result<()
     add_columns(text, id, Some(act))?;
     match took {
         TimeTaken::NotStarted => put(text, b"was not started\n"),
-        TimeTaken::RunsStill => put(text, b"runs still\n"),
+        TimeTaken::RunsStill => put(text, b"still running\n"),
         TimeTaken::Seconds(seconds) => fill(text, b"@ s\n", &[Value::Number(seconds)]),
         TimeTaken::Longest(seconds) => fill(text, b"@ s, the longest\n", &[Value::Number(seconds)]),
     }
 }
 
-/// The word of an action, or a dash.
+/// Returns the word of an action, or a dash.
 fn act_words(act: Option<Act>) -> &'static [u8] {
     match act {
         Some(act) => act.word(),
@@ -174,10 +178,10 @@ fn add_head(text: &mut Vec<u8>, zone: Zone, head: &Head) -> Result<(), AllocErro
         ],
     )?;
     if let Some(level) = head.goal {
-        fill(text, b"@ is asked for\n", &[Value::Level(level)])?;
+        fill(text, b"@ is requested\n", &[Value::Level(level)])?;
     }
     match head.wish {
-        Some(wish) => fill(text, b"a request stands: @\n", &[Value::Wish(wish)]),
+        Some(wish) => fill(text, b"a request is pending: @\n", &[Value::Wish(wish)]),
         None => Ok(()),
     }
 }
@@ -206,7 +210,7 @@ fn add_child(text: &mut Vec<u8>, at: &IdRow, number: ChildNumber) -> Result<(), 
     add_stopping(text, at)
 }
 
-/// Adds since when a child runs, and which of its id it is.
+/// Adds how long a child has been running, and its number among the children of its id.
 fn add_births(text: &mut Vec<u8>, at: &IdRow) -> Result<(), AllocError> {
     match (at.runs, at.row.births) {
         (Some(seconds), Some(births)) => fill(
@@ -218,7 +222,7 @@ fn add_births(text: &mut Vec<u8>, at: &IdRow) -> Result<(), AllocError> {
     }
 }
 
-/// Adds how far the stopping of a child has come.
+/// Adds the progress of stopping a child.
 fn add_stopping(text: &mut Vec<u8>, at: &IdRow) -> Result<(), AllocError> {
     match at.stopping {
         Some(stopping) => fill(
@@ -231,7 +235,7 @@ fn add_stopping(text: &mut Vec<u8>, at: &IdRow) -> Result<(), AllocError> {
     }
 }
 
-/// The state of an id that has no child, in a word or two.
+/// Returns the state of an id without a child, in a word or two.
 pub(crate) fn state_word(why: Why) -> &'static [u8] {
     match why {
         Why::NoEntry => b"no entry",
@@ -319,8 +323,8 @@ fn add_why(text: &mut Vec<u8>, reason: &Reason) -> Result<(), AllocError> {
             b"it ran once, before @",
             &[Value::Stage(reason.stage)],
         ),
-        Why::StageOver => put(text, b"its action starts it before the first level alone"),
-        Why::StageOwed(id) => fill(text, b"init waits for @", &[Value::Id(id)]),
+        Why::StageOver => put(text, b"its action starts it only before the first level"),
+        Why::StageOwed(id) => fill(text, b"init is waiting for @", &[Value::Id(id)]),
         Why::OtherStage => fill(
             text,
             b"it doesn't start in @",
@@ -335,18 +339,18 @@ fn add_why(text: &mut Vec<u8>, reason: &Reason) -> Result<(), AllocError> {
         Why::WasStarted => {
             put(
                 text,
-                b"it was started already since the level or its line changed: ",
+                b"it has already been started since the level or its line changed: ",
             )?;
             add_last(text, &reason.at)
         }
         Why::EarlierOwed(id) => fill(
             text,
-            b"init waits for @, which stands before it",
+            b"init is waiting for @, which comes before it",
             &[Value::Id(id)],
         ),
         Why::ExcludedKept(child) => fill(
             text,
-            b"@ (pid @) may not live in @, and has to end first",
+            b"@ (pid @) may not run in @, and must exit first",
             &[
                 Value::Id(child.id),
                 Value::Pid(child.number.0),
@@ -365,84 +369,84 @@ fn add_why(text: &mut Vec<u8>, reason: &Reason) -> Result<(), AllocError> {
         ),
         Why::WindowFull => put(
             text,
-            b"it was started ten times in two minutes: it is held next",
+            b"it was started ten times in two minutes and is held next",
         ),
-        Why::Nothing => put(text, b"nothing keeps it: its start is due"),
+        Why::Nothing => put(text, b"nothing holds it back: its start is due"),
     }
 }
 
-/// Adds that a child is kept: it runs, or its end isn't told.
+/// Adds the state of a kept child: it runs, or its end was not told yet.
 fn add_kept(text: &mut Vec<u8>, at: &IdRow, number: ChildNumber) -> Result<(), AllocError> {
     let number = [Value::Pid(number.0)];
     if at.row.child.is_none() {
         return fill(
             text,
-            b"its child @ has ended, which init isn't told yet",
+            b"its child @ has ended, but init has not been told yet",
             &number,
         );
     }
-    fill(text, b"its child runs: pid @", &number)?;
+    fill(text, b"its child is running: pid @", &number)?;
     add_births(text, at)
 }
 
 fn order_words(ask: OrderKind) -> &'static [u8] {
     match ask {
         OrderKind::Start => b"it is being started",
-        OrderKind::Look => b"init looks whether its child has ended",
+        OrderKind::Look => b"init is checking whether its child has ended",
         OrderKind::Term => b"TERM is being sent to its child",
         OrderKind::Kill => b"KILL is being sent to its child",
     }
 }
 
-/// What to do.
+/// Returns what to do.
 fn advice_of(stage: Option<Stage>, act: Option<Act>, why: Why) -> &'static [u8] {
     match why {
-        Why::NoEntry => b"add its line to the inittab, or mend it, and run telinit q",
+        Why::NoEntry => b"add its line to the inittab, or correct it, and run telinit q",
         Why::NeverStarts => b"give its line another action, and run telinit q",
         Why::NoStage => b"wait for stage sysinit",
-        Why::RanBefore | Why::StageOver => b"run it by hand, or boot again",
+        Why::RanBefore | Why::StageOver => b"run it by hand, or reboot",
         Why::OtherStage => other_advice(stage, act),
         Why::ChildKept(_) => kept_advice(act),
         Why::OrderOpen(_) => b"wait for the answer",
         Why::NotCalled => call_advice(),
         Why::WasStarted => again_advice(act),
         Why::StageOwed(_) | Why::EarlierOwed(_) | Why::ExcludedKept(_) => {
-            b"wait: init sends TERM, and KILL when the grace is over"
+            b"wait: init sends TERM, then KILL when the grace is over"
         }
-        Why::Held(_) => b"see why its children end so soon; telinit q ends the hold",
-        Why::WindowFull => b"see why its children end so soon",
+        Why::Held(_) => b"find out why its children exit so soon; telinit q ends the hold",
+        Why::WindowFull => b"find out why its children exit so soon",
         Why::WishStands(_) | Why::Nothing => b"wait for init's next turn",
     }
 }
 
-/// What to do about an entry of another stage. Where its action names no level, the way to another one starts it.
+/// Returns what to do about an entry of another stage. If its action ignores levels, going to another level starts it.
 fn other_advice(stage: Option<Stage>, act: Option<Act>) -> &'static [u8] {
     match (stage, act) {
         (Some(Stage::Run(_)), Some(act)) if act.ignores_levels() => b"go to another level",
         (Some(Stage::Run(_)), _) => {
-            b"go to a level that its line names, or name this one and run telinit q"
+            b"go to a level that its line names, or add this level to its line and run telinit q"
         }
         _ => b"wait for the first level",
     }
 }
 
-/// What to do about a child that runs, for which init may wait.
+/// Returns what to do about a running child, for which init may wait.
 fn kept_advice(act: Option<Act>) -> &'static [u8] {
     match act {
-        Some(act) if act.is_waited() => b"wait for its end, or end it",
-        _ => b"end the child to have it started anew, where its action says so",
+        Some(act) if act.is_waited() => b"wait until it exits, or kill it",
+        _ => b"kill the child to have it restarted, if its action does that",
     }
 }
 
 fn call_advice() -> &'static [u8] {
-    b"call it by telinit a, b or c, or by news of the power, as its action says"
+    b"start it with telinit a, b or c, or with telinit --power, depending on its action"
 }
 
-/// What to do about an entry that was started, of itself or by a call.
+/// Returns what to do about an entry that was started, by itself or by a call.
 fn again_advice(act: Option<Act>) -> &'static [u8] {
     match act {
         Some(act) if !act.is_wanted(true, true, false) => call_advice(),
-        _ => b"go to another level and back to have it started again",
+        _ => b"go to another level and back to start it again",
     }
 }
 
@@ -476,13 +480,13 @@ fn add_change(
 fn add_start(text: &mut Vec<u8>, id: &Id, act: Act, waits: bool) -> Result<(), AllocError> {
     add_columns(text, id, Some(act))?;
     if waits {
-        put(text, b"init waits for its end\n")
+        put(text, b"init waits until it exits\n")
     } else {
-        put(text, b"init goes on\n")
+        put(text, b"init does not wait\n")
     }
 }
 
-/// The id for whose end is waited.
+/// Returns the id whose end is waited for.
 fn id_or_nothing(before: &Option<Id>) -> Value<'_> {
     match before {
         Some(id) => Value::Id(*id),
@@ -558,7 +562,7 @@ fn add_news(text: &mut Vec<u8>, news: &News) -> Result<(), AllocError> {
                 Value::Status(Some(*status)),
             ],
         ),
-        News::NotSeen(id) => fill(text, b"@ could not be looked at", &[Value::Id(*id)]),
+        News::NotSeen(id) => fill(text, b"@ could not be checked", &[Value::Id(*id)]),
         News::Sent(id, order, child) => add_signal(text, b"@ sent to @", id, *order, *child),
         News::NotSent(id, order, child) => {
             add_signal(text, b"@ could not be sent to @", id, *order, *child)
@@ -574,7 +578,7 @@ fn code_of(letter: Letter) -> Value<'static> {
 
 fn power_words(kind: PowerKind) -> &'static [u8] {
     match kind {
-        PowerKind::Fail => b"the power fails",
+        PowerKind::Fail => b"the power is failing",
         PowerKind::FailNow => b"the battery is almost empty",
         PowerKind::Ok => b"the power is back",
     }
@@ -588,7 +592,7 @@ fn signal_word(order: Option<OrderKind>) -> &'static [u8] {
     }
 }
 
-/// Adds what became of a signal to the child of an id.
+/// Adds what happened to a signal for the child of an id.
 fn add_signal(
     text: &mut Vec<u8>,
     phrase: &[u8],
@@ -608,8 +612,8 @@ fn cause_words(cause: Cause) -> &'static [u8] {
     match cause {
         Cause::Magic => b"no magic number",
         Cause::Unknown => b"an unknown command",
-        Cause::LeftOut => b"a command that init leaves out",
-        Cause::Character => b"no character of telinit",
+        Cause::LeftOut => b"a command that init does not support",
+        Cause::Character => b"an invalid runlevel character",
     }
 }
 
@@ -626,13 +630,13 @@ fn add_request(text: &mut Vec<u8>, request: &HeardRequest) -> Result<(), AllocEr
             &[code_of(*letter)],
         ),
         HeardRequest::Reload => put(text, b"request: read inittab again"),
-        HeardRequest::Reexec => put(text, b"request: execute init anew"),
+        HeardRequest::Reexec => put(text, b"request: re-execute init"),
         HeardRequest::Power(kind) => {
             fill(text, b"request: @", &[Value::Text(power_words(*kind))])
         }
         HeardRequest::Nothing(why) => fill(
             text,
-            b"request passed over: it has @",
+            b"request skipped: it has @",
             &[Value::Text(cause_words(*why))],
         ),
     }
@@ -640,20 +644,20 @@ fn add_request(text: &mut Vec<u8>, request: &HeardRequest) -> Result<(), AllocEr
 
 fn add_handed(text: &mut Vec<u8>, how: Handed) -> Result<(), AllocError> {
     match how {
-        Handed::Whole => put(text, b"init executed itself anew"),
+        Handed::Whole => put(text, b"init re-executed itself"),
         Handed::Cut(bytes) => fill(
             text,
-            b"init could not execute itself anew: only @ bytes of its state came back",
+            b"init could not re-execute itself: only @ bytes of its state were read back",
             &[Value::Number(bytes)],
         ),
         Handed::Older(generation) => fill(
             text,
-            b"init could not execute itself anew: the state of generation @ came back",
+            b"init could not re-execute itself: the state of generation @ was read back",
             &[Value::Number(generation)],
         ),
         Handed::Failed => put(
             text,
-            b"init could not execute itself anew: its state was not handed over",
+            b"init could not re-execute itself: its state was not handed over",
         ),
     }
 }

@@ -1,4 +1,4 @@
-//! The words that lines are made of.
+//! The words that lines consist of.
 
 use init_words::{Level, Stage, Status};
 use itoa::Buffer;
@@ -22,7 +22,7 @@ pub(crate) fn add_number(
     put(text, after)
 }
 
-/// Adds a word, and spaces behind it up to a width.
+/// Adds a word, padded with spaces to a width.
 pub(crate) fn add_padded(text: &mut Vec<u8>, width: usize, word: &[u8]) -> Result<(), AllocError> {
     put(text, word)?;
     for _ in word.len()..width {
@@ -36,7 +36,7 @@ fn hex_digit(number: u8) -> u8 {
     zero.saturating_add(number)
 }
 
-/// Adds a text, a control character as `\xNN`.
+/// Adds a text, with control characters as `\xNN`.
 pub(crate) fn add_shown(text: &mut Vec<u8>, bytes: &[u8]) -> Result<(), AllocError> {
     for byte in bytes {
         if *byte >= 32 && *byte != 127 {
@@ -49,23 +49,23 @@ pub(crate) fn add_shown(text: &mut Vec<u8>, bytes: &[u8]) -> Result<(), AllocErr
     Ok(())
 }
 
-/// Adds the words of a level.
+/// Adds the words for a level.
 pub(crate) fn add_level(text: &mut Vec<u8>, level: Level) -> Result<(), AllocError> {
     put(text, b"level ")?;
     put(text, &[level.code()])
 }
 
-/// Adds the words of a stage.
+/// Adds the words for a stage.
 pub(crate) fn add_stage(text: &mut Vec<u8>, stage: Option<Stage>) -> Result<(), AllocError> {
     match stage {
-        None => put(text, b"the opening"),
+        None => put(text, b"startup"),
         Some(Stage::Sysinit) => put(text, b"stage sysinit"),
         Some(Stage::Boot) => put(text, b"stage boot"),
         Some(Stage::Run(level)) => add_level(text, level),
     }
 }
 
-/// Adds the words of how an id ended.
+/// Adds the words for how an id ended.
 pub(crate) fn add_status(text: &mut Vec<u8>, status: Option<Status>) -> Result<(), AllocError> {
     match status {
         None => put(text, b"its start failed"),

@@ -1,4 +1,4 @@
--- What a row tells of the marks that are shown to its id, and how these are parted.
+-- The row of an id depends only on the marks that concern it, and these are divided among the rows.
 use Rattle.initview_timeline.proofs.Words.{◌≡◌, ◌∙◌, refl, sym, ap, ℕ, Bool, true, false, ◌||◌, ◌&&◌, cond, min, nat_lt}
 use Rattle.std.proofs.Common.{◌^◌, ◌-◌}
 use Rattle.initview_timeline.proofs.Words.{List, [], ◌∷◌, ◌++◌, Some, filter, false≢true, same_id, same_id-is}
@@ -66,7 +66,7 @@ module _ (id : List ℕ) where
     split false is true rest = rw is rest
     split false is false rest = rest
 
-  -- a hold of the id is a mark of its own
+  -- a hold of the id is one of its own marks
   hold_own : (what : Shown) → is_for (Some id) what ≡ false → is_hold (Some id) what ≡ false
   hold_own (Held i) other = other
   hold_own _ other = refl
@@ -93,7 +93,7 @@ module _ (id : List ℕ) where
         ap (λ h. h && nat_lt end (min (plus m.time HOLD) (next_begin (2 ^ 64 - 1) (Some id) ms))
         || is_held end (Some id) ms) (hold_own m.what is) ∙ rest
 
-  -- where the same marks are shown
+  -- two lists have the same marks that concern the id
   module _ (marks all : List TimelineMark) (same : shown_to id marks ≡ shown_to id all) where
     pub own_same : marks_for (Some id) marks ≡ marks_for (Some id) all
     own_same = own_shown marks ∙ ap (marks_for (Some id)) same ∙ sym (own_shown all)
@@ -107,7 +107,7 @@ module _ (id : List ℕ) where
     pub held_same : (end : ℕ) → is_held end (Some id) marks ≡ is_held end (Some id) all
     held_same end = held_shown end marks ∙ ap (is_held end (Some id)) same ∙ sym (held_shown end all)
 
-  -- what is shown to one of some ids is near them
+  -- what concerns one of some ids is kept for all of them
   module _ (ids : List (List ℕ)) (one : among id ids ≡ true) where
     apart : (i : List ℕ) → among i ids ≡ false → same_id id i ≡ false
     apart i none = split (same_id id i) refl where
@@ -140,7 +140,7 @@ module _ (id : List ℕ) where
       split true is rest = ap (λ t. cond shows (m ∷ t) t) rest
       split false is rest = rest ∙ sym (ap (λ b. cond b (m ∷ shown_to id ms) (shown_to id ms)) (far m.what is))
 
--- one more id of a set that is filled
+-- one more id of a set that is being filled
 pub one_more : (now was here rest total : Bool) → now ≡ (here || was) → (was || (here || rest)) ≡ total
     → (now || rest) ≡ total
 one_more now true true rest total is so_far = rw is so_far

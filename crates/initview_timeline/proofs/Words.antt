@@ -1,4 +1,4 @@
--- The words of the proofs of this crate.
+-- Names that all proofs of this crate import.
 pub use Rattle.std.proofs.Common.{◌≡◌, ◌∙◌, refl, sym, ap, ℕ, ◌+◌, Bool, true, false, if◌then◌else◌, List, [], ◌∷◌}
 pub use Rattle.std.proofs.Common.{◌++◌, Option, Some, None, append_assoc, arith, filter, length, map, length-append}
 pub use Rattle.initview_timeline.specs.declared.lives.Life.{Life}

@@ -1,4 +1,4 @@
--- What the laws of a timeline speak of.
+-- The definitions that the laws of a timeline need.
 use Rattle.std.specs.Prelude.{ℕ, Bool, true, false, List, [], ◌∷◌, ◌++◌, Some}
 use Rattle.init_words.specs.declared.orders.SignalKind.TheVariants as sig
 use Rattle.initview_timeline.specs.declared.marks.Shown.{Shown}
@@ -10,7 +10,7 @@ use Rattle.initview_timeline.specs.declared.pieces.Piece.{Piece}
 use Rattle.initview_timeline.specs.Lives.{marks_for}
 use Rattle.initview_timeline.specs.Rows.{Scene}
 
--- what happened to an id
+-- the marks of an id
 abbrev pub id_marks : Scene → List ℕ → List TimelineMark
 id_marks s id = marks_for (Some id) s.marks
 
@@ -19,21 +19,23 @@ abbrev pub birth_at : ℕ → Shown → List (ℕ × ℕ)
 birth_at time (Born id number) = (number, time) ∷ []
 birth_at time _ = []
 
+-- the births among marks
 abbrev pub births : List TimelineMark → List (ℕ × ℕ)
 births [] = []
 births (mark ∷ marks) = birth_at mark.time mark.what ++ births marks
 
--- the child of a bar of a life, and from when on it is drawn
+-- the child of the bar of a life, and the time from which it is drawn
 abbrev pub life_from : ℕ → Drawn → List (ℕ × ℕ)
 life_from from (Waited l) = (l.number, from) ∷ []
 life_from from (Lives l) = (l.number, from) ∷ []
 life_from from _ = []
 
+-- the lives among bars
 abbrev pub lives_drawn : List Piece → List (ℕ × ℕ)
 lives_drawn [] = []
 lives_drawn (p ∷ ps) = life_from p.from p.what ++ lives_drawn ps
 
--- KILL was sent, or a start failed
+-- SIGKILL was sent, or a start failed
 abbrev pub says_fault : Shown → Bool
 says_fault (Sent id sig.Kill) = true
 says_fault (NotBorn id) = true

@@ -1,4 +1,4 @@
--- What a timeline knows of an id: the lives of its children, and what happened to it besides.
+-- What a timeline knows about an id: the lives of its children, and everything else that happened to it.
 use Rattle.std.specs.Prelude.{ℕ, Bool, true, false, filter, if◌then◌else◌, List, [], ◌∷◌, ◌++◌, Option, Some, None}
 use Rattle.std.specs.List.{list_any}
 use Rattle.std.specs.Option.{option_or}
@@ -10,7 +10,7 @@ use Rattle.initview_timeline.specs.declared.marks.Shown.TheVariants.{Held}
 use Rattle.initview_timeline.specs.declared.marks.TimelineMark.{TimelineMark}
 use Rattle.initview_timeline.specs.declared.lives.Life.{Life}
 
--- the id that it happened to
+-- the id that this happened to; none for a table or a stage
 abbrev pub id_of : Shown → Option (List ℕ)
 id_of Read = None
 id_of (Entered stage) = None
@@ -21,28 +21,31 @@ id_of (Ended id number status) = Some id
 id_of (Sent id signal) = Some id
 id_of (Held id) = Some id
 
+-- the same id; or none in both cases, which is the row of the stages
 abbrev pub same_row : Option (List ℕ) → Option (List ℕ) → Bool
 same_row None None = true
 same_row (Some id) (Some other) = same_id id other
 same_row _ _ = false
 
--- the ids to which something happened, each once, in that order
+-- the ids with one more, if it is not among them
 abbrev pub with_id : List (List ℕ) → Option (List ℕ) → List (List ℕ)
 with_id found None = found
 with_id found (Some id) = if list_any (same_id id) found then found else found ++ id ∷ []
 
+-- the ids to which something happened, each once, in that order
 abbrev pub ids_from : List (List ℕ) → List TimelineMark → List (List ℕ)
 ids_from found [] = found
 ids_from found (mark ∷ marks) = ids_from (with_id found (id_of mark.what)) marks
 
--- the marks of a row: of an id, or of the stages
+-- the mark belongs to the row of an id or, without one, of the stages
 abbrev pub is_for : Option (List ℕ) → Shown → Bool
 is_for id what = same_row id (id_of what)
 
+-- the marks of a row
 abbrev pub marks_for : Option (List ℕ) → List TimelineMark → List TimelineMark
 marks_for id marks = filter (λ (mark : TimelineMark). is_for id mark.what) marks
 
--- a birth begins a life, and what else happens to the id belongs to the last one: no id has two unreaped children
+-- A life after a mark of its id: the first SIGTERM and the end are recorded.
 abbrev pub life_after : Life → ℕ → Shown → Life
 life_after l time (Sent id sig.Term) =
     record { number = l.number; from = l.from; term = option_or l.term (Some time); end = l.end }
@@ -55,11 +58,14 @@ life_after l time (Ended id number status) =
     }
 life_after l time _ = l
 
+-- the lives after a mark of their id that belongs to the last life
 abbrev pub last_after : List Life → ℕ → Shown → List Life
 last_after [] time what = []
 last_after (l ∷ []) time what = life_after l time what ∷ []
 last_after (l ∷ m ∷ ls) time what = l ∷ last_after (m ∷ ls) time what
 
+-- The lives after a mark of their id: a birth begins a life, and everything else belongs to the last life, because no
+-- id has two unreaped children.
 abbrev pub lives_after : List Life → ℕ → Shown → List Life
 lives_after ls time (Born id number) = ls ++ record { number = number; from = time; term = None; end = None } ∷ []
 lives_after ls time what = last_after ls time what
@@ -68,5 +74,6 @@ abbrev pub lives_from : List Life → List TimelineMark → List Life
 lives_from ls [] = ls
 lives_from ls (mark ∷ marks) = lives_from (lives_after ls mark.time mark.what) marks
 
+-- the lives of an id's children, the oldest first
 abbrev pub lives_of : List TimelineMark → List Life
 lives_of marks = lives_from [] marks

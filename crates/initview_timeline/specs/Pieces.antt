@@ -1,5 +1,5 @@
--- What is drawn in a row of a timeline: bars, and signs upon them. Each life has one bar, Lives or Waited, in their
--- order, and no other definition makes one.
+-- The pieces of a row of a timeline: bars, and signs on top of them. Each life has one bar, Lives or Waited, in order,
+-- and no other definition makes such a bar.
 use Rattle.std.specs.Prelude.{ℕ, min, Bool, true, false, ◌&&◌, ◌==◌, not, if◌then◌else◌, List, [], ◌∷◌, ◌++◌, Option}
 use Rattle.std.specs.Prelude.{Some, None}
 use Rattle.std.specs.List.{flat_map}
@@ -20,88 +20,99 @@ use Rattle.initview_timeline.specs.declared.pieces.Piece.{Piece}
 use Rattle.initview_timeline.specs.Frames.{plus}
 use Rattle.initview_timeline.specs.Lives.{is_for}
 
--- what is drawn in a row
+-- the bars and the signs of a row
 pub record Drawing : Type 0 where
   pub bars : List Piece
   pub signs : List Piece
 
+-- a piece from one time to another
 abbrev pub piece : Drawn → ℕ → ℕ → List Piece
 piece what from to = record { what = what; from = from; to = to } ∷ []
 
--- a life goes on to its end, or the last time
+-- the end of a life, or the last time if it has not ended
 abbrev pub or_last : ℕ → Option Ending → ℕ
 or_last last None = last
 or_last last (Some ending) = ending.time
 
--- it failed: it ended, was not asked to, and not with exit status 0
+-- exit status 0
 abbrev pub is_done : Option Status → Bool
 is_done (Some (Exit code)) = code == 0
 is_done _ = false
 
+-- a child ended without being sent SIGTERM, and not with exit status 0
 abbrev pub ended_ill : Option ℕ → Option Ending → Bool
 ended_ill term None = false
 ended_ill term (Some ending) = is_none term && not (is_done ending.status)
 
+-- a life failed: it ended without being asked to, and not with exit status 0
 abbrev pub has_failed : Life → Bool
 has_failed l = ended_ill l.term l.end
 
--- a life has its bar, up to its end or the last time, and upon that one from TERM on
+-- the bar of a life depends on whether init waits for its end
 abbrev pub lived : Bool → Life → Drawn
 lived waited l = if waited then drawn.Waited l else drawn.Lives l
 
+-- the bar from SIGTERM to the end of a life, or the last time
 abbrev pub stop_bar : ℕ → Life → Option ℕ → List Piece
 stop_bar last l None = []
 stop_bar last l (Some term) = piece (drawn.Stops l) term (or_last last l.end)
 
+-- the bars of a life, the one from SIGTERM on top of the other
 abbrev pub life_bars : ℕ → Bool → Life → List Piece
 life_bars last waited l = piece (lived waited l) l.from (or_last last l.end) ++ stop_bar last l l.term
 
+-- the bars of several lives
 abbrev pub bars_of : ℕ → Bool → List Life → List Piece
 bars_of last waited lives = flat_map (life_bars last waited) lives
 
--- what went wrong in a life: that it failed, at its end
+-- the sign for a failed life, at its end
 abbrev pub life_signs : ℕ → Life → List Piece
 life_signs last l = if has_failed l then piece (drawn.Failed l) (or_last last l.end) (or_last last l.end) else []
 
+-- the signs of several lives
 abbrev pub signs_of : ℕ → List Life → List Piece
 signs_of last lives = flat_map (life_signs last) lives
 
--- a start of an id, done or failed
+-- a start of an id, successful or failed
 abbrev pub is_start : Option (List ℕ) → Shown → Bool
 is_start id (Born i number) = is_for id (Born i number)
 is_start id (NotBorn i) = is_for id (NotBorn i)
 is_start id _ = false
 
--- a stage goes on to the next one, as its being settled does, and a hold for five minutes, or up to the next stage,
--- table or start of the id
+-- a stage begins; or, in the row of an id, a table is read or the id is started, which ends a hold of it
 abbrev pub begins : Option (List ℕ) → Shown → Bool
 begins id (Entered stage) = true
 begins id Read = is_some id
 begins id what = is_start id what
 
+-- the time of the first such mark, or the last time
 abbrev pub next_begin : ℕ → Option (List ℕ) → List TimelineMark → ℕ
 next_begin last id [] = last
 next_begin last id (mark ∷ later) = if begins id mark.what then mark.time else next_begin last id later
 
+-- the bar for a mark: a stage, and that it is settled, last until the next one begins; a hold lasts for five minutes,
+-- or until it is ended
 abbrev pub mark_bars : ℕ → ℕ → Shown → List Piece
 mark_bars next time (Entered stage) = piece (drawn.Stage stage) time next
 mark_bars next time (Settled level) = piece (drawn.Settled (Run level)) time next
 mark_bars next time (Held id) = piece drawn.Held time (min (plus time HOLD) next)
 mark_bars next time _ = []
 
+-- the bars for the marks of a row
 abbrev pub marks_bars : ℕ → Option (List ℕ) → List TimelineMark → List Piece
 marks_bars last id [] = []
 marks_bars last id (mark ∷ later) =
     (if is_for id mark.what then mark_bars (next_begin last id later) mark.time mark.what else [])
     ++ marks_bars last id later
 
--- the name of a stage, that KILL was sent, and a start that failed
+-- the signs for the name of a stage, for a SIGKILL that was sent, and for a start that failed
 abbrev pub mark_signs : ℕ → ℕ → Shown → List Piece
 mark_signs next time (Entered stage) = piece (drawn.Name stage next) time time
 mark_signs next time (Sent id sig.Kill) = piece drawn.Killed time time
 mark_signs next time (NotBorn id) = piece drawn.Unborn time time
 mark_signs next time _ = []
 
+-- the signs for the marks of a row
 abbrev pub marks_signs : ℕ → Option (List ℕ) → List TimelineMark → List Piece
 marks_signs last id [] = []
 marks_signs last id (mark ∷ later) =

@@ -1,12 +1,12 @@
-//! Where the times of a timeline stand in its drawing.
+//! The positions of times in the drawing of a timeline.
 
 ghost use Rattle.std.specs.Prelude.{◌≡◌};
 ghost use Rattle.initview_timeline.specs.Frames.{left_of, place_of, scaled, span_of, width_of};
 
-/// How wide a bar is at least, so that it is seen.
+/// The minimum width of a bar, so that it is visible.
 pub const BAR_LEAST: u64 = 2;
 
-/// The times of a drawing, in seconds, and the number of its last place; the first is 0.
+/// The first and the last time of a drawing, in seconds, and the number of its last position. The first position is 0.
 #[derive(Clone, Copy)]
 pub struct Frame {
     pub start: u64,
@@ -14,7 +14,7 @@ pub struct Frame {
     pub last: u64,
 }
 
-/// A part of a whole among so many, rounded down.
+/// Scales a part of a whole to `many` positions, rounded down.
 fn scaled(part: u64, whole: u64, many: u64) -> u64
     ensures { result ≡ scaled part whole many }
 {
@@ -26,21 +26,21 @@ fn scaled(part: u64, whole: u64, many: u64) -> u64
 }
 
 impl Frame {
-    /// The seconds of the whole drawing.
+    /// Returns the duration that is drawn, in seconds.
     pub fn span(self) -> u64
         ensures { result ≡ span_of self }
     {
         self.end.saturating_sub(self.start)
     }
 
-    /// The place of a time, from the first to the last.
+    /// Returns the position of a time, from 0 to the last one.
     pub fn position(self, time: u64) -> u64
         ensures { result ≡ place_of self time }
     {
         scaled(time.saturating_sub(self.start), self.span(), self.last).min(self.last)
     }
 
-    /// How wide a bar is, at least so that it is seen.
+    /// Returns the width of a bar, which is at least `BAR_LEAST`.
     pub fn width(self, from: u64, to: u64) -> u64
         ensures { result ≡ width_of self from to }
     {
@@ -48,7 +48,7 @@ impl Frame {
         width.max(BAR_LEAST)
     }
 
-    /// Where a bar begins, so that it ends within the drawing.
+    /// Returns the position at which a bar begins, so that it ends within the drawing.
     pub fn left(self, from: u64, to: u64) -> u64
         ensures { result ≡ left_of self from to }
     {

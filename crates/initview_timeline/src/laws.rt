@@ -1,4 +1,4 @@
-//! What holds of each row of a timeline, as lines and as a picture.
+//! Laws about each row of a timeline, drawn as lines or as a picture.
 
 ghost use Rattle.std.specs.Prelude.{◌≡◌, ◌≤◌, ◌<◌, ◌+◌, ◌*◌, ◌-◌, ◌^◌, ℕ, List, filter, length};
 ghost use Rattle.initview_timeline.specs.declared.frames.Frame.{Frame};
@@ -9,24 +9,25 @@ ghost use Rattle.initview_timeline.specs.Lives.{lives_of};
 ghost use Rattle.initview_timeline.specs.Pieces.{has_failed};
 ghost use Rattle.initview_timeline.specs.Rows.{Scene, row_of};
 
-/// It does nothing: its contract says what a row shows, of every scene and id.
+/// States what a row shows, for every scene and id. The function does nothing; its contract is the law.
 pub fn law_of_rows()
-    // the lives of a row are the births of its id, in their order, each from its birth on
+    // The lives in a row are the births of its id, in order, each from its birth on.
     ensures lives { (s : Scene) (id : List ℕ)
         → lives_drawn (row_of s id).pieces.bars ≡ births (id_marks s id) }
-    // its red signs are as many as its failed lives, the KILLs that were sent, and the starts that failed
+    // The number of its fault marks is the number of its failed lives, of the SIGKILLs that were sent, and of the
+    // starts that failed.
     ensures faults { (s : Scene) (id : List ℕ) → length (row_of s id).pieces.signs
         ≡ length (filter has_failed (lives_of (id_marks s id))) + length
         (filter is_fault (id_marks s id)) }
-    // what is later stands at no earlier place
+    // A later time is not drawn at an earlier position.
     ensures order { (f : Frame) (time later : ℕ)
         → time ≤ later → place_of f time ≤ place_of f later }
-    // a time of the drawing stands in proportion, less than one place before
+    // A time within the drawing is drawn in proportion, less than one position too early.
     ensures scale { (f : Frame) (time : ℕ) → f.start ≤ time → time ≤ f.end → f.start < f.end
         → f.end * f.last < 2 ^ 64
         → (place_of f time * span_of f ≤ (time - f.start) * f.last)
         × ((time - f.start) * f.last < (place_of f time + 1) * span_of f) }
-    // nothing stands behind the last place, and no bar ends behind it
+    // No time is drawn after the last position, and no bar ends after it.
     ensures within { (f : Frame) (time : ℕ) → place_of f time ≤ f.last }
     ensures bars_within { (f : Frame) (from to : ℕ) → BAR_LEAST ≤ f.last
         → left_of f from to + width_of f from to ≤ f.last }

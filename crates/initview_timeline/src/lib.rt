@@ -1,5 +1,5 @@
-//! The timeline of a trace: the lives of each entry's children, what was sent to them, holds, failed starts and stages,
-//! over the trace's time. How it is drawn stands in `initview_lines`.
+//! The timeline of a trace: the lives of each entry's children, the signals sent to them, holds, failed starts and
+//! stages, over the time of the trace. `initview_lines` draws it.
 #![tactic(auto)]
 
 mod frames;

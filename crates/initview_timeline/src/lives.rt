@@ -1,4 +1,4 @@
-//! What a timeline knows of an id: the lives of its children, and what happened to it besides.
+//! What a timeline knows about an id: the lives of its children, and everything else that happened to it.
 
 ghost use Rattle.std.specs.Prelude.{◌≡◌, Some, IfOk, OnOk};
 ghost use Rattle.initview_timeline.specs.Lives.{id_of, ids_from, is_for, last_after, life_after, lives_after, lives_of, marks_for, with_id};
@@ -9,8 +9,8 @@ use init_words::{ChildNumber, Id, SignalKind};
 use std::alloc::{AllocError, Global};
 use trace_view::Ending;
 
-/// The life of a child: its number, when it was born, when it was first sent TERM, and how and when it ended, where it
-/// was and has. Times are seconds.
+/// The life of a child: its number, when it was born, when it was first sent SIGTERM if it was, and how and when it
+/// ended if it has. Times are in seconds.
 #[derive(Clone, Copy)]
 pub struct Life {
     pub number: ChildNumber,
@@ -19,7 +19,7 @@ pub struct Life {
     pub end: Option<Ending>,
 }
 
-/// The id that it happened to.
+/// Returns the id that this happened to.
 pub(crate) fn id_of(what: Shown) -> Option<Id>
     ensures { result ≡ id_of what }
 {
@@ -31,7 +31,7 @@ pub(crate) fn id_of(what: Shown) -> Option<Id>
     }
 }
 
-/// Adds an id where it isn't there yet.
+/// Adds an id, unless the set has it already.
 pub(crate) fn add_new(ids: &mut Ids, id: Id) -> Result<(), AllocError>
     ensures { OnOk result (ids.new.keys ≡ with_id ids.old.keys (Some id)) }
 {
@@ -39,7 +39,7 @@ pub(crate) fn add_new(ids: &mut Ids, id: Id) -> Result<(), AllocError>
     Ok(())
 }
 
-/// Adds each id to which something happened, where it isn't there yet.
+/// Adds each id to which something happened, unless the set has it already.
 pub(crate) fn add_ids(ids: &mut Ids, marks: &[TimelineMark]) -> Result<(), AllocError>
     ensures { OnOk result (ids.new.keys ≡ ids_from ids.old.keys marks.now) }
 {
@@ -53,14 +53,14 @@ pub(crate) fn add_ids(ids: &mut Ids, marks: &[TimelineMark]) -> Result<(), Alloc
     Ok(())
 }
 
-/// It stands in the row of this id, or of the stages.
+/// Reports whether this belongs to the row of the id, or of the stages.
 pub(crate) fn is_for(id: &Option<Id>, what: Shown) -> bool
     ensures { result ≡ is_for id.now what }
 {
     *id == id_of(what)
 }
 
-/// The marks of a row.
+/// Returns the marks of a row.
 pub fn marks_for(
     alloc: Global,
     id: &Option<Id>,
@@ -75,7 +75,7 @@ pub fn marks_for(
         .collect(alloc)
 }
 
-/// What a mark of its id makes of a life.
+/// Returns a life after a mark of its id.
 fn life_after(life: Life, mark: &TimelineMark) -> Life
     ensures { result ≡ life_after life mark.now.time mark.now.what }
 {
@@ -93,7 +93,7 @@ fn life_after(life: Life, mark: &TimelineMark) -> Life
     life
 }
 
-/// What a mark of its id makes of the last life.
+/// Updates the last life for a mark of its id.
 fn change_last(lives: &mut Vec<Life>, mark: &TimelineMark) -> Result<(), AllocError>
     ensures { OnOk result (lives.new.items
         ≡ last_after lives.old.items mark.now.time mark.now.what) }
@@ -105,7 +105,7 @@ fn change_last(lives: &mut Vec<Life>, mark: &TimelineMark) -> Result<(), AllocEr
     Ok(())
 }
 
-/// Takes a mark of an id: a birth begins a life, and anything else belongs to the last one.
+/// Updates the lives for a mark of their id: a birth begins a life, and anything else belongs to the last one.
 fn take(lives: &mut Vec<Life>, mark: &TimelineMark) -> Result<(), AllocError>
     ensures { OnOk result (lives.new.items
         ≡ lives_after lives.old.items mark.now.time mark.now.what) }
@@ -122,7 +122,7 @@ fn take(lives: &mut Vec<Life>, mark: &TimelineMark) -> Result<(), AllocError>
     Ok(())
 }
 
-/// The lives of an id's children, by its marks, the oldest first.
+/// Returns the lives of an id's children, the oldest first, given its marks.
 pub fn lives_of(alloc: Global, marks: &[TimelineMark]) -> Result<Vec<Life>, AllocError>
     ensures { IfOk result (λ lives. lives.items ≡ lives_of marks.now) }
 {

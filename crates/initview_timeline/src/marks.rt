@@ -1,4 +1,4 @@
-//! What a timeline shows of a trace, and when.
+//! What a timeline shows of a trace, and when it happened.
 
 ghost use Rattle.std.specs.Prelude.{◌≡◌, ◌∷◌, ◌++◌, List, OnOk};
 ghost use Rattle.trace_events.specs.Event.{Event};
@@ -12,7 +12,7 @@ use std::marker::Model;
 use trace_events::{Happening, HappeningIn};
 use trace_view::{TraceObserver, TraceView};
 
-/// What a timeline shows.
+/// Something that a timeline shows.
 #[derive(Clone, Copy)]
 pub enum Shown {
     /// A table came into force.
@@ -25,7 +25,7 @@ pub enum Shown {
     Born(Id, ChildNumber),
     /// A start of the id failed.
     NotBorn(Id),
-    /// The child of that number was reaped, with this status.
+    /// The child with this number was reaped, with this status.
     Ended(Id, ChildNumber, Status),
     /// A signal was sent to the child of the id.
     Sent(Id, SignalKind),
@@ -40,7 +40,7 @@ pub struct TimelineMark {
     pub what: Shown,
 }
 
-/// The signal that was sent for an order.
+/// Returns the signal that was sent for an order.
 fn sent_for(id: Id, order: Option<OrderKind>) -> Option<Shown>
     ensures { result ≡ sent_for id order }
 {
@@ -51,7 +51,7 @@ fn sent_for(id: Id, order: Option<OrderKind>) -> Option<Shown>
     }
 }
 
-/// What is shown of the happening that the view has seen last.
+/// Returns what is shown for the happening that the view has seen last.
 fn shown_of<A: Allocator, B: Allocator>(
     view: &TraceView<A>,
     happening: &HappeningIn<B>,
@@ -72,7 +72,7 @@ fn shown_of<A: Allocator, B: Allocator>(
     }
 }
 
-/// Adds the mark of what is shown.
+/// Adds a mark for something that is shown.
 fn add_mark<A: Allocator>(
     marks: &mut Vec<TimelineMark, A>,
     time: u64,
@@ -86,7 +86,7 @@ fn add_mark<A: Allocator>(
     Ok(())
 }
 
-/// Adds the mark of the happening that the view has seen last.
+/// Adds the mark for the happening that the view has seen last.
 fn take_mark<A: Allocator, B: Allocator>(
     marks: &mut Vec<TimelineMark, A>,
     view: &TraceView<A>,
@@ -102,7 +102,7 @@ fn take_mark<A: Allocator, B: Allocator>(
     Ok(())
 }
 
-/// The first reading of the clock, after a happening.
+/// Returns the first reading of the clock, after a happening.
 fn start_after<B: Allocator>(start: Option<u64>, happening: &HappeningIn<B>) -> Option<u64>
     ensures { result ≡ start_after start happening.now }
 {
@@ -112,7 +112,7 @@ fn start_after<B: Allocator>(start: Option<u64>, happening: &HappeningIn<B>) -> 
     }
 }
 
-/// The marks of what was seen, the oldest first, and the first reading of the clock.
+/// The marks of the happenings that were seen, the oldest first, and the first reading of the clock.
 #[derive(Drop)]
 pub struct Marks<A: Allocator = Global> {
     marks: Vec<TimelineMark, A>,
@@ -134,7 +134,7 @@ impl<A: Allocator> Marks<A> {
         self.marks.as_slice()
     }
 
-    /// The first reading of the clock, in seconds.
+    /// Returns the first reading of the clock, in seconds.
     pub fn start(&self) -> Option<u64>
         ensures { result ≡ self.now.start }
     {

@@ -1,4 +1,4 @@
-//! What is drawn in a row of a timeline: bars, from one time to another, and signs upon them, at a time.
+//! The pieces of a row of a timeline: bars, from one time to another, and signs on top of them, at one time.
 
 ghost use Rattle.std.specs.Prelude.{◌≡◌, ◌++◌, if◌then◌else◌, [], ◌∷◌, OnOk};
 ghost use Rattle.initview_timeline.specs.Pieces.{bars_of, begins, has_failed, is_start, life_bars, life_signs, mark_bars, mark_signs, marks_bars, marks_signs, next_begin, piece, signs_of};
@@ -10,27 +10,27 @@ use respawn_limit::HOLD;
 use std::alloc::{AllocError, Global};
 use std::marker::Model;
 
-/// What is drawn.
+/// What a piece shows.
 #[derive(Clone, Copy)]
 pub enum Drawn {
-    /// A stage, and that it was announced settled; its name, and up to when it goes on.
+    /// A stage; that it was announced settled; its name, and the time at which it ends.
     Stage(Stage),
     Settled(Stage),
     Name(Stage, u64),
-    /// A child lives, for whose end init waits, or not; it was sent TERM, and lives on.
+    /// A living child whose end init waits for; any other living child; a child that was sent SIGTERM and still lives.
     Waited(Life),
     Lives(Life),
     Stops(Life),
-    /// The id is held; it was not started, though it starts in the stage.
+    /// The id is held; it was not started although it starts in the stage.
     Held,
     Due,
-    /// A child ended unasked, and not with exit status 0; KILL was sent; a start failed.
+    /// A child ended without being asked to, and not with exit status 0; SIGKILL was sent; a start failed.
     Failed(Life),
     Killed,
     Unborn,
 }
 
-/// What is drawn, from when and up to when, in seconds.
+/// A piece, with the times at which it begins and ends, in seconds.
 #[derive(Clone, Copy)]
 pub struct Piece {
     pub what: Drawn,
@@ -38,7 +38,7 @@ pub struct Piece {
     pub to: u64,
 }
 
-/// What is drawn in a row, each upon those before it, and the signs upon the bars.
+/// The bars of a row, later ones on top of earlier ones, and the signs on top of the bars.
 #[derive(Drop)]
 pub struct Pieces {
     pub bars: Vec<Piece>,
@@ -53,14 +53,15 @@ impl Model for Pieces {
     ghost view = { λ p. record { bars = p.bars.items; signs = p.signs.items } };
 }
 
-/// It starts the id, or tries to.
+/// Reports whether this starts the id, or tries to.
 pub(crate) fn is_start(id: &Option<Id>, what: Shown) -> bool
     ensures { result ≡ is_start id.now what }
 {
     matches!(what, Shown::Born(_, _) | Shown::NotBorn(_)) && is_for(id, what)
 }
 
-/// It ends a hold of the id, or a stage where there is no id: the next stage, a start of the id, or a table.
+/// Reports whether this ends a hold of the id, or a stage if there is no id: the next stage, a start of the id, or a
+/// table.
 fn begins(id: &Option<Id>, what: Shown) -> bool
     ensures { result ≡ begins id.now what }
 {
@@ -71,7 +72,7 @@ fn begins(id: &Option<Id>, what: Shown) -> bool
     }
 }
 
-/// The time of the next that begins, or the last one.
+/// Returns the time of the first mark that ends the piece before it, or the last time.
 pub(crate) fn next_begin(last: u64, id: &Option<Id>, later: &[TimelineMark]) -> u64
     ensures { result ≡ next_begin last id.now later.now }
 {
@@ -85,7 +86,7 @@ pub(crate) fn next_begin(last: u64, id: &Option<Id>, later: &[TimelineMark]) -> 
     last
 }
 
-/// The time of the next that begins behind a mark, by that of the next from the mark on.
+/// Returns the time of the first such mark after a mark, given that of the first one from the mark on.
 fn next_behind(
     next: u64,
     last: u64,
@@ -103,7 +104,7 @@ fn next_behind(
     }
 }
 
-/// It ended unasked, and not with exit status 0.
+/// Reports whether a child ended without being asked to, and not with exit status 0.
 fn has_failed(life: &Life) -> bool
     ensures { result ≡ has_failed life.now }
 {
@@ -140,7 +141,7 @@ impl Pieces {
         Ok(())
     }
 
-    /// Adds a life, from TERM on another one upon it, and at its end that it failed.
+    /// Adds a life; from SIGTERM on another bar on top of it; and at its end whether it failed.
     fn add_life(&mut self, last: u64, waited: bool, life: Life) -> Result<(), AllocError>
         ensures bars { OnOk result (self.new.bars
             ≡ self.old.bars ++ life_bars last waited life) }
@@ -184,8 +185,8 @@ impl Pieces {
         Ok(())
     }
 
-    /// Adds a stage and its name, its being settled, a hold, that KILL was sent, or that a start failed; what goes on does
-    /// so up to the next time.
+    /// Adds a stage and its name, a stage that is settled, a hold, a SIGKILL, or a failed start. Bars end at the given
+    /// next time.
     fn add_mark(&mut self, next: u64, mark: &TimelineMark) -> Result<(), AllocError>
         ensures bars { OnOk result (self.new.bars
             ≡ self.old.bars ++ mark_bars next mark.now.time mark.now.what) }

@@ -13,11 +13,11 @@ use respawn_limit::HOLD;
 use std::alloc::{AllocError, Global};
 use std::marker::Model;
 
-/// So few rows walk the marks of each other.
+/// The number of rows up to which the marks are not divided among them.
 const FEW: usize = 8;
 
-/// What a timeline is drawn of: the table in force, the marks, the oldest first, the stage in force, whether that is
-/// settled, and whether nothing is owed in it, the first reading of the clock and the last one, in seconds.
+/// What a timeline is drawn from: the table in force; the marks, the oldest first; the stage in force, whether it is
+/// settled, and whether nothing is owed in it; the first reading of the clock and the last one, in seconds.
 #[derive(Clone, Copy)]
 pub struct Seen<'a> {
     pub entries: &'a [Entry],
@@ -29,7 +29,7 @@ pub struct Seen<'a> {
     pub end: u64,
 }
 
-/// How an id is at the end; where it ended with no status its start failed.
+/// The state of an id at the end. If it ended without a status, its start failed.
 #[derive(Clone, Copy)]
 pub enum State {
     Due,
@@ -40,7 +40,7 @@ pub enum State {
     Held,
 }
 
-/// The row of an id: how it is at the end, and what is drawn; each sign is something that went wrong.
+/// The row of an id: its state at the end, and its pieces. Each sign is a fault.
 #[derive(Drop)]
 pub struct Row {
     pub id: Id,
@@ -48,8 +48,8 @@ pub struct Row {
     pub pieces: Pieces,
 }
 
-/// A timeline, from the first reading of the clock up to the last, in seconds: what is drawn of the stages, the rows of the
-/// ids, and the stage in force at the end, and whether that is settled.
+/// A timeline from the first reading of the clock to the last, in seconds: the pieces of the stages, the rows of the
+/// ids, the stage in force at the end, and whether that is settled.
 #[derive(Drop)]
 pub struct Timeline {
     pub start: u64,
@@ -76,7 +76,7 @@ impl Model for Timeline {
 }
 
 impl Timeline {
-    /// Its times, in a drawing whose last place has this number.
+    /// Returns its times, for a drawing whose last position has this number.
     pub fn frame(&self, last: u64) -> Frame {
         Frame {
             start: self.start,
@@ -86,7 +86,7 @@ impl Timeline {
     }
 }
 
-/// What an entry starts of itself in a stage.
+/// Reports whether an entry is started by itself in a stage.
 pub(crate) fn starts_now(entry: &Entry, stage: Option<Stage>) -> bool
     ensures { result ≡ starts_now entry.now stage }
 {
@@ -117,8 +117,8 @@ fn add_table_ids(
     Ok(())
 }
 
-/// The ids: those of the table that start in the stage in force, or to which something happened, in its order, and then
-/// the others to which something happened.
+/// Returns the ids: first those of the table that start in the stage in force, or to which something happened, in its
+/// order; then the others to which something happened.
 fn ids_of(alloc: Global, seen: &Seen) -> Result<Ids, AllocError>
     ensures { IfOk result (λ ids. ids.keys ≡ ids_of (scene_of seen.now)) }
 {
@@ -129,7 +129,7 @@ fn ids_of(alloc: Global, seen: &Seen) -> Result<Ids, AllocError>
     Ok(ids)
 }
 
-/// How an id is after a mark of its own.
+/// Returns the state of an id after one of its marks.
 fn state_after(state: State, what: Shown) -> State
     ensures { result ≡ state_after state what }
 {
@@ -151,7 +151,8 @@ fn state_from(marks: &[TimelineMark]) -> State
         .fold(State::Due, |state, mark| state_after(state, mark.what))
 }
 
-/// A hold of the id is in force at a time: it began less than five minutes ago, and nothing ended it.
+/// Reports whether a hold of the id is in force at a time: it began less than five minutes before, and nothing ended
+/// it.
 fn is_held(end: u64, id: &Option<Id>, marks: &[TimelineMark]) -> bool
     ensures { result ≡ is_held end id.now marks.now }
 {
@@ -168,14 +169,14 @@ fn is_held(end: u64, id: &Option<Id>, marks: &[TimelineMark]) -> bool
     false
 }
 
-/// It runs, or is being stopped.
+/// Reports whether the id has a child, which may have been asked to end.
 fn is_up(state: State) -> bool
     ensures { result ≡ is_up state }
 {
     matches!(state, State::Runs | State::Stopping)
 }
 
-/// The marks from the last stage on.
+/// Returns the marks from the last stage on.
 fn of_stage(marks: &[TimelineMark]) -> &[TimelineMark]
     ensures { result.now ≡ of_stage marks.now marks.now }
 {
@@ -190,8 +191,8 @@ fn of_stage(marks: &[TimelineMark]) -> &[TimelineMark]
     found
 }
 
-/// What the rows have in common: the ids for the end of whose children init waits, those that start in the stage in
-/// force, those that were started in it, and the marks from it on.
+/// What the rows share: the ids whose children's end init waits for, those that start in the stage in force, those that
+/// were started in it, and the marks from it on.
 #[derive(Drop)]
 struct Common<'a> {
     waited: Ids,
@@ -212,7 +213,7 @@ fn common_of<'a>(alloc: Global, seen: &Seen<'a>) -> Result<Common<'a>, AllocErro
     })
 }
 
-/// It starts in the stage in force, in which something is owed, and was not started in it.
+/// Reports whether an id starts in the stage in force, in which something is owed, and was not started in it.
 fn waits(seen: &Seen, common: &Common, id: Id) -> bool
     requires { IsCommon common.now (scene_of seen.now) }
     ensures { result ≡ waits (scene_of seen.now) id }
@@ -220,7 +221,7 @@ fn waits(seen: &Seen, common: &Common, id: Id) -> bool
     !seen.complete && common.starting.contains(&id) && !common.begun.contains(&id)
 }
 
-/// How an id is at the end, by the marks that are shown to it, and its own.
+/// Returns the state of an id at the end, given the marks that concern it and its own.
 #[tactic(auto, using(crate::proofs::Parted::held_same))]
 fn state_of(
     seen: &Seen,
@@ -243,7 +244,7 @@ fn state_of(
     }
 }
 
-/// Adds that an id is due, since the stage in force was entered.
+/// Adds that an id is due, from the time at which the stage in force was entered.
 fn add_due(
     pieces: &mut Pieces,
     seen: &Seen,
@@ -263,7 +264,7 @@ fn add_due(
     Ok(())
 }
 
-/// The row of an id, by the marks that are shown to it.
+/// Returns the row of an id, given the marks that concern it.
 fn row_of(
     alloc: Global,
     seen: &Seen,
@@ -285,7 +286,7 @@ fn row_of(
     Ok(Row { id, state, pieces })
 }
 
-/// It is shown to one of these ids, or to each.
+/// Reports whether this concerns one of these ids, or all.
 fn is_near(ids: &Ids, what: Shown) -> bool
     ensures { result ≡ is_near ids.now.keys what }
 {
@@ -312,7 +313,7 @@ fn near_marks(
         .collect(alloc)
 }
 
-/// The marks that are shown to one of these ids.
+/// Returns the marks that concern one of these ids.
 fn marks_near(
     alloc: Global,
     ids: &[Id],
@@ -326,7 +327,7 @@ fn marks_near(
     Ok(near)
 }
 
-/// Adds the rows of ids, by the marks that are shown to them.
+/// Adds the rows of ids, given the marks that concern them.
 fn add_each(
     rows: &mut Vec<Row>,
     alloc: Global,
@@ -348,7 +349,8 @@ fn add_each(
     Ok(())
 }
 
-/// The same. The marks are parted by halves of the ids, so that no row walks those of all others.
+/// Adds the rows of ids in the same way. The marks are divided between halves of the ids, so that no row goes through
+/// the marks of all others.
 fn add_rows(
     rows: &mut Vec<Row>,
     alloc: Global,
@@ -381,7 +383,7 @@ fn rows_of(alloc: Global, seen: &Seen) -> Result<Vec<Row>, AllocError>
     Ok(rows)
 }
 
-/// What is drawn of the stages.
+/// Returns the pieces of the stages.
 fn stage_pieces(alloc: Global, seen: &Seen) -> Result<Pieces, AllocError>
     ensures { IfOk result (λ pieces. pieces ≡ stage_pieces (scene_of seen.now)) }
 {
@@ -390,7 +392,7 @@ fn stage_pieces(alloc: Global, seen: &Seen) -> Result<Pieces, AllocError>
     Ok(pieces)
 }
 
-/// It is one that an operator has to look at.
+/// Reports whether an operator has to look at this state.
 pub fn is_loud(state: State) -> bool
     ensures { result ≡ is_loud state }
 {
@@ -401,14 +403,14 @@ pub fn is_loud(state: State) -> bool
     }
 }
 
-/// Something of it went wrong, or is wrong at the end.
+/// Reports whether an id has a fault, or its state at the end is one.
 pub fn is_ill(row: &Row) -> bool
     ensures { result ≡ is_ill row.now }
 {
     !row.pieces.signs.is_empty() || is_loud(row.state)
 }
 
-/// The timeline of what was seen. Where the clock was never read it is one moment.
+/// Returns the timeline of what was seen. If the clock was never read, it is a single moment.
 pub fn timeline_of(alloc: Global, seen: &Seen) -> Result<Timeline, AllocError>
     ensures { IfOk result (λ timeline. timeline ≡ timeline_of (scene_of seen.now)) }
 {

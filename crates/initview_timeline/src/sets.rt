@@ -1,4 +1,4 @@
-//! Sets of ids, and what is known of each id at one step.
+//! Sets of ids, which are searched in constant time.
 
 ghost use Rattle.std.specs.Prelude.{◌≡◌, ◌&&◌, ◌||◌, List, ℕ, [], IfOk, OnOk};
 ghost use Rattle.std.specs.Option.{option_map_or};
@@ -14,17 +14,17 @@ use init_words::{Entry, Id, Stage, waited};
 use std::alloc::{AllocError, Global};
 use std::hash::{BuildHasherDefault, FoldHasher};
 
-/// Ids, each once, in the order in which they came.
+/// Ids without repetition, in the order in which they were added.
 pub(crate) type Ids = IndexSet<Id, BuildHasherDefault<FoldHasher>>;
 
-/// No ids. It takes no memory.
+/// Creates an empty set. It allocates no memory.
 pub(crate) fn no_ids(alloc: Global) -> Ids
     ensures { result.keys ≡ [] }
 {
     IndexSet::new(alloc)
 }
 
-/// Adds the id where the test holds.
+/// Adds the id if the test holds.
 fn add_if(ids: &mut Ids, id: Id, test: bool) -> Result<(), AllocError>
     ensures { OnOk result ((other : List ℕ) → among other ids.new.keys
         ≡ (same_id other id && test || among other ids.old.keys)) }
@@ -35,7 +35,7 @@ fn add_if(ids: &mut Ids, id: Id, test: bool) -> Result<(), AllocError>
     Ok(())
 }
 
-/// The ids to which something happened.
+/// Returns the ids to which something happened.
 #[tactic(auto, using(crate::proofs::Parted::one_more))]
 pub(crate) fn marked_ids(alloc: Global, marks: &[TimelineMark]) -> Result<Ids, AllocError>
     ensures { IfOk result (λ ids. (id : List ℕ) → among id ids.keys ≡ had_marks id marks.now) }
@@ -51,7 +51,7 @@ pub(crate) fn marked_ids(alloc: Global, marks: &[TimelineMark]) -> Result<Ids, A
     Ok(ids)
 }
 
-/// The ids that were started, or of which a start failed.
+/// Returns the ids that were started, or of which a start failed.
 #[tactic(auto, using(crate::proofs::Parted::one_more))]
 pub(crate) fn begun_ids(alloc: Global, marks: &[TimelineMark]) -> Result<Ids, AllocError>
     ensures { IfOk result (λ ids. (id : List ℕ) → among id ids.keys ≡ is_begun id marks.now) }
@@ -67,7 +67,7 @@ pub(crate) fn begun_ids(alloc: Global, marks: &[TimelineMark]) -> Result<Ids, Al
     Ok(ids)
 }
 
-/// The ids for the end of whose children init waits.
+/// Returns the ids whose children's end init waits for.
 #[tactic(auto, using(crate::proofs::Parted::one_more))]
 pub(crate) fn waited_ids(alloc: Global, entries: &[Entry]) -> Result<Ids, AllocError>
     ensures { IfOk result (λ ids. (id : List ℕ) → among id ids.keys ≡ is_waited id entries.now) }
@@ -81,7 +81,7 @@ pub(crate) fn waited_ids(alloc: Global, entries: &[Entry]) -> Result<Ids, AllocE
     Ok(ids)
 }
 
-/// The ids that start in the stage.
+/// Returns the ids that start in the stage.
 #[tactic(auto, using(crate::proofs::Parted::one_more))]
 pub(crate) fn starting_ids(
     alloc: Global,
@@ -100,7 +100,7 @@ pub(crate) fn starting_ids(
     Ok(ids)
 }
 
-/// The set of these.
+/// Returns the set of these ids.
 #[tactic(auto, using(crate::proofs::Parted::one_more))]
 pub(crate) fn set_of(alloc: Global, ids: &[Id]) -> Result<Ids, AllocError>
     ensures { IfOk result (λ set. (id : List ℕ) → among id set.keys ≡ among id ids.now) }

@@ -1,24 +1,25 @@
--- Texts at paths, as far as they are known.
+-- The texts at paths, as far as they are known.
 use Rattle.std.specs.Prelude.{◌≡◌, ℕ, if◌then◌else◌, List, [], ◌∷◌, Option, Some, None, IfSome}
 use Rattle.std.specs.Str.{bytes_eq}
 
--- the text at each path, where it is known
+-- the text at each path, if it is known
 abbrev pub KnownTexts : Type 0
 KnownTexts = List ℕ → Option (List ℕ)
 
--- the text is the one at the path, where that is known
+-- the text is the one at the path; if that is not known, any text is
 abbrev pub IsTextAt : KnownTexts → List ℕ → List ℕ → Type 0
 IsTextAt text_at path text = IfSome (text_at path) (λ known. text ≡ known)
 
--- a text that is kept, and its path
+-- a text that is kept in memory, and its path
 pub record Kept : Type 0 where
   pub path : List ℕ
   pub text : List ℕ
 
+-- this text, kept under this path
 abbrev pub kept_at : List ℕ → List ℕ → Kept
 kept_at path text = record { path = path; text = text }
 
--- the first text that is kept at the path
+-- the first text that is kept under the path
 abbrev pub text_in : List Kept → KnownTexts
 text_in [] path = None
 text_in (kept ∷ others) path = if bytes_eq kept.path path then Some kept.text else text_in others path

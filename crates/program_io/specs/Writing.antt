@@ -1,13 +1,13 @@
--- What a write that may stop leaves.
+-- The effect of a write that may stop early.
 use Rattle.std.specs.Prelude.{◌≡◌, ◌<◌, ℕ, List, length, ◌++◌, Option}
 use Rattle.std.specs.Io.KnownBytes.{Appends}
 
--- the known bytes grew by a prefix of the text, which may be the whole
+-- the known bytes grew by a prefix of the text, possibly by all of it
 abbrev pub AppendsPrefix : Option (List ℕ) → Option (List ℕ) → List ℕ → Type 0
 AppendsPrefix old new text =
     (front : List ℕ) × (rest : List ℕ) × (front ++ rest ≡ text) × Appends old new front
 
--- the known bytes grew by a prefix of the text, and something of the text was left
+-- the known bytes grew by a proper prefix of the text
 abbrev pub AppendsFront : Option (List ℕ) → Option (List ℕ) → List ℕ → Type 0
 AppendsFront old new text =
     (front : List ℕ) × (rest : List ℕ) × (front ++ rest ≡ text) × Appends old new front × (0 < length rest)

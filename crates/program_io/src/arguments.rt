@@ -1,9 +1,9 @@
-//! The words that a program was called with, and what is said where they can't be had.
+//! The command-line arguments of a program, and what it reports if they cannot be read.
 
 ghost use Rattle.std.specs.Prelude.{◌≡◌, ◌≢◌};
 ghost use Rattle.std.specs.IoError.{error_kind};
 ghost use Rattle.program_io.specs.Arguments.{no_memory_text, only_byte};
-ghost use Rattle.program_io.specs.Reports.{HasReported};
+ghost use Rattle.program_io.specs.Reports.{AppendsReport};
 
 use crate::faults::report_no_memory;
 use crate::reports::Reporter;
@@ -13,12 +13,12 @@ use std::env::Env;
 use std::io::ErrorKind;
 use std::{env, io};
 
-/// The words after the program's name. A word that is no UTF-8 is an error, `InvalidData`.
+/// Returns the arguments after the program's name. An argument that is not UTF-8 is an error, `InvalidData`.
 pub fn words<R: Env + AllocGlobal>(rt: &R, alloc: Global) -> io::Result<Vec<String>> {
     Ok(env::args(rt)?.skip(1).collect(alloc)?)
 }
 
-/// The byte of a word that is one byte long.
+/// Returns the only byte of a text; `None` if the text does not have exactly one byte.
 pub fn only_byte(word: &str) -> Option<u8>
     ensures { result ≡ only_byte word.now }
 {
@@ -28,7 +28,8 @@ pub fn only_byte(word: &str) -> Option<u8>
     }
 }
 
-/// The exit status of a program whose words couldn't be read: 4 for lack of memory, 1 for a word that is no text.
+/// Returns the exit status of a program whose arguments could not be read: 4 if memory ran out, 1 for any other error,
+/// such as an argument that is not UTF-8.
 pub fn unread_status(error: &io::Error) -> u8
     ensures memory { error_kind error.now ≡ ErrorKind.OutOfMemory → result ≡ DEVICE_FAULT }
     ensures text { error_kind error.now ≢ ErrorKind.OutOfMemory → result ≡ REFUSED }
@@ -40,7 +41,8 @@ pub fn unread_status(error: &io::Error) -> u8
     }
 }
 
-/// Reports that memory ran out while the words were read, or else the usage, and gives `unread_status`.
+/// Reports that memory ran out while the arguments were read, or the usage for any other error. Returns
+/// `unread_status`.
 pub fn report_unread_words<E: Reporter>(
     name: &str,
     usage: &str,
@@ -48,9 +50,9 @@ pub fn report_unread_words<E: Reporter>(
     err: &mut E,
 ) -> u8
     ensures memory { error_kind error.now ≡ ErrorKind.OutOfMemory → (result ≡ DEVICE_FAULT)
-        × HasReported (E.reports err.old) (E.reports err.new) (no_memory_text name.now) }
+        × AppendsReport (E.reports err.old) (E.reports err.new) (no_memory_text name.now) }
     ensures text { error_kind error.now ≢ ErrorKind.OutOfMemory → (result ≡ REFUSED)
-        × HasReported (E.reports err.old) (E.reports err.new) usage.now }
+        × AppendsReport (E.reports err.old) (E.reports err.new) usage.now }
 {
     if unread_status(error) == DEVICE_FAULT {
         report_no_memory(name, err)
@@ -59,10 +61,10 @@ pub fn report_unread_words<E: Reporter>(
     }
 }
 
-/// Reports the usage, and gives the status of words that are no command line.
+/// Reports the usage, and returns the exit status for a rejected command line.
 pub fn report_usage<E: Reporter>(usage: &str, err: &mut E) -> u8
     ensures status { result ≡ REFUSED }
-    ensures report { HasReported (E.reports err.old) (E.reports err.new) usage.now }
+    ensures report { AppendsReport (E.reports err.old) (E.reports err.new) usage.now }
 {
     err.report(usage.as_bytes());
     REFUSED

@@ -1,5 +1,5 @@
-//! The channel of requests as a file (initreq.h): made where it is missing, opened without waiting, and locked by the
-//! init that reads it.
+//! The request channel as a file (initreq.h): it is created if it does not exist, opened without blocking, and locked
+//! by the initd that reads it.
 
 ghost use Rattle.std.specs.Prelude.{◌≡◌, length, true, false, IfOk};
 ghost use Rattle.program_io.specs.declared.channel_files.TheConstants.{REQUEST};
@@ -12,41 +12,43 @@ use std::os::unix::fs::{MetadataExt, OpenOptionsExt};
 use std::rt::Files;
 use std::{fs, io};
 
-/// The bytes of a request in the channel (initreq.h).
+/// The length of a request in bytes (initreq.h).
 pub const REQUEST: usize = 384;
 
-/// The mode of a channel that is made: its owner reads and writes.
+/// The mode of a new channel: only its owner can read and write it.
 const MODE: u32 = 0o600;
 
-/// How often the lock is asked for, since a look of `is_read` holds it too, for a moment.
+/// How often `lock_channel` tries to take the lock, because `is_read` holds it for a moment, too.
 const LOCK_TRIES: u32 = 100;
 
-/// A channel that is open to append to it, and to read it where it is locked.
+/// A channel that is open for appending. One that was opened to be locked is also open for reading.
 #[derive(Drop)]
 pub struct OpenChannel {
     file: File,
-    /// It was missing, and was made.
+    /// Whether the channel did not exist and was created.
     pub was_made: bool,
-    /// The bytes that it had when it was opened.
+    /// Its length in bytes when it was opened.
     pub length: u64,
 }
 
 impl OpenChannel {
-    /// Opens a channel, and makes an empty one of mode 0600 where it is missing. What is no plain file is not opened,
-    /// since a FIFO would wait for its reader; it is an error, `InvalidInput`.
+    /// Opens a channel, and creates an empty one of mode 0600 if it does not exist.
+    ///
+    /// Anything but a plain file is an error, `InvalidInput`, and is not opened, because opening a FIFO would block
+    /// until it has a reader.
     pub fn open<R: Files<File = File>>(rt: &R, path: &str) -> io::Result<OpenChannel>
         ensures made { IfOk result (λ channel. channel.was_made ≡ true → channel.length ≡ 0) }
     {
         open_or_make(rt, path, false)
     }
 
-    /// Appends a block, and nothing of it where the limit of file sizes has no room for the whole.
+    /// Appends a block. If the file size limit leaves no room for the whole block, nothing is written.
     pub fn append(&mut self, block: &[u8]) -> io::Result<()> {
         refuse_too_large(&self.file, self.file.metadata()?.len(), block.len())?;
         write_text(&mut self.file, block)
     }
 
-    /// An init holds the channel's lock.
+    /// Returns whether an initd holds the channel's lock.
     pub fn is_read(&self) -> io::Result<bool> {
         match self.file.try_lock_shared() {
             Ok(()) => {
@@ -59,32 +61,32 @@ impl OpenChannel {
     }
 }
 
-/// The lock of the init that reads a channel. It is released where this is dropped.
+/// The lock of the initd that reads a channel. It is released when this value is dropped.
 #[derive(Drop)]
 pub struct ChannelLock {
-    /// It stays open, so that no other file gets its number.
+    /// Stays open, so that no other file gets its inode number.
     channel: OpenChannel,
-    /// The device and the number of the file.
+    /// The device and the inode number of the file.
     file: (u64, u64),
 }
 
 impl ChannelLock {
-    /// The channel was missing, and was made.
+    /// Returns whether the channel did not exist and was created.
     pub fn was_made(&self) -> bool {
         self.channel.was_made
     }
 
-    /// It is the lock of this file, which stands at the channel's path.
+    /// Returns whether this is the lock of the file that was found at the channel's path.
     pub fn is_of(&self, found: &Metadata) -> bool {
         self.file == (found.dev(), found.ino())
     }
 
-    /// The bytes that the file has.
+    /// Returns the length of the file in bytes.
     pub fn length(&self) -> io::Result<u64> {
         Ok(self.channel.file.metadata()?.len())
     }
 
-    /// Reads a request of the file, from this byte on.
+    /// Reads the request that begins at this byte of the file.
     pub fn read_at(&self, position: u64, request: &mut [u8; REQUEST]) -> io::Result<()>
         ensures { length request.new ≡ REQUEST }
     {
@@ -92,7 +94,7 @@ impl ChannelLock {
     }
 }
 
-/// Reads a request of the file, from this byte on.
+/// Reads the request that begins at this byte of the file.
 pub fn read_request(mut file: &File, position: u64, request: &mut [u8; REQUEST]) -> io::Result<()>
     ensures { length request.new ≡ REQUEST }
 {
@@ -100,8 +102,8 @@ pub fn read_request(mut file: &File, position: u64, request: &mut [u8; REQUEST])
     file.read_exact(request)
 }
 
-/// Takes the lock of a channel, which is made where it is missing, as `OpenChannel::open` does. There is none where another
-/// holds it.
+/// Takes the lock of a channel, which is created if it does not exist, as by `OpenChannel::open`. Returns `None` if
+/// another process holds the lock.
 pub fn lock_channel<R: Files<File = File>>(rt: &R, path: &str) -> io::Result<Option<ChannelLock>> {
     let channel = open_or_make(rt, path, true)?;
     for _ in 0..LOCK_TRIES {
@@ -114,7 +116,7 @@ pub fn lock_channel<R: Files<File = File>>(rt: &R, path: &str) -> io::Result<Opt
     Ok(None)
 }
 
-/// A channel whose lock was taken.
+/// Returns the lock of a channel whose file has just been locked.
 fn locked(channel: OpenChannel) -> io::Result<ChannelLock> {
     let found = channel.file.metadata()?;
     Ok(ChannelLock {
@@ -123,7 +125,7 @@ fn locked(channel: OpenChannel) -> io::Result<ChannelLock> {
     })
 }
 
-/// An init holds the lock of the channel at this path. Nobody holds that of a file that is missing.
+/// Returns whether an initd holds the lock of the channel at this path; `false` if the file does not exist.
 pub fn is_read<R: Files<File = File>>(rt: &R, path: &str) -> io::Result<bool> {
     if !is_there(rt, path)? {
         return Ok(false);
@@ -131,7 +133,7 @@ pub fn is_read<R: Files<File = File>>(rt: &R, path: &str) -> io::Result<bool> {
     open_old(rt, path, false)?.is_read()
 }
 
-/// Opens a channel, to read it too where that is said, and makes an empty one where it is missing.
+/// Opens a channel, for reading too if `reads` is set, and creates an empty one if it does not exist.
 fn open_or_make<R: Files<File = File>>(rt: &R, path: &str, reads: bool) -> io::Result<OpenChannel>
     ensures made { IfOk result (λ channel. channel.was_made ≡ true → channel.length ≡ 0) }
 {
@@ -155,18 +157,18 @@ fn open_or_make<R: Files<File = File>>(rt: &R, path: &str, reads: bool) -> io::R
     }
 }
 
-/// A plain file is there.
+/// Returns whether there is a file at the path. Anything but a plain file is an error, `InvalidInput`.
 fn is_there<R: Files>(rt: &R, path: &str) -> io::Result<bool> {
     match fs::metadata(rt, path) {
         Ok(found) if found.is_file() => Ok(true),
-        Ok(_) => Err(Error::new(ErrorKind::InvalidInput, "it is no plain file")),
+        Ok(_) => Err(Error::new(ErrorKind::InvalidInput, "not a regular file")),
         Err(error) if error.kind() == ErrorKind::NotFound => Ok(false),
         Err(error) => Err(error),
     }
 }
 
-/// Opens a channel at whose path something stands: it was made meanwhile, or is a link. Where a link leads to a missing
-/// file that is made.
+/// Opens a channel whose path exists after all: it was created in the meantime, or is a symbolic link. If the link
+/// leads to a file that does not exist, that file is created. The channel counts as created if it is empty.
 fn open_linked<R: Files<File = File>>(rt: &R, path: &str, reads: bool) -> io::Result<OpenChannel>
     ensures made { IfOk result (λ channel. channel.was_made ≡ true → channel.length ≡ 0) }
 {
@@ -184,7 +186,7 @@ fn open_linked<R: Files<File = File>>(rt: &R, path: &str, reads: bool) -> io::Re
     })
 }
 
-/// Opens a channel that is there.
+/// Opens a channel that exists.
 fn open_old<R: Files<File = File>>(rt: &R, path: &str, reads: bool) -> io::Result<OpenChannel>
     ensures old { IfOk result (λ channel. channel.was_made ≡ false) }
 {

@@ -1,29 +1,32 @@
-//! What is reported where a file, the output or memory fails.
+//! Reports that a file, the output or memory allocation failed.
 
 ghost use Rattle.std.specs.Prelude.{◌≡◌, List, ℕ};
 ghost use Rattle.program_io.specs.Arguments.{no_memory_text};
-ghost use Rattle.program_io.specs.Reports.{HasReported, HasSpoken, failure_text, fault_text};
+ghost use Rattle.program_io.specs.Reports.{AppendsReport, LastReportNonempty, failure_text, fault_text};
 
 use crate::reasons::reason_text;
 use crate::reports::Reporter;
 use crate::statuses::DEVICE_FAULT;
 use std::io;
 
-/// What is reported after the program's name where memory ran out.
-const NO_MEMORY: &str = "out of memory: nothing was written; free some memory and ask again";
+/// The report after the program's name if memory ran out.
+const NO_MEMORY: &str = "out of memory: nothing was written; free some memory and try again";
 
-/// Reports a fault in a line behind the program's name, and gives the status.
+/// Reports the line `NAME: FAULT`, and returns the exit status.
 pub fn report_fault<E: Reporter>(name: &str, fault: &str, err: &mut E) -> u8
     ensures status { result ≡ DEVICE_FAULT }
-    ensures report { HasReported (E.reports err.old) (E.reports err.new)
+    ensures report { AppendsReport (E.reports err.old) (E.reports err.new)
         (fault_text name.now fault.now) }
-    ensures spoken { HasSpoken (E.reports err.new) }
+    ensures spoken { LastReportNonempty (E.reports err.new) }
 {
     err.report_texts(&[name, ": ", fault, "\n"]);
     DEVICE_FAULT
 }
 
-/// Reports what could not be done with a path, as `cannot read`, why, and what comes of it or helps, and gives the status.
+/// Reports that an operation on a path failed, as the line `NAME: ACT PATH: REASON`, and returns the exit status.
+///
+/// `act` is what failed, such as `cannot read`. `more` is added to the reason: what follows from the failure, or what
+/// to do.
 pub fn report_failure<E: Reporter>(
     name: &str,
     act: &str,
@@ -33,14 +36,14 @@ pub fn report_failure<E: Reporter>(
     err: &mut E,
 ) -> u8
     ensures status { result ≡ DEVICE_FAULT }
-    ensures report { (reason : List ℕ) × HasReported (E.reports err.old) (E.reports err.new)
+    ensures report { (reason : List ℕ) × AppendsReport (E.reports err.old) (E.reports err.new)
         (failure_text name.now act.now path.now reason more.now) }
-    ensures spoken { HasSpoken (E.reports err.new) }
+    ensures spoken { LastReportNonempty (E.reports err.new) }
 {
     report_reason(name, act, path, reason_text(error).as_str(), more, err)
 }
 
-/// The same with a reason in words.
+/// Does what `report_failure` does, with the reason as a text.
 fn report_reason<E: Reporter>(
     name: &str,
     act: &str,
@@ -50,21 +53,21 @@ fn report_reason<E: Reporter>(
     err: &mut E,
 ) -> u8
     ensures status { result ≡ DEVICE_FAULT }
-    ensures report { HasReported (E.reports err.old) (E.reports err.new)
+    ensures report { AppendsReport (E.reports err.old) (E.reports err.new)
         (failure_text name.now act.now path.now reason.now more.now) }
-    ensures spoken { HasSpoken (E.reports err.new) }
+    ensures spoken { LastReportNonempty (E.reports err.new) }
 {
     err.report_texts(&[name, ": ", act, " ", path, ": ", reason, more, "\n"]);
     DEVICE_FAULT
 }
 
-/// Reports that memory ran out before anything was written, and gives the status.
+/// Reports that memory ran out before anything was written, and returns the exit status.
 #[tactic(auto, unfolding(crate::specs::Arguments::no_memory_text))]
 pub fn report_no_memory<E: Reporter>(name: &str, err: &mut E) -> u8
     ensures status { result ≡ DEVICE_FAULT }
-    ensures report { HasReported (E.reports err.old) (E.reports err.new)
+    ensures report { AppendsReport (E.reports err.old) (E.reports err.new)
         (no_memory_text name.now) }
-    ensures spoken { HasSpoken (E.reports err.new) }
+    ensures spoken { LastReportNonempty (E.reports err.new) }
 {
     report_fault(name, NO_MEMORY, err)
 }

@@ -1,4 +1,4 @@
-//! Whole files, read.
+//! Reading whole files.
 
 ghost use Rattle.std.specs.Prelude.{◌≡◌, IfOk, IfSome, OnOk, true};
 ghost use Rattle.std.specs.Io.KnownBytes.{IsAtEnd};
@@ -10,11 +10,11 @@ use std::os::unix::fs::MetadataExt;
 use std::rt::Files;
 use std::{fs, io};
 
-/// The most reads by which a reader is read to its end.
+/// The maximum number of reads by which a reader is read to its end.
 pub const READS_LIMIT: u32 = 1_000_000;
 
-/// All bytes that a reader has left. A reader that isn't at its end after 1,000,000 reads of up to 8,192 bytes is an
-/// error, `FileTooLarge`.
+/// Reads all remaining bytes of a reader. If its end is not reached after 1,000,000 reads of up to 8,192 bytes, the
+/// error is `FileTooLarge`.
 pub fn read_all<R: Read, A: Allocator>(alloc: A, from: &mut R) -> io::Result<Vec<u8, A>>
     ensures whole { IfOk result (λ bytes. IfSome (R.remaining from.old)
         (λ left. bytes.items ≡ left)) }
@@ -32,18 +32,20 @@ pub fn read_all<R: Read, A: Allocator>(alloc: A, from: &mut R) -> io::Result<Vec
     Err(Error::from(ErrorKind::FileTooLarge))
 }
 
-/// Refuses a FIFO, a device and a socket, `InvalidInput`, so that none is opened: a FIFO would wait for its other end.
-/// A plain file, a folder and a path at which nothing stands are left to the call that opens them.
+/// Returns the error `InvalidInput` for a FIFO, a device or a socket, so that none is opened: opening a FIFO would
+/// block until its other end is opened.
+///
+/// A plain file, a directory and a path that does not exist are left to the call that opens them.
 pub fn refuse_special<R: Files>(rt: &R, path: &str) -> io::Result<()> {
     match fs::metadata(rt, path) {
         Ok(found) if !found.is_file() && !found.is_dir() => {
-            Err(Error::new(ErrorKind::InvalidInput, "it is no plain file"))
+            Err(Error::new(ErrorKind::InvalidInput, "not a regular file"))
         }
         _ => Ok(()),
     }
 }
 
-/// Two paths are the same, or lead to one file.
+/// Returns whether two paths are equal or lead to the same file.
 pub fn are_one_file<R: Files>(rt: &R, one: &str, other: &str) -> bool
     ensures same { one.now ≡ other.now → result ≡ true }
 {
@@ -56,13 +58,13 @@ pub fn are_one_file<R: Files>(rt: &R, one: &str, other: &str) -> bool
     }
 }
 
-/// Opens a file to read it, and refuses what `refuse_special` refuses.
+/// Opens a file for reading, unless `refuse_special` rejects it.
 pub fn open_plain<R: Files>(rt: &R, path: &str) -> io::Result<R::File> {
     refuse_special(rt, path)?;
     File::open(rt, path)
 }
 
-/// All bytes of a file, as `read_all` reads them. What `refuse_special` refuses is not read.
+/// Reads all bytes of a file, as `read_all` does. A file that `refuse_special` rejects is not read.
 pub fn read_file<R: Files, A: Allocator>(rt: &R, alloc: A, path: &str) -> io::Result<Vec<u8, A>> {
     let mut file = open_plain(rt, path)?;
     read_all(alloc, &mut file)

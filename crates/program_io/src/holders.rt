@@ -1,4 +1,4 @@
-//! Who holds the lock of a file, as far as the system tells it.
+//! Which process holds the lock of a file, as far as the system reports it.
 
 use crate::files::read_file;
 use std::alloc::Allocator;
@@ -6,12 +6,13 @@ use std::os::unix::fs::MetadataExt;
 use std::rt::Files;
 use std::{fs, str};
 
-/// The file in which Linux lists the locks of files (proc_locks(5)).
+/// The file in which Linux lists file locks (proc_locks(5)).
 const LOCKS: &str = "/proc/locks";
 
-/// The process that holds the lock of the file at the path, by its name and its number: `initd run 4711`, `flock 4712`,
-/// and of a name that is no word `process 4713`. None where the system doesn't tell it, as of a process of another
-/// container.
+/// Returns the name and number of the process that holds the lock of the file at the path: `initd run 4711`, `flock
+/// 4712`, or `process 4713` if the name is not a word.
+///
+/// Returns `None` if the system does not report the process, for example because it runs in another container.
 pub fn lock_holder<R: Files, A: Allocator + Copy>(
     rt: &R,
     alloc: A,
@@ -30,7 +31,7 @@ pub fn lock_holder<R: Files, A: Allocator + Copy>(
     None
 }
 
-/// The process of this number, by its name and its number.
+/// Returns the name and number of the process with this number.
 fn named<R: Files, A: Allocator + Copy>(rt: &R, alloc: A, number: u32) -> Option<String<A>> {
     let path = format!(in alloc; "/proc/{number}/comm").ok()?;
     match read_file(rt, alloc, path.as_str()) {
@@ -42,7 +43,8 @@ fn named<R: Files, A: Allocator + Copy>(rt: &R, alloc: A, number: u32) -> Option
     }
 }
 
-/// What is said of a process whose name is this text of its `comm`.
+/// Returns the name to report for a process whose `comm` file has this text: `initd run` for `initd`, and `process` if
+/// it is not one word of printable ASCII characters.
 fn name_in(text: &[u8]) -> &str {
     let name = text.trim_ascii_end();
     if name == b"initd".as_slice() {
@@ -54,14 +56,15 @@ fn name_in(text: &[u8]) -> &str {
     str::from_utf8(name).unwrap_or("process")
 }
 
-/// The major and the minor number of a device.
+/// Returns the major and minor numbers of a device.
 fn device_of(device: u64) -> (u64, u64) {
     let major = device >> 8 & 0xfff;
     let minor = device & 0xff | device >> 12 & 0xf_ff00;
     (major, minor)
 }
 
-/// The holder in a line of the list, `1: FLOCK  ADVISORY  WRITE 4711 08:01:1234 0 EOF`, where it is of the file.
+/// Returns the process in a line of the list, such as `1: FLOCK  ADVISORY  WRITE 4711 08:01:1234 0 EOF`, if it holds a
+/// lock of the file.
 fn holder_in(line: &str, file: &str) -> Option<u32> {
     let mut words = line.split_whitespace();
     let kind = words.nth(1)?;

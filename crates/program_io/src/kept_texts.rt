@@ -26,7 +26,7 @@ impl<A: Allocator> Model for KeptText<A> {
     ghost view = { λ k. record { path = string_bytes k.path; text = k.text.items } };
 }
 
-/// Texts that are kept in memory, each at its path. All of them are known. They serve tests: no program keeps any.
+/// Texts in memory, each under a path. All of them are known. They are for tests: no program uses them.
 #[derive(Drop)]
 pub struct KeptTexts<A: Allocator = Global> {
     texts: Vec<KeptText<A>, A>,
@@ -42,7 +42,7 @@ impl<A: Allocator> Model for KeptTexts<A> {
 }
 
 impl<A: Allocator + Copy> KeptTexts<A> {
-    /// No texts. It takes no memory.
+    /// Returns a value without texts. It allocates no memory.
     pub fn new(alloc: A) -> KeptTexts<A>
         ensures { result ≡ [] }
     {
@@ -51,7 +51,7 @@ impl<A: Allocator + Copy> KeptTexts<A> {
         }
     }
 
-    /// Keeps one more text. Of two at one path the first stands there. Where memory runs out nothing changes.
+    /// Adds a text. If two texts have the same path, the first one counts. If memory runs out, nothing changes.
     pub fn keep(&mut self, path: &str, text: &[u8]) -> Result<(), AllocError>
         ensures ok { OnOk result (self.new ≡ self.old ++ kept_at path.now text.now ∷ []) }
         ensures err { OnErr result (self.new ≡ self.old) }
@@ -68,7 +68,7 @@ impl<A: Allocator> KeptTexts<A> {
     ghost use Rattle.std.specs.Prelude.{◌≡◌, option_map};
     ghost use Rattle.program_io.specs.Known.{text_in};
 
-    /// The text that is kept at a path.
+    /// Returns the text under a path.
     fn at(&self, path: &str) -> Option<&[u8]>
         ensures { option_map (λ text. text.now) result ≡ text_in self.now path.now }
     {
@@ -88,7 +88,7 @@ impl<A: Allocator> Texts for KeptTexts<A> {
 
     ghost text_at = { λ (kept : List Kept) path. text_in kept path };
 
-    /// The text that is kept at the path. One at which none is kept is refused as not found.
+    /// Returns the text under the path. If there is none, the error is `NotFound`.
     fn read<B: Allocator>(&self, alloc: B, path: &str) -> io::Result<Vec<u8, B>>
         ensures text { IfOk result (λ text. text_in self.now path.now ≡ Some text.items) }
         ensures refused { IfErr result (λ why. IsSome (text_in self.now path.now)
@@ -106,7 +106,7 @@ impl<A: Allocator> Texts for KeptTexts<A> {
         self.read(alloc, path)
     }
 
-    /// It is handed over as one piece. One at which none is kept is refused as not found.
+    /// Hands the text over as one piece. If there is none, the error is `NotFound`.
     fn read_pieces<P: PieceTaker>(&self, path: &str, taker: &mut P) -> io::Result<()>
         ensures text { OnOk result ((text : List ℕ) × (length text < 2 ^ 64)
             × (text_in self.now path.now ≡ Some text)

@@ -1,4 +1,5 @@
-//! What each program needs at its edge: its words, the bytes of a file, texts written whole, and exit statuses.
+//! Input and output that the programs share: command-line arguments, reading files, the file of the request channel,
+//! writing texts and reports, and exit statuses.
 #![tactic(auto)]
 
 mod arguments;

@@ -1,4 +1,4 @@
-//! The limit of file sizes (RLIMIT_FSIZE of getrlimit(2)). A write beyond it ends a program, by SIGXFSZ.
+//! The file size limit (RLIMIT_FSIZE, getrlimit(2)). A write beyond it ends a program by SIGXFSZ.
 
 ghost use Rattle.std.specs.Prelude.{◌≡◌, ◌+◌, nat_lt};
 
@@ -8,10 +8,11 @@ use std::fs::{File, Metadata};
 use std::io;
 use std::io::{Error, ErrorKind};
 
-/// The number of the limit of file sizes.
+/// The number of RLIMIT_FSIZE.
 const FILE_SIZE: i32 = 1;
 
-/// How many bytes a file may have that is written to; None where that has no limit, or the system doesn't tell it.
+/// Returns the maximum length in bytes of a file that is written to; `None` if there is no limit or the system does not
+/// report it.
 pub fn file_size_limit() -> Option<u64> {
     let mut limit = rlimit {
         rlim_cur: u64::MAX,
@@ -23,8 +24,8 @@ pub fn file_size_limit() -> Option<u64> {
     Some(limit.rlim_cur)
 }
 
-/// Refuses, as a full device would, to write so many bytes at this offset of a plain file where it would have more than
-/// the limit of file sizes lets it have, `FileTooLarge`.
+/// Returns the error `FileTooLarge` if writing this many bytes at this offset of a plain file would exceed the file
+/// size limit. So the caller gets an error, as from a full device, and not a signal.
 pub fn refuse_too_large(file: &File, offset: u64, count: usize) -> io::Result<()> {
     match file_size_limit() {
         Some(limit) if is_beyond(limit, offset, count) => refuse_plain(&file.metadata()?),
@@ -32,18 +33,18 @@ pub fn refuse_too_large(file: &File, offset: u64, count: usize) -> io::Result<()
     }
 }
 
-/// Refuses what is a plain file as too large.
+/// Returns the error `FileTooLarge` for a plain file, and accepts anything else.
 pub(crate) fn refuse_plain(found: &Metadata) -> io::Result<()> {
     if found.is_file() {
         return Err(Error::new(
             ErrorKind::FileTooLarge,
-            "it is as large as the limit of file sizes lets it be: see ulimit -f",
+            "the limit on file sizes is reached: see ulimit -f",
         ));
     }
     Ok(())
 }
 
-/// So many bytes at this offset go beyond the limit.
+/// Returns whether this many bytes at this offset go beyond the limit.
 pub(crate) fn is_beyond(limit: u64, offset: u64, count: usize) -> bool
     ensures { result ≡ nat_lt limit (offset + count) }
 {

@@ -1,18 +1,20 @@
-//! Values that proofs alone can read: a struct keeps of its past what its contracts speak of, and nothing is done for it
-//! when a program runs.
+//! Values that only proofs can read: a struct keeps the part of its past that its contracts refer to, and nothing is
+//! done for it when a program runs.
 
 ghost use Rattle.std.specs.Prelude.{◌≡◌};
 ghost use base.Fml.{ftrue};
 
 use std::marker::{Model, PhantomData};
 
-/// How a value of `T` is read off one of `X`.
+/// How a value of `T` is read off one of `X`, for proofs only.
 pub trait Reads<X, T> {
     ghost value: { X → T };
 }
 
-/// A value that proofs alone can read. It has no bytes. Only the contracts of the calls that make it say what it is, so
-/// it says something of the code that is generic over a trait and reads it through a ghost member.
+/// A value that only proofs can read. It has no bytes.
+///
+/// What the value is follows only from the contracts of the calls that make it. So it describes code that is generic
+/// over a trait and reads the value through a ghost member.
 pub struct Noted<T> {
     marker: PhantomData<T>,
     pub ghost value: { T },
@@ -23,7 +25,7 @@ impl<T> Model for Noted<T> {
 }
 
 impl<T> Noted<T> {
-    /// What is read off a value. It does nothing when a program runs.
+    /// Notes the value that `M` reads off `x`. It does nothing when a program runs.
     pub fn of<X, M: Reads<X, T>>(x: &X) -> Noted<T>
         ensures { result.value ≡ M.value x.now }
     {
@@ -33,7 +35,7 @@ impl<T> Noted<T> {
         }
     }
 
-    /// The same value, noted again.
+    /// Notes the same value again.
     pub fn again(&self) -> Noted<T>
         ensures { result.value ≡ self.now.value }
     {
@@ -41,7 +43,7 @@ impl<T> Noted<T> {
     }
 }
 
-/// How a value that was noted is noted again.
+/// Marks the note of a value that was noted before.
 struct Same;
 
 impl<T> Reads<Noted<T>, T> for Same {

@@ -1,13 +1,14 @@
-//! Why a call of the system failed, in words.
+//! The reason why a system call failed, as a text.
 
 use arrayvec::ArrayString;
 use std::fmt::{Display, Formatter, Write};
 use std::{fmt, io};
 
-/// How many bytes of a reason are looked through; a longer one is said as it is.
+/// The maximum length in bytes of a reason from which the error number is removed; a longer reason is printed
+/// unchanged.
 pub const REASON_LIMIT: usize = 512;
 
-/// The reason of an error in the words of strerror(3), without the error's number.
+/// The reason of an error in the words of strerror(3), without the error number.
 #[derive(Clone, Copy)]
 pub struct Reason<'a>(pub &'a io::Error);
 
@@ -24,7 +25,7 @@ impl Display for Reason<'_> {
     }
 }
 
-/// The same as a text; nothing of a reason that is longer than 512 bytes.
+/// Returns the reason of an error as a text, which is empty if the reason is longer than 512 bytes.
 pub fn reason_text(error: &io::Error) -> ArrayString<REASON_LIMIT> {
     let mut text = ArrayString::new();
     let _ = write!(text, "{}", Reason(error));

@@ -1,7 +1,7 @@
-//! What the reports of a program are written to.
+//! Where the reports of a program are written.
 
 ghost use Rattle.std.specs.Prelude.{List, ℕ, [], Option, flat_map, unwrap_or};
-ghost use Rattle.program_io.specs.Reports.{HasReported, ReportList};
+ghost use Rattle.program_io.specs.Reports.{AppendsReport, ReportList};
 ghost use Rattle.program_io.specs.Writing.{AppendsPrefix};
 
 use crate::noted::{Noted, Reads};
@@ -10,35 +10,35 @@ use std::fmt::Display;
 use std::io::Write;
 use std::marker::{Model, PhantomData};
 
-/// What takes the reports of a program, as standard error does.
+/// Receives the reports of a program, as standard error does.
 ///
-/// A contract sees of it the reports that it was handed, and what was written of them, where that is known.
+/// A contract sees the reports that it received and, if known, the bytes that were written.
 pub trait Reporter {
-    /// The reports, the newest first.
+    /// The reports, newest first.
     ghost reports: { Self → ReportList };
 
-    /// The bytes that were written.
+    /// The bytes that were written, if they are known.
     ghost written: { Self → Option (List ℕ) };
 
-    /// Writes a report, as much of it as is taken.
+    /// Writes a report, or as much of it as is accepted.
     fn report(&mut self, text: &[u8])
-        ensures reported { HasReported (reports self.old) (reports self.new) text.now }
+        ensures reported { AppendsReport (reports self.old) (reports self.new) text.now }
         ensures part { AppendsPrefix (written self.old) (written self.new) text.now };
 
-    /// Writes a report that stands in pieces.
+    /// Writes a report that is given in pieces.
     fn report_texts(&mut self, texts: &[&str])
-        ensures reported { HasReported (reports self.old) (reports self.new)
+        ensures reported { AppendsReport (reports self.old) (reports self.new)
             (flat_map (λ text. text.now) texts.now) }
         ensures part { AppendsPrefix (written self.old) (written self.new)
             (flat_map (λ text. text.now) texts.now) };
 
-    /// Writes a report that is formatted, as `writeln!` hands it; it is noted as empty where its text isn't known.
+    /// Writes a formatted report, as `writeln!` passes it. It is recorded as an empty report if its text is not known.
     fn write_fmt<D: Display + Drop>(&mut self, text: D)
-        ensures { HasReported (reports self.old) (reports self.new)
+        ensures { AppendsReport (reports self.old) (reports self.new)
             (unwrap_or (D.output text) []) };
 }
 
-/// A list of reports, the newest first. None is ever made: it is the type of what is noted.
+/// A list of reports, newest first. It is the type of a note, and no value of it is ever created.
 pub struct ReportList {
     marker: PhantomData<()>,
 }
@@ -51,7 +51,7 @@ impl Model for ReportList {
     ghost view = { λ _. [] };
 }
 
-/// How the record of no reports is read.
+/// Marks the note of no reports.
 struct Empty;
 
 impl Reads<(), ReportList> for Empty {
@@ -60,7 +60,7 @@ impl Reads<(), ReportList> for Empty {
     ghost value = { λ _. [] };
 }
 
-/// How the record with a report is read.
+/// Marks the note of a record with one more report.
 struct Whole;
 
 impl<'a> Reads<(&'a Noted<ReportList>, &'a [u8]), ReportList> for Whole {
@@ -69,7 +69,7 @@ impl<'a> Reads<(&'a Noted<ReportList>, &'a [u8]), ReportList> for Whole {
     ghost value = { λ added. added.1.now ∷ added.0.now.value };
 }
 
-/// How the record with a report in pieces is read.
+/// Marks the note of a record with one more report, given in pieces.
 struct Pieces;
 
 impl<'a> Reads<(&'a Noted<ReportList>, &'a [&'a str]), ReportList> for Pieces {
@@ -78,7 +78,7 @@ impl<'a> Reads<(&'a Noted<ReportList>, &'a [&'a str]), ReportList> for Pieces {
     ghost value = { λ added. flat_map (λ text. text.now) added.1.now ∷ added.0.now.value };
 }
 
-/// How the record with a report that is formatted is read.
+/// Marks the note of a record with one more report, given formatted.
 struct Formatted;
 
 impl<'a, D: Display> Reads<(&'a Noted<ReportList>, &'a D), ReportList> for Formatted {
@@ -87,7 +87,7 @@ impl<'a, D: Display> Reads<(&'a Noted<ReportList>, &'a D), ReportList> for Forma
     ghost value = { λ added. unwrap_or (D.output added.1.now) [] ∷ added.0.now.value };
 }
 
-/// A writer that takes reports.
+/// A reporter that writes to a writer.
 #[derive(Drop)]
 pub struct Reports<W: Drop> {
     to: W,
@@ -95,7 +95,7 @@ pub struct Reports<W: Drop> {
 }
 
 impl<W: Drop> Reports<W> {
-    /// It was handed no report yet.
+    /// Returns a reporter that has received no report yet.
     pub fn to(writer: W) -> Reports<W> {
         Reports {
             to: writer,
@@ -103,7 +103,7 @@ impl<W: Drop> Reports<W> {
         }
     }
 
-    /// The writer, with what it took.
+    /// Returns the writer, with what was written to it.
     pub fn writer(&self) -> &W {
         &self.to
     }

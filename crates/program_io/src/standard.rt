@@ -1,4 +1,4 @@
-//! Standard input, output and error, which no file that a program opens takes the place of.
+//! Standard input, output and error: filling those that are closed, and avoiding writes that would block.
 
 use crate::limits::{file_size_limit, is_beyond, refuse_plain};
 use libc::net::{POLLOUT, poll};
@@ -10,19 +10,21 @@ use std::io::{Error, ErrorKind};
 use std::os::fd::AsRawFd;
 use std::rt::Files;
 
-/// The number of standard error, the last of the three.
+/// The file descriptor of standard error, the last of the three.
 const LAST_STANDARD: i32 = 2;
 
-/// The null device in place of those of standard input, output and error that were closed when the program began. It
-/// is held as long as the program runs: else a file that is opened takes the place, and has messages written into it. It
-/// is open to be read alone, so that what is written there is a fault of the output.
+/// The null device in place of those of standard input, output and error that were closed when the program started.
+///
+/// It is kept open as long as the program runs; otherwise a file that the program opens would take the free descriptor,
+/// and messages would be written into that file. It is open for reading only, so that writing to it is a fault of the
+/// output.
 #[derive(Drop)]
 pub struct StandardFiles {
     _files: [Option<File>; 3],
 }
 
 impl StandardFiles {
-    /// Fills the places that are free. Where there is no null device they stay so.
+    /// Fills the free descriptors. If there is no null device, they stay free.
     pub fn hold<R: Files<File = File>>(rt: &R) -> StandardFiles {
         StandardFiles {
             _files: [filler(rt), filler(rt), filler(rt)],
@@ -30,7 +32,7 @@ impl StandardFiles {
     }
 }
 
-/// The null device, where it took one of the three places.
+/// Returns the null device, if it took one of the three descriptors.
 fn filler<R: Files<File = File>>(rt: &R) -> Option<File> {
     let null = File::open(rt, "/dev/null").ok()?;
     if null.as_raw_fd() <= LAST_STANDARD {
@@ -50,7 +52,7 @@ pub enum StandardOutput {
 }
 
 impl StandardOutput {
-    /// Its number.
+    /// Returns its file descriptor.
     fn number(self) -> i32 {
         match self {
             StandardOutput::Output => 1,
@@ -58,7 +60,7 @@ impl StandardOutput {
         }
     }
 
-    /// The path by which the system calls it.
+    /// Returns the path that the system gives it.
     fn path(self) -> &'static str {
         match self {
             StandardOutput::Output => "/dev/stdout",
@@ -66,9 +68,10 @@ impl StandardOutput {
         }
     }
 
-    /// Refuses to write so many bytes where that would make the program wait, since nobody reads the pipe or the terminal,
-    /// `WouldBlock`; and where they would go beyond the limit of file sizes, `FileTooLarge`. Where no more than a page of
-    /// bytes, 4,096, is written then, a pipe has room for it.
+    /// Returns an error if writing this many bytes would block or exceed the file size limit.
+    ///
+    /// The error is `WouldBlock` if nobody reads the pipe or the terminal, and `FileTooLarge` if the bytes would go
+    /// beyond the file size limit. If there is no error, a pipe has room for a page, 4,096 bytes.
     pub fn refuse_waiting<R: Files>(self, rt: &R, count: usize) -> io::Result<()> {
         let mut asked = [pollfd {
             fd: self.number(),

@@ -1,10 +1,10 @@
 //! The exit statuses of the programs.
 
-/// Exit status: what the words ask for was done.
+/// Exit status: success.
 pub const DONE: u8 = 0;
-/// Exit status: the words, or what they name, were refused.
+/// Exit status: the command line, or something that it names, was rejected.
 pub const REFUSED: u8 = 1;
-/// Exit status: what was read breaks a rule that it is checked against.
+/// Exit status: the input breaks a rule that it is checked against.
 pub const UNLAWFUL: u8 = 2;
 /// Exit status: a limit of the program was reached.
 pub const LIMIT_REACHED: u8 = 3;

@@ -1,4 +1,4 @@
-//! Where programs read the texts of paths from.
+//! Sources from which programs read the texts at paths.
 
 ghost use Rattle.std.specs.Prelude.{◌≡◌, ◌^◌, ◌<◌, [], List, ℕ, length, IfOk, IfErr, IsSome, OnOk};
 ghost use Rattle.std.specs.IoError.{error_kind};
@@ -12,26 +12,26 @@ use std::io;
 use std::io::ErrorKind;
 use std::rt::Files;
 
-/// What reads the text at a path.
+/// A source of the texts at paths.
 ///
-/// A contract sees of it the text that stands at a path, where it is known. It may be known of no path.
+/// A contract sees the text at a path if it is known. A source may have no known texts at all.
 pub trait Texts {
-    /// The text at a path; None where it isn't known.
+    /// The text at a path; `None` if it is not known.
     ghost text_at: { Self → KnownTexts };
 
-    /// The text at a path, in memory of `alloc`. A text that is known is refused only for lack of memory.
+    /// Reads the text at a path into memory of `alloc`. If the text is known, the only error is lack of memory.
     fn read<A: Allocator>(&self, alloc: A, path: &str) -> io::Result<Vec<u8, A>>
         ensures text { IfOk result (λ text. IsTextAt (text_at self.now) path.now text.items) }
         ensures refused { IfErr result (λ why. IsSome (text_at self.now path.now)
             → error_kind why ≡ ErrorKind.OutOfMemory) };
 
-    /// The same, of a file alone: `-` is the name of one.
+    /// Does the same as `read`, but for files only: `-` is the name of a file.
     fn read_file<A: Allocator>(&self, alloc: A, path: &str) -> io::Result<Vec<u8, A>>
         ensures text { IfOk result (λ text. IsTextAt (text_at self.now) path.now text.items) }
         ensures refused { IfErr result (λ why. IsSome (text_at self.now path.now)
             → error_kind why ≡ ErrorKind.OutOfMemory) };
 
-    /// Hands the text at a path to a taker that has taken none, in pieces. A text that is known is refused only for
+    /// Hands the text at a path, in pieces, to a taker that has received none. If the text is known, the only error is
     /// lack of memory.
     fn read_pieces<P: PieceTaker>(&self, path: &str, taker: &mut P) -> io::Result<()>
         ensures text { OnOk result ((text : List ℕ) × (length text < 2 ^ 64)
@@ -41,8 +41,8 @@ pub trait Texts {
             → error_kind why ≡ ErrorKind.OutOfMemory) };
 }
 
-/// Opens a file: what the system or a shell gives by a path below `/dev/`, and any other only where it is a plain file,
-/// since a FIFO would wait for its writer.
+/// Opens a file. A path below `/dev/` may be anything, because the system or a shell provides it; any other file has to
+/// be a plain one, because opening a FIFO would block until it has a writer.
 fn open_file<R: Files>(rt: &R, path: &str) -> io::Result<R::File> {
     if path.starts_with("/dev/") {
         File::open(rt, path)
@@ -51,7 +51,7 @@ fn open_file<R: Files>(rt: &R, path: &str) -> io::Result<R::File> {
     }
 }
 
-/// Opens what a path names: standard input for `-`, else a file.
+/// Opens what a path names: standard input for `-`, otherwise a file.
 fn open<R: Files>(rt: &R, path: &str) -> io::Result<R::File> {
     match path {
         "-" => File::open(rt, "/dev/stdin"),
@@ -59,7 +59,7 @@ fn open<R: Files>(rt: &R, path: &str) -> io::Result<R::File> {
     }
 }
 
-/// The files of the operating system, and standard input at the path `-`. Nothing is known of their texts.
+/// The files of the operating system, and standard input at the path `-`. Nothing is known about their texts.
 impl<R: Files> Texts for R {
     ghost use Rattle.std.specs.Prelude.{None};
 

@@ -1,4 +1,4 @@
-//! Texts, written whole.
+//! Writing whole texts.
 
 ghost use Rattle.std.specs.Prelude.{OnOk, OnErr, flat_map};
 ghost use Rattle.std.specs.Io.KnownBytes.{Appends};
@@ -7,8 +7,8 @@ ghost use Rattle.program_io.specs.Writing.{AppendsFront, AppendsPrefix};
 use std::io;
 use std::io::{ErrorKind, Write};
 
-/// Writes all of the text, by as many writes as it takes. A write that fails or takes no byte ends it, and then a
-/// prefix of the text is written, but not the whole.
+/// Writes the whole text, by as many writes as necessary. If a write fails or accepts no byte, it returns the error,
+/// and a proper prefix of the text was written.
 pub fn write_text<W: Write>(out: &mut W, text: &[u8]) -> io::Result<()>
     ensures ok { OnOk result (Appends (W.contents out.old) (W.contents out.new) text.now) }
     ensures err { OnErr result (AppendsFront (W.contents out.old) (W.contents out.new) text.now) }
@@ -24,7 +24,7 @@ pub fn write_text<W: Write>(out: &mut W, text: &[u8]) -> io::Result<()>
     Ok(())
 }
 
-/// Writes texts, one after the other, as `write_text` writes one.
+/// Writes texts, one after the other, each as `write_text` does.
 pub fn write_texts<W: Write>(out: &mut W, texts: &[&str]) -> io::Result<()>
     ensures ok { OnOk result (Appends (W.contents out.old) (W.contents out.new)
         (flat_map (λ text. text.now) texts.now)) }

@@ -1,9 +1,9 @@
-//! `rc DIR PREV NEW`: runs the scripts of a runlevel's folder, those that stop and then those that start (LSB Core 5.0,
-//! System Initialization).
+//! `rc DIR PREV NEW`: runs the scripts of a runlevel's folder, first those that stop services and then those that start
+//! them (LSB Core 5.0, System Initialization).
 #![tactic(auto)]
 
 use program_io::{Reports, StandardFiles, report_no_memory, report_unread_words, words};
-use rc_command::{SHORT_USAGE, os_host, refuse_unwaited, run_words};
+use rc_command::{SHORT_USAGE, os_host, refuse_unwaited, run_on_system};
 use std::process::ExitCode;
 
 fn main(rt: HostRuntime) -> ExitCode {
@@ -16,7 +16,7 @@ fn main(rt: HostRuntime) -> ExitCode {
     let status = match words(&rt, rt.alloc()) {
         Ok(words) => match refuse_unwaited(&rt, rt.alloc(), words.as_slice(), &mut err) {
             Some(status) => status,
-            None => run_words(
+            None => run_on_system(
                 &mut host,
                 &rt,
                 &mut files,

@@ -1,16 +1,16 @@
--- What words say where the command line has no fault in them.
+-- The command line for arguments in which clap finds no fault.
 use Rattle.rc_command.proofs.CommonWords.{◌≡◌, ◌∙◌, ap, refl, sym, true, ℕ, List, Bool, codes, Option, Some}
 use Rattle.rc_command.proofs.CommonWords.{option_and_then, Row, is_simple_and_free, command_line, options_with}
 use Rattle.rc_command.proofs.CommonWords.{arguments_in, rc_arguments, seconds_option, RunOptions}
 use Rattle.clap.proofs.OnLiterals.{clap_on_literals}
 use Rattle.command_words.specs.CommandLines.{bare_line, is_set, line_of}
 
--- the command line uses no more of clap than what is known of it
+-- the command line uses only the features of clap that are specified
 pub is_free_line : is_simple_and_free command_line ≡ true
 unfolding bare_line line_of clap_on_literals
 is_free_line = refl
 
--- what words say where they say these seconds
+-- the command line with this time limit
 pub rows_are : (rows : List Row) (sysv : Bool) (options : RunOptions) (seconds : Option ℕ)
     → seconds_option rows ≡ Some seconds
     → sysv ≡ is_set (codes "--as-sysv") rows → options ≡ options_with seconds rows

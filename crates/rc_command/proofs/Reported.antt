@@ -1,8 +1,10 @@
--- A run of all scripts reports them, and no answer to one is missing before it.
+-- A run of all scripts writes the lines of all of them.
 use Rattle.rc_command.proofs.CommonWords.{◌≡◌, ◌≢◌, ◌⊎◌, ◌∙◌, inl, inr, refl, sym, arith, ℕ, ◌-◌, Bool, true, false}
 use Rattle.rc_command.proofs.CommonWords.{cond, ◌||◌, List, [], ◌∷◌, length, Option, ap, subst, true≢false, Asked}
-use Rattle.rc_command.proofs.CommonWords.{RcArguments, entering, arguments_at, RunOptions, AreNames, AsksFor, IsBefore}
-use Rattle.rc_command.proofs.CommonWords.{IsStatusOf, IsWhole, Reports, ReportsFirst, ReportsNames, RunsAsked}
+use Rattle.rc_command.proofs.CommonWords.{RcArguments, entering, arguments_at, RunOptions, AreNames}
+use Rattle.rc_command.proofs.CommonWords.{ForResolvedArguments, IsBefore}
+use Rattle.rc_command.proofs.CommonWords.{IsStatusOf, AllScriptsEnded, Reports, ReportsFirst, ReportsNames}
+use Rattle.rc_command.proofs.CommonWords.{RunsRequestedScripts}
 use Rattle.rc_command.proofs.CommonWords.{RunsNames, RunsArguments, RunsScripts, ReportsEnd, rc_of, status_of, written}
 use Rattle.rc_command.proofs.CommonWords.{LinkRun, RcState, is_failure, writes_ends}
 use Rattle.std.specs.Io.KnownBytes.{Appends}
@@ -10,23 +12,23 @@ use Rattle.program_io.specs.Reports.{ReportList}
 use Rattle.program_io.specs.Writing.{AppendsPrefix}
 use Rattle.program_io.specs.declared.statuses.TheConstants.{DEVICE_FAULT, DONE, LIMIT_REACHED}
 use Rattle.host_calls.specs.Calls.{HostCall}
-use Rattle.host_calls.specs.Record.{Since}
-use Rattle.host_calls.proofs.Record.{Since-map}
+use Rattle.host_calls.specs.Record.{NewCallsSatisfy}
+use Rattle.host_calls.proofs.Record.{NewCallsSatisfy-map}
 use Rattle.init_words.specs.declared.levels.Level.{Level}
 use Rattle.rc_command.specs.LevelFiles.{KnownFiles}
 use Rattle.rc_command.specs.Folders.{AreNamesAt, ArePrevious, KnownNames, folder_of}
 use Rattle.rc_command.specs.declared.running.TheConstants.{PAUSES_LIMIT}
 use Rattle.rc_driver.specs.declared.driving.RunEnd.{RunEnd}
 use Rattle.rc_driver.specs.declared.driving.RunEnd.TheVariants as run_end
-use Rattle.rc_runs.specs.declared.runs.RcAnswer.{RcAnswer}
-use Rattle.rc_runs.specs.declared.runs.ScriptOptions.{ScriptOptions}
+use Rattle.rc_driver.specs.declared.runs.RcAnswer.{RcAnswer}
+use Rattle.rc_driver.specs.declared.runs.ScriptOptions.{ScriptOptions}
 use Rattle.rc_driver.specs.Printing.{PrintsLinks, command_lines}
 use Rattle.rc_driver.specs.Progress.{count_pauses}
 use Rattle.rc_driver.specs.Report.{Output, done_end, is_over, output, report}
-use Rattle.rc_runs.specs.Sysv.{scripts_by}
+use Rattle.rc_driver.specs.Sysv.{scripts_by}
 use Rattle.rc_driver.specs.Told.{ScriptsEndAt, RunsFrom, RunsLinks}
 
--- a run that none was handed out before
+-- a complete run does not wait for a script
 done_is_not_waiting : (failed : Bool) → done_end failed ≢ run_end.Waiting
 done_is_not_waiting true = λ is. cc
 done_is_not_waiting false = λ is. cc
@@ -45,40 +47,40 @@ runs_on way dir pauses failed (s ∷ scripts) before ended remaining after calls
 
 pub not_waiting : (old now : Option (List HostCall)) (way : ScriptOptions) (dir : List ℕ) (pauses : ℕ) (failed : Bool)
     (rc new : RcState) (before after : Output) (ended : RunEnd)
-    → rc.waits ≡ false → Since old now (RunsLinks way dir pauses failed rc before ended new after)
+    → rc.waits ≡ false → NewCallsSatisfy old now (RunsLinks way dir pauses failed rc before ended new after)
     → ended ≢ run_end.Waiting
 not_waiting old now way dir pauses failed rc new before after ended ready (calls, told, runs) =
     runs_on way dir pauses failed rc.remaining before ended new.remaining after calls (runs.runs ready)
 
--- a run, with what is reported of it
+-- a run, with the report of its end
 pub runs_scripts : (options : RunOptions) (old now : Option (List HostCall)) (dir : List ℕ) (rc new : RcState)
     (before after : Option (List ℕ)) (told between tells : ReportList) (ended : RunEnd) (status : ℕ)
     → status ≡ status_of options.strict ended → ReportsEnd dir ended between tells
-    → Since old now
+    → NewCallsSatisfy old now
     (RunsLinks options.way dir PAUSES_LIMIT false rc (output before told) ended new (output after between))
-    → Since old now (RunsScripts options dir rc before told status after tells)
+    → NewCallsSatisfy old now (RunsScripts options dir rc before told status after tells)
 runs_scripts options old now dir rc new before after told between tells ended status of reports since =
-    Since-map old now (RunsLinks options.way dir PAUSES_LIMIT false rc (output before told) ended new
+    NewCallsSatisfy-map old now (RunsLinks options.way dir PAUSES_LIMIT false rc (output before told) ended new
     (output after between)) (RunsScripts options dir rc before told status after tells) since
     (λ calls runs. (ended, new, between, runs, of, reports))
 
--- the statuses
-limit_is_not_whole : IsWhole LIMIT_REACHED → ⊥
+-- which exit statuses mean that all scripts were carried out
+limit_is_not_whole : AllScriptsEnded LIMIT_REACHED → ⊥
 limit_is_not_whole (inl is) = omega (arith, is)
 limit_is_not_whole (inr is) = omega (arith, is)
 
-fault_is_not_whole : IsWhole DEVICE_FAULT → ⊥
+fault_is_not_whole : AllScriptsEnded DEVICE_FAULT → ⊥
 fault_is_not_whole (inl is) = omega (arith, is)
 fault_is_not_whole (inr is) = omega (arith, is)
 
-pub not_whole_limit : (status : ℕ) → status ≡ LIMIT_REACHED → IsWhole status → ⊥
-not_whole_limit status is whole = limit_is_not_whole (subst IsWhole is whole)
+pub not_whole_limit : (status : ℕ) → status ≡ LIMIT_REACHED → AllScriptsEnded status → ⊥
+not_whole_limit status is whole = limit_is_not_whole (subst AllScriptsEnded is whole)
 
-pub not_whole_fault : (status : ℕ) → status ≡ DEVICE_FAULT → IsWhole status → ⊥
-not_whole_fault status is whole = fault_is_not_whole (subst IsWhole is whole)
+pub not_whole_fault : (status : ℕ) → status ≡ DEVICE_FAULT → AllScriptsEnded status → ⊥
+not_whole_fault status is whole = fault_is_not_whole (subst AllScriptsEnded is whole)
 
 abbrev IsKnown : ℕ → Type 0
-IsKnown status = IsWhole status ⊎ (status ≡ LIMIT_REACHED) ⊎ (status ≡ DEVICE_FAULT)
+IsKnown status = AllScriptsEnded status ⊎ (status ≡ LIMIT_REACHED) ⊎ (status ≡ DEVICE_FAULT)
 
 known : (strict : Bool) (ended : RunEnd) → IsKnown (status_of strict ended)
 known strict run_end.Done = inl (inl refl)
@@ -93,7 +95,7 @@ pub known_by : (strict : Bool) (ended : RunEnd) (status : ℕ) → status ≡ st
 known_by strict ended status of = subst IsKnown (sym of) (known strict ended)
 
 -- only a run that is over has such a status
-over : (strict : Bool) (ended : RunEnd) → IsWhole (status_of strict ended) → is_over ended ≡ true
+over : (strict : Bool) (ended : RunEnd) → AllScriptsEnded (status_of strict ended) → is_over ended ≡ true
 over strict run_end.Done whole = refl
 over strict run_end.Failed whole = refl
 over strict (run_end.Limit link) whole = absurd (limit_is_not_whole whole)
@@ -109,7 +111,7 @@ if_false : {A : Type 0} (b : Bool) (x y : A) → b ≡ false → cond b x y ≡ 
 if_false true x y is = absurd (true≢false is)
 if_false false x y is = refl
 
--- what is written of scripts that were run
+-- the output of scripts that were run
 run_text : (options : RunOptions) (path : List ℕ) (previous names : List (List ℕ)) (rc : RcState)
     (answers : List RcAnswer) → rc ≡ rc_of options.way.levels previous names
     → options.dry ≡ false → report options.way rc.remaining answers ≡ written options path previous names answers
@@ -118,7 +120,7 @@ run_text options path previous names rc answers is wet =
     ∙ sym (if_false options.dry (command_lines options.way path (scripts_by options.way.levels previous names))
     (report options.way (scripts_by options.way.levels previous names) answers) wet)
 
--- what is written where they are printed
+-- the output of a dry run
 dry_text : (options : RunOptions) (path : List ℕ) (previous names : List (List ℕ)) (rc : RcState)
     (answers : List RcAnswer) → rc ≡ rc_of options.way.levels previous names
     → options.dry ≡ true → command_lines options.way path rc.remaining ≡ written options path previous names answers
@@ -127,18 +129,18 @@ dry_text options path previous names rc answers is dry =
     ∙ sym (if_true options.dry (command_lines options.way path (scripts_by options.way.levels previous names))
     (report options.way (scripts_by options.way.levels previous names) answers) dry)
 
--- a run of the scripts of two folders' names
+-- a run of the scripts for the names in two folders
 pub run_reports : (options : RunOptions) (path : List ℕ) (previous names : List (List ℕ))
     (old now : Option (List HostCall)) (rc : RcState) (before after : Option (List ℕ)) (told tells : ReportList)
     (status : ℕ)
     → rc ≡ rc_of options.way.levels previous names → options.dry ≡ false
-    → Since old now (RunsScripts options path rc before told status after tells)
-    → IsWhole status → ReportsNames options path previous names before status after
+    → NewCallsSatisfy old now (RunsScripts options path rc before told status after tells)
+    → AllScriptsEnded status → ReportsNames options path previous names before status after
 run_reports options path previous names old now rc before after told tells status is wet
     (calls, at, (ended, new, between, runs, of, reports)) whole =
     let went = writes_ends old now options.way path PAUSES_LIMIT rc new (output before told)
     (output after between) ended (calls, at, runs) in
-    let all = went.whole (over options.strict ended (subst IsWhole of whole)) in (
+    let all = went.whole (over options.strict ended (subst AllScriptsEnded of whole)) in (
       went.answers,
       (
         (λ dry. absurd (true≢false (sym dry ∙ wet))),
@@ -151,7 +153,7 @@ pub run_part : (options : RunOptions) (path : List ℕ) (previous names : List (
     (old now : Option (List HostCall)) (rc : RcState) (before after : Option (List ℕ)) (told tells : ReportList)
     (status : ℕ)
     → rc ≡ rc_of options.way.levels previous names → options.dry ≡ false
-    → Since old now (RunsScripts options path rc before told status after tells)
+    → NewCallsSatisfy old now (RunsScripts options path rc before told status after tells)
     → ReportsFirst options path previous names before after
 run_part options path previous names old now rc before after told tells status is wet
     (calls, at, (ended, new, between, runs, of, reports)) =
@@ -165,17 +167,17 @@ pub run_names : (options : RunOptions) (path : List ℕ) (previous names : List 
     (old now : Option (List HostCall)) (rc : RcState) (before after : Option (List ℕ)) (told tells : ReportList)
     (status : ℕ)
     → rc ≡ rc_of options.way.levels previous names
-    → Since old now (RunsScripts options path rc before told status after tells)
-    → Since old now (RunsNames options path previous names before told status after tells)
+    → NewCallsSatisfy old now (RunsScripts options path rc before told status after tells)
+    → NewCallsSatisfy old now (RunsNames options path previous names before told status after tells)
 run_names options path previous names old now rc before after told tells status is since =
-    subst (λ r. Since old now (RunsScripts options path r before told status after tells)) is since
+    subst (λ r. NewCallsSatisfy old now (RunsScripts options path r before told status after tells)) is since
 
--- a print of them
+-- a dry run of them
 pub dry_reports : (options : RunOptions) (path : List ℕ) (previous names : List (List ℕ)) (rc : RcState)
     (before after : Option (List ℕ)) (status : ℕ) → rc ≡ rc_of options.way.levels previous names
     → options.dry ≡ true → (status ≡ DONE) ⊎ (status ≡ DEVICE_FAULT)
     → (status ≡ DONE → Appends before after (command_lines options.way path rc.remaining))
-    → IsWhole status → ReportsNames options path previous names before status after
+    → AllScriptsEnded status → ReportsNames options path previous names before status after
 dry_reports options path previous names rc before after status is dry (inl done) text whole = (
   [],
   ((λ _. done), (λ wet. absurd (true≢false (sym dry ∙ wet)))),
@@ -195,7 +197,7 @@ pub dry_known : (status : ℕ) → (status ≡ DONE) ⊎ (status ≡ DEVICE_FAUL
 dry_known status (inl done) = inl (inl done)
 dry_known status (inr fault) = inr (inr fault)
 
--- how a print ends
+-- how a dry run ends
 print_ends : (way : ScriptOptions) (path : List ℕ) (rc new : RcState) (before after : Option (List ℕ)) (ended : RunEnd)
     → rc.waits ≡ false → PrintsLinks way path rc before ended new after
     → (ended ≡ run_end.Done) ⊎ (ended ≡ run_end.Write) ⊎ (ended ≡ run_end.Memory)
@@ -238,7 +240,7 @@ print_done way path rc new before after ended status ready of prints done =
     by (inr (inl is)) = absurd (not_whole_fault status (of ∙ ap (status_of false) is) (inl done))
     by (inr (inr is)) = absurd (not_whole_fault status (of ∙ ap (status_of false) is) (inl done))
 
--- names that were listed are those of the folders that a command line names
+-- the names that were listed are those in the two folders of the run
 pub are_names : (names_at : KnownNames) (arguments : RcArguments) (dir path : List ℕ) (previous names : List (List ℕ))
     → dir ≡ arguments.dir → path ≡ folder_of dir arguments.new
     → ArePrevious names_at dir arguments.previous previous → AreNamesAt names_at path names
@@ -248,7 +250,7 @@ are_names names_at arguments dir path previous names same at before here = (
   subst (λ p. AreNamesAt names_at p names) (at ∙ ap (λ d. folder_of d arguments.new) same) here,
 )
 
--- a run of the folders that a command line names
+-- a run of the folder that the command line names
 folder_is : (arguments : RcArguments) (dir path : List ℕ) → dir ≡ arguments.dir → path ≡ folder_of dir arguments.new
     → path ≡ folder_of arguments.dir arguments.new
 folder_is arguments dir path same at = at ∙ ap (λ d. folder_of d arguments.new) same
@@ -274,20 +276,20 @@ pub said_runs : (names_at : KnownNames) (arguments : RcArguments) (dir path list
     (tells : ReportList) (status : ℕ)
     → dir ≡ arguments.dir → path ≡ folder_of dir arguments.new → listed ≡ folder_of dir arguments.new
     → ArePrevious names_at dir arguments.previous previous → AreNamesAt names_at listed names
-    → Since old new (RunsNames arguments.options path previous names before told status after tells)
+    → NewCallsSatisfy old new (RunsNames arguments.options path previous names before told status after tells)
     → RunsArguments names_at arguments old new before told status after tells
 said_runs names_at arguments dir path listed previous names old new before told after tells status same
     at there first here runs = (
       previous,
       names,
       are_names names_at arguments dir listed previous names same there first here,
-      subst (λ p. Since old new (RunsNames arguments.options p previous names before told status after tells))
+      subst (λ p. NewCallsSatisfy old new (RunsNames arguments.options p previous names before told status after tells))
           (folder_is arguments dir path same at) runs,
     )
 
--- a status of a run that is whole is that of the run
+-- if the final status means that all scripts were carried out, it is the status of the run
 pub whole_status : (file : Option (List ℕ)) (inner : ℕ) (told : ReportList) (status : ℕ) (tells : ReportList)
-    → IsStatusOf file inner told status tells → IsWhole status → status ≡ inner
+    → IsStatusOf file inner told status tells → AllScriptsEnded status → status ≡ inner
 whole_status file inner told status tells (inl (is, same)) whole = is
 whole_status file inner told status tells (inr (named, fault, was)) whole = absurd (not_whole_fault status fault whole)
 
@@ -297,18 +299,18 @@ pub fault_of : (file : Option (List ℕ)) (inner : ℕ) (told : ReportList) (sta
 fault_of file inner told status tells (inl (is, same)) fault = is ∙ fault
 fault_of file inner told status tells (inr (named, fault, was)) _ = fault
 
--- it is known where that is
+-- a known status of the run is a known status of the whole
 pub known_of : (file : Option (List ℕ)) (inner : ℕ) (told : ReportList) (status : ℕ) (tells : ReportList)
     → IsStatusOf file inner told status tells → IsKnown inner → IsKnown status
 known_of file inner told status tells (inl (is, same)) known = subst IsKnown (sym is) known
 known_of file inner told status tells (inr (named, fault, was)) known = inr (inr fault)
 
--- what is so of the folder, the change and the options that are run is so of what is asked for
+-- a property of the folder, the change of level and the options that are run is one of what the command line asks for
 pub asks_for : (file_at : KnownFiles) (asked : Asked) (before : Option Level) (dir : List ℕ) (options : RunOptions)
     (P : RcArguments → Type 0)
     → IsBefore file_at asked before → dir ≡ asked.dir
     → options ≡ entering asked.sysv (record { before = before; new = asked.new }) asked.options
-    → P (arguments_at dir (record { before = before; new = asked.new }) options) → AsksFor file_at asked P
+    → P (arguments_at dir (record { before = before; new = asked.new }) options) → ForResolvedArguments file_at asked P
 asks_for file_at asked before dir options P is same so holds = (
   before,
   is,
@@ -316,24 +318,25 @@ asks_for file_at asked before dir options P is same so holds = (
       (subst (λ d. P (arguments_at d (record { before = before; new = asked.new }) options)) same holds),
 )
 
--- where that is whole, what is so of the lines of a run is so of those that are asked for
+-- if all scripts were carried out, the lines of the run are those that the command line asks for
 pub reports_asked : (file_at : KnownFiles) (names_at : KnownNames) (asked : Asked) (before : Option Level)
     (dir : List ℕ) (options : RunOptions) (inner status : ℕ)
     (out : Option (List ℕ)) (told : ReportList) (after : Option (List ℕ)) (tells : ReportList)
     → IsBefore file_at asked before → dir ≡ asked.dir
     → options ≡ entering asked.sysv (record { before = before; new = asked.new }) asked.options
     → IsStatusOf asked.file inner told status tells
-    → (IsWhole inner
+    → (AllScriptsEnded inner
     → Reports names_at (arguments_at dir (record { before = before; new = asked.new }) options) out inner after)
-    → IsWhole status → AsksFor file_at asked (λ arguments. Reports names_at arguments out status after)
+    → AllScriptsEnded status
+    → ForResolvedArguments file_at asked (λ arguments. Reports names_at arguments out status after)
 reports_asked file_at names_at asked before dir options inner status out told after tells is same so ends reports
     whole =
     let e = whole_status asked.file inner told status tells ends whole in
     asks_for file_at asked before dir options (λ arguments. Reports names_at arguments out status after) is same so
     (subst (λ s. Reports names_at (arguments_at dir (record { before = before; new = asked.new }) options) out s after)
-    (sym e) (reports (subst IsWhole e whole)))
+    (sym e) (reports (subst AllScriptsEnded e whole)))
 
--- what is so of how scripts were run is so of those that are asked for, where nothing was told before
+-- the scripts that were run are those that the command line asks for, if nothing was reported before
 pub runs_asked : (file_at : KnownFiles) (names_at : KnownNames) (asked : Asked) (before : Option Level) (dir : List ℕ)
     (options : RunOptions) (inner status : ℕ)
     (old new : Option (List HostCall)) (out : Option (List ℕ)) (first told between : ReportList)
@@ -344,7 +347,7 @@ pub runs_asked : (file_at : KnownFiles) (names_at : KnownNames) (asked : Asked) 
     → (options.dry ≡ true → new ≡ old)
     × (options.dry ≡ false → RunsArguments names_at
     (arguments_at dir (record { before = before; new = asked.new }) options) old new out told inner after between)
-    → RunsAsked file_at names_at asked old new out first status after tells
+    → RunsRequestedScripts file_at names_at asked old new out first status after tells
 runs_asked file_at names_at asked before dir options inner status old new out first told between after tells is same so
     ends silent (dry, runs) =
     asks_for file_at asked before dir options

@@ -1,5 +1,5 @@
--- The command line `rc [-n] [-v] [--strict] [--direct] [--as-sysv] [--timeout SEC] DIR PREV NEW`, or with
--- `--level-file F` and without PREV.
+-- The command line `rc [-n] [-v] [--strict] [--direct] [--as-sysv] [--timeout SEC] DIR PREV NEW`, or with `--level-file
+-- F` and without PREV.
 use Rattle.std.specs.Prelude.{ℕ, ◌+◌, nat_lt, Bool, if◌then◌else◌, List, codes, Option, Some, None, option_and_then}
 use Rattle.std.specs.Prelude.{option_map, ◌==◌, ◌||◌, string_bytes}
 use Rattle.std.specs.List.{list_all}
@@ -11,7 +11,7 @@ use Rattle.init_words.specs.Levels.{level_read}
 use Rattle.program_io.specs.Arguments.{only_byte}
 use Rattle.rc_command.specs.declared.command.RunOptions.{RunOptions}
 use Rattle.rc_command.specs.declared.command.TheConstants.{OPTIONS, SECONDS_LIMIT}
-use Rattle.rc_runs.specs.declared.runs.LevelChange.{LevelChange}
+use Rattle.rc_driver.specs.declared.runs.LevelChange.{LevelChange}
 use Rattle.text_lines.specs.Numbers.{number_read}
 use Rattle.rc_command.specs.declared.command.Words.{Words}
 use Rattle.rc_links.specs.Names.{is_name_byte}
@@ -19,7 +19,7 @@ use Rattle.rc_links.specs.Names.{is_name_byte}
 abbrev pub command_line : App
 command_line = line_of (codes "rc") (written OPTIONS.now)
 
--- what is run: the folder that holds those of the runlevels, the level before, if there was one, the new level, and the
+-- a run: the folder that contains those of the runlevels, the previous level if there was one, the new level, and the
 -- options
 pub record RcArguments : Type 0 where
   pub dir : Text
@@ -27,7 +27,7 @@ pub record RcArguments : Type 0 where
   pub new : Level
   pub options : RunOptions
 
--- what words ask for: the level before may be that of a file
+-- a parsed command line, in which the previous level may be that in a file
 pub record Asked : Type 0 where
   pub dir : Text
   pub previous : Option Level
@@ -36,6 +36,7 @@ pub record Asked : Type 0 where
   pub sysv : Bool
   pub options : RunOptions
 
+-- a command line of the program, as lists
 abbrev pub arguments_of : Words → Asked
 arguments_of words = record {
   dir = string_bytes words.dir;
@@ -46,15 +47,15 @@ arguments_of words = record {
   options = words.options;
 }
 
--- a folder's path has only bytes of a service's name and '/'
+-- the path of a folder consists of the bytes of a service's name and '/'
 abbrev pub is_dir : Text → Bool
 is_dir word = list_all (λ b. is_name_byte b || b == byte "/") word
 
--- the runlevel of a word, one of 0 to 9 and S
+-- the runlevel that a word stands for, 0 to 9 or S; none for any other word
 abbrev pub level_of : Text → Option Level
 level_of word = if bytes_eq word (codes "s") then None else option_and_then level_read (only_byte word)
 
--- the level before, or none where the word is N
+-- the previous level: `Some None` for the word N; none if the word is neither N nor a level
 abbrev pub previous_of : Text → Option (Option Level)
 previous_of word = if bytes_eq word (codes "N") then Some None else option_map Some (level_of word)
 
@@ -63,15 +64,16 @@ abbrev pub seconds_read : Text → Option ℕ
 seconds_read word =
     option_and_then (λ seconds. if nat_lt 0 seconds then Some seconds else None) (number_read (SECONDS_LIMIT + 1) word)
 
--- the seconds that are given, if they are; nothing where they are none
+-- the number of seconds in the value of --timeout: `Some None` if there is no value, none if it is not such a number
 abbrev pub seconds_in : Option Text → Option (Option ℕ)
 seconds_in None = Some None
 seconds_in (Some word) = option_map Some (seconds_read word)
 
+-- the time limit that is given
 abbrev pub seconds_option : List Row → Option (Option ℕ)
 seconds_option rows = seconds_in (first_of (codes "--timeout") rows)
 
--- the options, with these seconds
+-- the options of a run, with this time limit
 abbrev pub options_with : Option ℕ → List Row → RunOptions
 options_with seconds rows = record {
   dry = is_set (codes "-n") rows;
@@ -84,43 +86,45 @@ options_with seconds rows = record {
   };
 }
 
--- the options with the change of level, where scripts are run as sysv-rc runs them
+-- the options, with the change of level if scripts are run as sysv-rc runs them
 abbrev pub entering : Bool → LevelChange → RunOptions → RunOptions
 entering sysv change options =
     if sysv then record options { way = record options.way { levels = Some change } } else options
 
--- what is run from the folder at a change of level
+-- the run for the folder, the change of level and the options
 abbrev pub arguments_at : Text → LevelChange → RunOptions → RcArguments
 arguments_at dir change options = record { dir = dir; previous = change.before; new = change.new; options = options }
 
--- what is run where that was the level before
+-- the run for a command line and this previous level
 abbrev pub run_arguments : Asked → Option Level → RcArguments
 run_arguments asked before =
     let change : LevelChange = record { before = before; new = asked.new } in
     arguments_at asked.dir change (entering asked.sysv change asked.options)
 
--- the level of a word, with none before it
+-- the change to the level that a word stands for, with no previous level
 abbrev pub new_of : Text → Option LevelChange
 new_of after = option_map (λ new. record { before = None; new = new }) (level_of after)
 
--- the levels of two words
+-- the change between the levels that two words stand for
 abbrev pub levels_of : Text → Text → Option LevelChange
 levels_of before after =
     option_and_then (λ previous. option_map (λ new. record { before = previous; new = new }) (level_of after))
     (previous_of before)
 
--- the levels of the words, of which the first is left out where a file has it
+-- the change of level in the arguments: PREV and NEW; with --level-file, whose first argument is then NEW, only the new
+-- level
 abbrev pub levels_in : Option Text → Text → Option Text → Option LevelChange
 levels_in None first (Some second) = levels_of first second
 levels_in None first None = None
 levels_in (Some file) first None = new_of first
 levels_in (Some file) first (Some second) = None
 
+-- the change of level that is given
 abbrev pub levels_given : List Row → Option LevelChange
 levels_given rows =
     levels_in (first_of (codes "--level-file") rows) (value_said (codes "PREV") rows) (first_of (codes "NEW") rows)
 
--- what words and the options say
+-- the command line for the rows of the table and the options
 abbrev pub rc_arguments : List Row → Bool → RunOptions → Option Asked
 rc_arguments rows sysv options =
     if is_dir (value_said (codes "DIR") rows) then
@@ -136,11 +140,12 @@ rc_arguments rows sysv options =
     (levels_given rows)
     else None
 
+-- the command line for the rows of the table
 abbrev pub arguments_in : List Row → Option Asked
 arguments_in rows =
     option_and_then
     (λ seconds. rc_arguments rows (is_set (codes "--as-sysv") rows) (options_with seconds rows)) (seconds_option rows)
 
--- what words say; where the command line has a fault in them, nothing
+-- the command line for the arguments of the program; none if it is rejected
 abbrev pub rc_read_of : List Text → Option Asked
 rc_read_of words = option_and_then arguments_in (given_by command_line words)

@@ -1,21 +1,21 @@
--- How a run of `rc` ends, and what is written of it.
+-- How a run of `rc` ends, and what it writes.
 use Rattle.std.specs.Prelude.{◌≡◌, ◌⊎◌, ℕ, Bool, true, false, if◌then◌else◌, List, [], ◌++◌, codes, length, Option}
 use Rattle.std.specs.Prelude.{Some, None, IsSome}
 use Rattle.std.specs.List.{list_any}
 use Rattle.std.specs.Io.KnownBytes.{Appends}
-use Rattle.program_io.specs.Reports.{HasReported, ReportList}
+use Rattle.program_io.specs.Reports.{AppendsReport, ReportList}
 use Rattle.program_io.specs.Writing.{AppendsPrefix}
 use Rattle.program_io.specs.declared.statuses.TheConstants.{DEVICE_FAULT, DONE, LIMIT_REACHED}
 use Rattle.host_calls.specs.Calls.{HostCall}
-use Rattle.host_calls.specs.Record.{Since}
+use Rattle.host_calls.specs.Record.{NewCallsSatisfy}
 use Rattle.rc_driver.specs.declared.driving.RunEnd.{RunEnd}
 use Rattle.rc_driver.specs.declared.driving.RunEnd.TheVariants as run_end
-use Rattle.rc_runs.specs.declared.runs.RcAnswer.{RcAnswer}
+use Rattle.rc_driver.specs.declared.runs.RcAnswer.{RcAnswer}
 use Rattle.rc_driver.specs.Printing.{command_lines}
 use Rattle.rc_driver.specs.Report.{done_end, output, report}
-use Rattle.rc_runs.specs.Runs.{LinkRun, RcState, is_failure}
-use Rattle.rc_runs.specs.Sysv.{scripts_by}
-use Rattle.rc_runs.specs.declared.runs.LevelChange.{LevelChange}
+use Rattle.rc_driver.specs.Runs.{LinkRun, RcState, is_failure}
+use Rattle.rc_driver.specs.Sysv.{scripts_by}
+use Rattle.rc_driver.specs.declared.runs.LevelChange.{LevelChange}
 use Rattle.rc_driver.specs.Told.{RunsLinks}
 use Rattle.rc_command.specs.CommandLine.{Asked, RcArguments, rc_read_of, run_arguments}
 use Rattle.rc_command.specs.LevelFiles.{IsBeforeIn, KeepsIn, KnownFiles}
@@ -24,45 +24,45 @@ use Rattle.rc_command.specs.declared.command.RunOptions.{RunOptions}
 use Rattle.rc_command.specs.declared.running.TheConstants.{PAUSES_LIMIT, SCRIPT_FAILED}
 use Rattle.rc_command.specs.Folders.{AreNamesAt, ArePrevious, KnownNames, folder_of}
 
--- the exit status of a run that ended so; a script that failed has its own, where that is asked for
+-- the exit status for the end of a run; a failed script has a status of its own only with --strict
 abbrev pub status_of : Bool → RunEnd → ℕ
 status_of strict run_end.Done = DONE
 status_of strict run_end.Failed = if strict then SCRIPT_FAILED else DONE
 status_of strict (run_end.Limit link) = LIMIT_REACHED
 status_of strict _ = DEVICE_FAULT
 
--- all scripts came to their ends, by the exit status
-abbrev pub IsWhole : ℕ → Type 0
-IsWhole status = (status ≡ DONE) ⊎ (status ≡ SCRIPT_FAILED)
+-- all scripts were carried out, by the exit status
+abbrev pub AllScriptsEnded : ℕ → Type 0
+AllScriptsEnded status = (status ≡ DONE) ⊎ (status ≡ SCRIPT_FAILED)
 
--- the scripts by the names in two folders, as sysv-rc has them where a change of level is given; none is handed out
+-- the scripts for the names in two folders, those of sysv-rc if a change of level is given; none has been started
 abbrev pub rc_of : Option LevelChange → List (List ℕ) → List (List ℕ) → RcState
 rc_of levels previous names = record { remaining = scripts_by levels previous names; waits = false }
 
--- nothing is told where nothing is run, or scripts have no limit
+-- no message about a timeout is possible: nothing is run, or scripts have no time limit
 abbrev pub IsSilent : RunOptions → Type 0
 IsSilent options = (options.dry ≡ true) ⊎ (options.way.seconds ≡ None)
 
--- what is reported of a script that has not ended: the link in the folder at the path
+-- the message about a script that has not ended, which names the link in the folder at the path
 abbrev pub limit_text : List ℕ → List ℕ → List ℕ
 limit_text path link = codes "rc: " ++ (path ++ (codes "/" ++ (link ++
-    codes " has not ended after 100000 pauses, of a second at most: it runs on, and no script behind it was run\n")))
+    codes " has not ended after 100000 pauses of at most a second; it keeps running, and no later script was run\n")))
 
--- what is reported of how a run ended
+-- the message about how a run ended; empty if it is complete
 abbrev pub ended_text : List ℕ → RunEnd → List ℕ
 ended_text path (run_end.Limit link) = limit_text path link.now
 ended_text path run_end.Write = codes "rc: cannot write\n"
 ended_text path run_end.Memory = codes "rc: out of memory\n"
 ended_text path _ = []
 
--- it is reported, where the run was not done
+-- it is reported, unless the run is complete
 abbrev pub ReportsEnd : List ℕ → RunEnd → ReportList → ReportList → Type 0
 ReportsEnd path run_end.Done old new = new ≡ old
 ReportsEnd path run_end.Failed old new = new ≡ old
-ReportsEnd path ended old new = HasReported old new (ended_text path ended)
+ReportsEnd path ended old new = AppendsReport old new (ended_text path ended)
 
--- scripts were run from the folder at the path, with these calls; the status is that of how the run ended, which is
--- reported behind what their times have told
+-- the scripts were run from the folder at the path, with these calls; the status is that for the end of the run, which
+-- is reported after the messages about timeouts
 abbrev pub RunsScripts : RunOptions → List ℕ → RcState → Option (List ℕ) → ReportList → ℕ → Option (List ℕ)
     → ReportList → List HostCall → Type 0
 RunsScripts options path rc before told status after tells calls = (ended : RunEnd) × (new : RcState)
@@ -70,97 +70,98 @@ RunsScripts options path rc before told status after tells calls = (ended : RunE
     × RunsLinks options.way path PAUSES_LIMIT false rc (output before told) ended new (output after between) calls
     × (status ≡ status_of options.strict ended) × ReportsEnd path ended between tells
 
--- those of two folders' names
+-- the scripts for the names in two folders were run
 abbrev pub RunsNames : RunOptions → List ℕ → List (List ℕ) → List (List ℕ) → Option (List ℕ) → ReportList → ℕ
     → Option (List ℕ) → ReportList → List HostCall → Type 0
 RunsNames options path previous names before told status after tells calls =
     RunsScripts options path (rc_of options.way.levels previous names) before told status after tells calls
 
--- the names are those in the two folders that a command line names, where they are known
+-- the names are those in the two folders of the run, if these are known
 abbrev pub AreNames : KnownNames → RcArguments → List (List ℕ) → List (List ℕ) → Type 0
 AreNames names_at arguments previous names =
     ArePrevious names_at arguments.dir arguments.previous previous
     × AreNamesAt names_at (folder_of arguments.dir arguments.new) names
 
--- the scripts that a command line asks for were run so, with the calls that are told
+-- the scripts of the run were run, with the calls that the host recorded
 abbrev pub RunsArguments : KnownNames → RcArguments → Option (List HostCall) → Option (List HostCall) → Option (List ℕ)
     → ReportList → ℕ → Option (List ℕ) → ReportList → Type 0
 RunsArguments names_at arguments old new before told status after tells =
-    (previous names : List (List ℕ)) × AreNames names_at arguments previous names × Since old new (λ calls.
+    (previous names : List (List ℕ)) × AreNames names_at arguments previous names × NewCallsSatisfy old new (λ calls.
     RunsNames arguments.options
     (folder_of arguments.dir arguments.new) previous names before told status after tells calls)
 
--- what is written of the scripts by the names in two folders, which came to these ends: what would start each, where
--- nothing is run; else their lines
+-- the output for the names in two folders, whose scripts have these outcomes: in a dry run the commands that would
+-- start them, otherwise their lines
 abbrev pub written : RunOptions → List ℕ → List (List ℕ) → List (List ℕ) → List RcAnswer → List ℕ
 written options path previous names answers =
     if options.dry then command_lines options.way path (scripts_by options.way.levels previous names)
     else report options.way (scripts_by options.way.levels previous names) answers
 
--- all of them came to their ends, and the status is the one for them; where nothing is run it is 0
+-- all scripts were carried out, and the status is the one for that; in a dry run it is 0
 abbrev pub IsEnded : RunOptions → List LinkRun → List RcAnswer → ℕ → Type 0
 IsEnded options scripts answers status =
     (options.dry ≡ true → status ≡ DONE)
     × (options.dry ≡ false → (length answers ≡ length scripts)
     × (status ≡ status_of options.strict (done_end (list_any is_failure answers))))
 
--- that of all scripts was written
+-- the output for all scripts was written
 abbrev pub ReportsNames : RunOptions → List ℕ → List (List ℕ) → List (List ℕ) → Option (List ℕ) → ℕ → Option (List ℕ)
     → Type 0
 ReportsNames options path previous names old status new = (answers : List RcAnswer)
     × IsEnded options (scripts_by options.way.levels previous names) answers status
     × Appends old new (written options path previous names answers)
 
--- a prefix of what is written of the first of them
+-- a prefix of an output for the first scripts was written
 abbrev pub ReportsFirst : RunOptions → List ℕ → List (List ℕ) → List (List ℕ) → Option (List ℕ) → Option (List ℕ)
     → Type 0
 ReportsFirst options path previous names old new =
     (answers : List RcAnswer) × AppendsPrefix old new (written options path previous names answers)
 
--- what is written of all scripts of the two folders that a command line names
+-- the output for all scripts in the two folders of the run was written
 abbrev pub Reports : KnownNames → RcArguments → Option (List ℕ) → ℕ → Option (List ℕ) → Type 0
 Reports names_at arguments old status new =
     (previous names : List (List ℕ)) × AreNames names_at arguments previous names
     × ReportsNames arguments.options (folder_of arguments.dir arguments.new) previous names old status new
 
--- a prefix of what is written of the first of them
+-- a prefix of an output for the first of them was written
 abbrev pub ReportsPart : KnownNames → RcArguments → Option (List ℕ) → Option (List ℕ) → Type 0
 ReportsPart names_at arguments old new =
     (previous names : List (List ℕ)) × AreNames names_at arguments previous names
     × ReportsFirst arguments.options (folder_of arguments.dir arguments.new) previous names old new
 
--- the level before: that of the words, or that of the file that they name, where that is known
+-- the previous level: that in the arguments, or that in the given file, if known
 abbrev pub IsBefore : KnownFiles → Asked → Option Level → Type 0
 IsBefore file_at asked before = IsBeforeIn file_at asked.previous asked.file before
 
--- the level before, and that this is so of what is run behind it
-abbrev pub AsksFor : KnownFiles → Asked → (RcArguments → Type 0) → Type 0
-AsksFor file_at asked P = (before : Option Level) × IsBefore file_at asked before × P (run_arguments asked before)
+-- there is a previous level for which the property holds of the run
+abbrev pub ForResolvedArguments : KnownFiles → Asked → (RcArguments → Type 0) → Type 0
+ForResolvedArguments file_at asked P = (before : Option Level) × IsBefore file_at asked before
+    × P (run_arguments asked before)
 
--- what words ask for, and that this is so of it
-abbrev pub Says : List (List ℕ) → (Asked → Type 0) → Type 0
-Says words P = (asked : Asked) × (rc_read_of words ≡ Some asked) × P asked
+-- the arguments are a command line, for which the property holds
+abbrev pub ParsedArgumentsSatisfy : List (List ℕ) → (Asked → Type 0) → Type 0
+ParsedArgumentsSatisfy words P = (asked : Asked) × (rc_read_of words ≡ Some asked) × P asked
 
--- what words ask for, and that this is so of what is run
+-- the arguments are a command line, and for its previous level the property holds of the run
 abbrev pub Asks : KnownFiles → List (List ℕ) → (RcArguments → Type 0) → Type 0
-Asks file_at words P = Says words (λ asked. AsksFor file_at asked P)
+Asks file_at words P = ParsedArgumentsSatisfy words (λ asked. ForResolvedArguments file_at asked P)
 
--- the new level stands in the file that is named, where scripts were run; else each file is as it was
+-- the given file has the new level, unless it is a dry run; all other files are unchanged
 abbrev pub Keeps : Asked → KnownFiles → KnownFiles → Type 0
 Keeps asked old new = KeepsIn asked.options.dry asked.file asked.new old new
 
--- the status of a run, and nothing more is reported; or that of a fault, where a file is named and the new level was
--- not
--- kept in it although all scripts were carried out
+-- the status is that of the run, and nothing more is reported; or it is that of a fault, if a file is given and the new
+-- level could not be written to it although all scripts were carried out
 abbrev pub IsStatusOf : Option (List ℕ) → ℕ → ReportList → ℕ → ReportList → Type 0
 IsStatusOf file inner told status tells =
-    ((status ≡ inner) × (tells ≡ told)) ⊎ (IsSome file × (status ≡ DEVICE_FAULT) × IsWhole inner)
+    ((status ≡ inner) × (tells ≡ told)) ⊎ (IsSome file × (status ≡ DEVICE_FAULT) × AllScriptsEnded inner)
 
--- nothing is asked of a host in a dry run; else the scripts that are asked for were run so, and behind them the new
--- level was kept
-abbrev pub RunsAsked : KnownFiles → KnownNames → Asked → Option (List HostCall) → Option (List HostCall)
+-- in a dry run nothing is requested from the host; otherwise the scripts of the run were run, and the status is the one
+-- after keeping the level
+abbrev pub RunsRequestedScripts : KnownFiles → KnownNames → Asked → Option (List HostCall) → Option (List HostCall)
     → Option (List ℕ) → ReportList → ℕ → Option (List ℕ) → ReportList → Type 0
-RunsAsked file_at names_at asked old new before told status after tells = AsksFor file_at asked (λ arguments.
+RunsRequestedScripts file_at names_at asked old new before told status after tells =
+    ForResolvedArguments file_at asked (λ arguments.
     (arguments.options.dry ≡ true → new ≡ old)
     × (arguments.options.dry ≡ false → (inner : ℕ) × (between : ReportList)
     × RunsArguments names_at arguments old new before told inner after between

@@ -3,19 +3,19 @@ use Rattle.std.specs.Prelude.{◌≡◌, ℕ, List, [], ◌∷◌, ◌++◌, cod
 use Rattle.init_words.specs.declared.levels.Level.{Level}
 use Rattle.init_words.specs.Levels.{level_code}
 
--- the names in the folder at each path, where they are known
+-- the names in the folder at each path, if known
 abbrev pub KnownNames : Type 0
 KnownNames = List ℕ → Option (List (List ℕ))
 
--- the names are those in the folder at the path, where they are known
+-- the names are those in the folder at the path, if known
 abbrev pub AreNamesAt : KnownNames → List ℕ → List (List ℕ) → Type 0
 AreNamesAt names_at path names = IfSome (names_at path) (λ known. names ≡ known)
 
--- the path of a runlevel's folder in the one that holds them
+-- the path of a runlevel's folder, DIR/rcN.d
 abbrev pub folder_of : List ℕ → Level → List ℕ
 folder_of dir level = dir ++ (codes "/rc" ++ level_code level ∷ codes ".d")
 
--- the names in the folder of the level before; none where there was none
+-- the names in the folder of the previous level; none if there was no such level
 abbrev pub ArePrevious : KnownNames → List ℕ → Option Level → List (List ℕ) → Type 0
 ArePrevious names_at dir None names = names ≡ []
 ArePrevious names_at dir (Some level) names = AreNamesAt names_at (folder_of dir level) names

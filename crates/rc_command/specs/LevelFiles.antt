@@ -6,15 +6,15 @@ use Rattle.init_words.specs.declared.levels.Level.{Level}
 use Rattle.init_words.specs.Levels.{level_code}
 use Rattle.rc_command.specs.CommandLine.{level_of}
 
--- what stands at each path, where it is known: a text, or none where there is no file
+-- the file at each path, if known: its text, or none if there is no file
 abbrev pub KnownFiles : Type 0
 KnownFiles = List ℕ → Option (Option (List ℕ))
 
--- each file is as it was
+-- all files are unchanged
 abbrev pub AreSame : KnownFiles → KnownFiles → Type 0
 AreSame old new = (at : List ℕ) → new at ≡ old at
 
--- the text stands at the path, and each other file is as it was
+-- the file at the path has the text, if it is known, and all others are unchanged
 abbrev pub HasText : List ℕ → List ℕ → KnownFiles → KnownFiles → Type 0
 HasText path text old new =
     (at : List ℕ) → new at ≡ (if bytes_eq at path then option_map (λ known. Some text) (old at) else old at)
@@ -23,22 +23,22 @@ HasText path text old new =
 abbrev pub level_text : Level → List ℕ
 level_text level = level_code level ∷ 10 ∷ []
 
--- the runlevel of a file's text
+-- the runlevel in the text of a file
 abbrev pub level_in : List ℕ → Option Level
 level_in (code ∷ end ∷ []) = if end == 10 then level_of (code ∷ []) else None
 level_in _ = None
 
--- the level before by what stands in its file: none where there is no file
+-- the previous level for a file: `Some None` if there is no file, none if its text is not a level
 abbrev pub before_in : Option (List ℕ) → Option (Option Level)
 before_in None = Some None
 before_in (Some text) = option_map Some (level_in text)
 
--- the level before is this one, or that of the file, where that is known
+-- the previous level is this one, or that of the file, if known
 abbrev pub IsBeforeIn : KnownFiles → Option Level → Option (List ℕ) → Option Level → Type 0
 IsBeforeIn file_at known_before None before = before ≡ known_before
 IsBeforeIn file_at known_before (Some path) before = IfSome (file_at path) (λ known. before_in known ≡ Some before)
 
--- the level stands in the file, where one is named and it is no dry run; else each file is as it was
+-- the given file has the level, unless it is a dry run; all other files are unchanged
 abbrev pub KeepsIn : Bool → Option (List ℕ) → Level → KnownFiles → KnownFiles → Type 0
 KeepsIn true file new before after = AreSame before after
 KeepsIn false None new before after = AreSame before after

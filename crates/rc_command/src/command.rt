@@ -1,4 +1,4 @@
-//! The command line of rc.
+//! The command line of `rc`.
 
 ghost use Rattle.std.specs.Prelude.{◌≡◌, map, string_bytes, IfErr, IfOk, IsSome, None, Some};
 ghost use Rattle.clap.specs.Words.{found_of, rows_of};
@@ -15,10 +15,10 @@ use rc_links::is_name_byte;
 use std::alloc::{AllocError, Global};
 use text_lines::read_below;
 
-/// The greatest number of seconds that a script may be given.
+/// The maximum number of seconds for `--timeout`.
 const SECONDS_LIMIT: u64 = 86_400;
 
-/// The options and the words of a command line.
+/// The options and the positional arguments of the command line.
 const OPTIONS: &[Row] = &[
     ("-n", "", ""),
     ("-v", "", ""),
@@ -32,35 +32,35 @@ const OPTIONS: &[Row] = &[
     ("NEW", "?", ""),
 ];
 
-/// What a command line says.
+/// A parsed command line.
 #[derive(Drop)]
 pub struct Words {
-    /// The folder that holds those of the runlevels.
+    /// The folder that contains the folders of the runlevels.
     pub dir: String,
-    /// The runlevel before, if there was one, where no file has it.
+    /// The previous runlevel, if there was one and it is not in a file.
     pub previous: Option<Level>,
-    /// The file that has the runlevel before, and then the new one, where one is named.
+    /// The file that contains the previous runlevel and is given the new one, if `--level-file` is given.
     pub level_file: Option<String>,
     /// The runlevel that is entered.
     pub new: Level,
-    /// Scripts are run as sysv-rc runs them.
+    /// Whether scripts are run as sysv-rc runs them.
     pub sysv: bool,
-    /// What the options say besides.
+    /// The other options.
     pub options: RunOptions,
 }
 
-/// What the options of a run say.
+/// The options of a run.
 #[derive(Clone, Copy, PartialEq, Eq)]
 pub struct RunOptions {
-    /// What would be run is printed, and nothing is run.
+    /// Prints what would be run, and runs nothing.
     pub dry: bool,
-    /// A script that fails is told by the exit status.
+    /// Reports a script that failed by the exit status.
     pub strict: bool,
-    /// How the scripts are run; with a change of level as sysv-rc runs them.
+    /// How the scripts are run. It includes the change of level if they are run as sysv-rc runs them.
     pub way: ScriptOptions,
 }
 
-/// Reads a command line, without the program's name in front.
+/// Parses a command line, without the program's name.
 pub fn read_words(alloc: Global, words: &[String]) -> Result<Words, WordFault>
     ensures ok { IfOk result (λ arguments.
         rc_read_of (map string_bytes words.now) ≡ Some (arguments_of arguments)) }
@@ -73,7 +73,7 @@ pub fn read_words(alloc: Global, words: &[String]) -> Result<Words, WordFault>
     }
 }
 
-/// What matches say.
+/// Returns the command line of clap's matches.
 fn read_matches(alloc: Global, matches: &ArgMatches) -> Result<Words, WordFault>
     ensures ok { IfOk result (λ arguments.
         arguments_in (rows_of (found_of matches.now)) ≡ Some (arguments_of arguments)) }
@@ -89,7 +89,7 @@ fn read_matches(alloc: Global, matches: &ArgMatches) -> Result<Words, WordFault>
     )
 }
 
-/// The two runlevels, of which a file has the first where one is named.
+/// Returns the two runlevels. The previous one is none here if a file contains it.
 fn read_levels(alloc: Global, matches: &ArgMatches) -> Result<LevelChange, WordFault>
     ensures ok { IfOk result (λ levels.
         levels_given (rows_of (found_of matches.now)) ≡ Some levels) }
@@ -99,22 +99,22 @@ fn read_levels(alloc: Global, matches: &ArgMatches) -> Result<LevelChange, WordF
     let first = value_of(matches, "PREV");
     match (word_of(matches, "--level-file"), word_of(matches, "NEW")) {
         (None, Some(second)) => read_both(alloc, first, second),
-        (None, None) => Err(WordFault::Usage(String::from_str(alloc, "a word is missing")?)),
+        (None, None) => Err(WordFault::Usage(String::from_str(alloc, "missing argument")?)),
         (Some(_), None) => read_new(alloc, first),
         (Some(_), Some(second)) => Err(WordFault::Usage(format!(in alloc;
-            "{second}: a word too much: with --level-file PREV is left out"
+            "{second}: unexpected argument; omit PREV with --level-file"
         )?)),
     }
 }
 
-/// The levels of two words.
+/// Parses the levels in two words.
 fn read_both(alloc: Global, before: &str, after: &str) -> Result<LevelChange, WordFault>
     ensures ok { IfOk result (λ levels. levels_of before.now after.now ≡ Some levels) }
     ensures usage { IfErr result (λ fault. IsSome (reason_of fault)
         → levels_of before.now after.now ≡ None) }
 {
     let Some(previous) = previous_of(before) else {
-        let reason = format!(in alloc; "{before}: PREV is a runlevel, 0 to 9 or S, or N")?;
+        let reason = format!(in alloc; "{before}: PREV must be a runlevel, 0 to 9 or S, or N")?;
         return Err(WordFault::Usage(reason));
     };
     let levels = read_new(alloc, after)?;
@@ -124,19 +124,19 @@ fn read_both(alloc: Global, before: &str, after: &str) -> Result<LevelChange, Wo
     })
 }
 
-/// The level of a word.
+/// Parses the level in a word.
 fn read_new(alloc: Global, after: &str) -> Result<LevelChange, WordFault>
     ensures ok { IfOk result (λ levels. new_of after.now ≡ Some levels) }
     ensures usage { IfErr result (λ fault. IsSome (reason_of fault) → new_of after.now ≡ None) }
 {
     let Some(new) = level_of(after) else {
-        let reason = format!(in alloc; "{after}: NEW is a runlevel, 0 to 9 or S")?;
+        let reason = format!(in alloc; "{after}: NEW must be a runlevel, 0 to 9 or S")?;
         return Err(WordFault::Usage(reason));
     };
     Ok(LevelChange { before: None, new })
 }
 
-/// What the options say, with these seconds.
+/// Returns the options of a run, with this time limit.
 fn read_options(matches: &ArgMatches, seconds: Option<u32>) -> RunOptions
     ensures { result ≡ options_with seconds (rows_of (found_of matches.now)) }
 {
@@ -152,7 +152,7 @@ fn read_options(matches: &ArgMatches, seconds: Option<u32>) -> RunOptions
     }
 }
 
-/// The seconds that a script has, where a limit is given.
+/// Returns the time limit for a script in seconds, if one is given.
 fn read_seconds_option(alloc: Global, matches: &ArgMatches) -> Result<Option<u32>, WordFault>
     ensures ok { IfOk result (λ seconds.
         seconds_option (rows_of (found_of matches.now)) ≡ Some seconds) }
@@ -164,11 +164,11 @@ fn read_seconds_option(alloc: Global, matches: &ArgMatches) -> Result<Option<u32
     };
     match read_seconds(word) {
         Some(seconds) => Ok(Some(seconds)),
-        None => Err(refused(alloc, "--timeout", word, "not 1 to 86400 seconds")),
+        None => Err(refused(alloc, "--timeout", word, "not between 1 and 86400 seconds")),
     }
 }
 
-/// The seconds of a word, 1 to 86,400.
+/// Parses a number of seconds, 1 to 86,400.
 fn read_seconds(word: &str) -> Option<u32>
     ensures { result ≡ seconds_read word.now }
 {
@@ -180,7 +180,7 @@ fn read_seconds(word: &str) -> Option<u32>
     }
 }
 
-/// What words say; a usage fault where one is no path or no level.
+/// Returns the parsed arguments, or a usage fault if one is not a path or not a level.
 fn words_of(
     alloc: Global,
     matches: &ArgMatches,
@@ -195,7 +195,7 @@ fn words_of(
 {
     let dir = value_of(matches, "DIR");
     if !is_dir(dir) {
-        let reason = format!(in alloc; "{dir}: DIR has bytes of A-Z a-z 0-9 . _ - / alone")?;
+        let reason = format!(in alloc; "{dir}: DIR may contain only A-Z a-z 0-9 . _ - /")?;
         return Err(WordFault::Usage(reason));
     }
     let levels = read_levels(alloc, matches)?;
@@ -209,7 +209,7 @@ fn words_of(
     })
 }
 
-/// The options with the change of level, where scripts are run as sysv-rc runs them.
+/// Returns the options, with the change of level if scripts are run as sysv-rc runs them.
 pub(crate) fn entering(sysv: bool, change: LevelChange, options: RunOptions) -> RunOptions
     ensures { result ≡ entering sysv change options }
 {
@@ -225,7 +225,7 @@ pub(crate) fn entering(sysv: bool, change: LevelChange, options: RunOptions) -> 
     }
 }
 
-/// The path has bytes of `A-Z a-z 0-9 . _ - /` alone.
+/// Reports whether the path consists of the bytes `A-Z a-z 0-9 . _ - /`.
 fn is_dir(word: &str) -> bool
     ensures { result ≡ is_dir word.now }
 {
@@ -234,7 +234,7 @@ fn is_dir(word: &str) -> bool
         .all(|byte| is_name_byte(*byte) || *byte == b'/')
 }
 
-/// The runlevel of a word, `0` to `9` or `S`.
+/// Parses a runlevel, `0` to `9` or `S`.
 fn level_of(word: &str) -> Option<Level>
     ensures { result ≡ level_of word.now }
 {
@@ -244,7 +244,7 @@ fn level_of(word: &str) -> Option<Level>
     Level::read(only_byte(word)?)
 }
 
-/// The runlevel before, or none where the word is `N`; None where it is neither.
+/// Parses the previous runlevel: `Some(None)` for `N`, and `None` for a word that is neither that nor a level.
 fn previous_of(word: &str) -> Option<Option<Level>>
     ensures { result ≡ previous_of word.now }
 {

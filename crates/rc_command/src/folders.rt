@@ -1,4 +1,4 @@
-//! Where the links of a runlevel are read from.
+//! The folders from which the links of a runlevel are read.
 
 ghost use Rattle.std.specs.Prelude.{◌≡◌, map, string_bytes, IfOk, IfErr, IsSome};
 ghost use Rattle.std.specs.IoError.{error_kind};
@@ -11,14 +11,14 @@ use std::io;
 use std::io::ErrorKind;
 use std::rt::Files;
 
-/// What lists the folder at a path.
+/// Lists folders.
 ///
-/// A contract sees of it the names in the folder, where they are known. They may be known of no path.
+/// Its contracts refer to the names in a folder, if they are known. They may be known for no path.
 pub trait Folders {
-    /// The names in the folder at a path; None where they aren't known.
+    /// The names in the folder at a path, or `None` if they are not known.
     ghost names_at: { Self → KnownNames };
 
-    /// The names in the folder at a path. Names that are known are refused only for lack of memory.
+    /// Returns the names in the folder at a path. For known names it fails only if memory allocation fails.
     fn names(&self, alloc: Global, path: &str) -> io::Result<Vec<String>>
         ensures names { IfOk result (λ names.
             AreNamesAt (names_at self.now) path.now (map string_bytes names.items)) }
@@ -26,7 +26,7 @@ pub trait Folders {
             → error_kind why ≡ ErrorKind.OutOfMemory) };
 }
 
-/// The folders of the operating system. Nothing is known of their names.
+/// The folders of the operating system. Their names are not known.
 impl<R: Files + Alloc + Clone + Drop> Folders for R {
     ghost use Rattle.std.specs.Prelude.{None};
 
@@ -41,7 +41,7 @@ impl<R: Files + Alloc + Clone + Drop> Folders for R {
     }
 }
 
-/// Adds the name of an entry. A name that is not UTF-8 is passed over, since no link has one.
+/// Adds the name of an entry. A name that is not UTF-8 is skipped, because no link has such a name.
 fn add_name<R: Files + Drop, A: Allocator>(
     alloc: Global,
     names: &mut Vec<String>,
@@ -55,7 +55,7 @@ fn add_name<R: Files + Drop, A: Allocator>(
     Ok(())
 }
 
-/// The path of a runlevel's folder.
+/// Returns the path of a runlevel's folder.
 pub(crate) fn folder_of(alloc: Global, dir: &str, level: Level) -> Result<String, AllocError>
     ensures { IfOk result (λ path. string_bytes path ≡ folder_of dir.now level) }
 {
@@ -63,7 +63,7 @@ pub(crate) fn folder_of(alloc: Global, dir: &str, level: Level) -> Result<String
     format!(in alloc; "{dir}/rc{code}.d")
 }
 
-/// The names in the folder of the previous runlevel. There are none where there was no such level, and where its
+/// Returns the names in the folder of the previous runlevel. There are none if there was no such level, or if its
 /// folder can't be listed.
 pub(crate) fn previous_names<F: Folders>(
     folders: &F,

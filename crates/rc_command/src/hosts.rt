@@ -11,10 +11,11 @@ use std::fs::File;
 use std::process::Processes;
 use std::rt::{Clock, Files};
 
-/// The host.
-type RcHost<R> = OsHost<TellingRuntime<R, Worded<R>>, OsSystem<R>>;
+/// A host that uses the operating system.
+pub type RcHost<R> = OsHost<TellingRuntime<R, Worded<R>>, OsSystem<R>>;
 
-/// A host that asks the operating system, by tenths of a second.
+/// Creates a host that uses the operating system. Its pauses are a tenth of the time that a script has run, at most a
+/// second.
 pub fn os_host<R>(rt: R, alloc: Global) -> Result<RcHost<R>, Memory>
 where
     R: Processes + Files<File = File> + Clock + Print + Eprint + Clone + Drop,

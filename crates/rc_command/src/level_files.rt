@@ -1,4 +1,4 @@
-//! Where the runlevel before is kept from one run to the next.
+//! The file that keeps the previous runlevel from one run to the next.
 
 ghost use Rattle.std.specs.Prelude.{◌≡◌, ◌∷◌, [], option_map, IfOk, IfSome, OnOk, OnErr};
 ghost use Rattle.rc_command.specs.LevelFiles.{AreSame, HasText, KnownFiles, level_in};
@@ -11,27 +11,26 @@ use std::io::ErrorKind;
 use std::rt::Files;
 use std::{fs, io};
 
-/// What reads and replaces the files of runlevels.
+/// Reads and replaces the files of runlevels.
 ///
-/// A contract sees of it what stands at a path, where it is known. It may be known of no path.
+/// Its contracts refer to the file at a path, if it is known. It may be known for no path.
 pub trait LevelFiles {
-    /// The text of the file at a path, or none where there is no file; None where it isn't known.
+    /// The text of the file at a path, `Some(None)` if there is no file, or `None` if that is not known.
     ghost file_at: { Self → KnownFiles };
 
-    /// The text of the file at a path; None where there is none.
+    /// Returns the text of the file at a path, or `None` if there is no file.
     fn read(&self, alloc: Global, path: &str) -> io::Result<Option<Vec<u8>>>
         ensures { IfOk result (λ found. IfSome (file_at self.now path.now)
             (λ known. option_map (λ text. text.items) found ≡ known)) };
 
-    /// Puts a file with this text at the path, in the place of the one that is there. Where it is refused, each file is
-    /// as it was.
+    /// Replaces the file at the path by one with this text. If that fails, all files are unchanged.
     fn put(&mut self, alloc: Global, path: &str, text: &[u8]) -> io::Result<()>
         ensures done { OnOk result
             (HasText path.now text.now (file_at self.old) (file_at self.new)) }
         ensures refused { OnErr result (AreSame (file_at self.old) (file_at self.new)) };
 }
 
-/// The files of the operating system. Nothing is known of their texts.
+/// The files of the operating system. Their texts are not known.
 impl<R: Files> LevelFiles for R {
     ghost use Rattle.std.specs.Prelude.{None};
 
@@ -45,7 +44,7 @@ impl<R: Files> LevelFiles for R {
         }
     }
 
-    /// It is written beside the path, with `.new` after it, and then put in its place.
+    /// Writes the text to the path with `.new` appended, and then renames that file.
     fn put(&mut self, alloc: Global, path: &str, text: &[u8]) -> io::Result<()> {
         let beside = format!(in alloc; "{path}.new")?;
         write_whole(self, beside.as_str(), text)?;
@@ -53,7 +52,7 @@ impl<R: Files> LevelFiles for R {
     }
 }
 
-/// Writes a file that has the text, and waits until it is on the disk.
+/// Writes a file with this text, and waits until it is on the disk.
 fn write_whole<R: Files>(rt: &R, path: &str, text: &[u8]) -> io::Result<()> {
     refuse_special(rt, path)?;
     let mut file = File::create(rt, path)?;
@@ -61,7 +60,7 @@ fn write_whole<R: Files>(rt: &R, path: &str, text: &[u8]) -> io::Result<()> {
     file.sync_all()
 }
 
-/// The runlevel of a file's text: its character, `S` as a capital, and a newline.
+/// Parses the text of a file: the character of a runlevel, with a capital `S`, and a newline.
 pub(crate) fn level_in(text: &[u8]) -> Option<Level>
     ensures { result ≡ level_in text.now }
 {
@@ -71,7 +70,7 @@ pub(crate) fn level_in(text: &[u8]) -> Option<Level>
     }
 }
 
-/// The runlevel of a character, `S` as a capital, where a newline stands behind it.
+/// Parses the character of a runlevel, with a capital `S`, if a newline follows it.
 fn level_before_end(code: u8, end: u8) -> Option<Level>
     ensures { result ≡ level_in (code ∷ end ∷ []) }
 {

@@ -1,5 +1,5 @@
-//! The command line of `rc`: its words, the folders of links that they name, the run that they ask for, and what is
-//! reported of a fault.
+//! The command line of `rc`: its arguments, the folders of links that they name, the run of the scripts, and the report
+//! of a fault.
 #![tactic(auto)]
 
 mod command;
@@ -7,12 +7,14 @@ mod folders;
 mod hosts;
 mod inherited;
 mod level_files;
+mod on_system;
 mod running;
 
 pub use command::{RunOptions, Words, read_words};
 pub use command_words::WordFault;
 pub use folders::Folders;
-pub use hosts::os_host;
+pub use hosts::{RcHost, os_host};
 pub use inherited::refuse_unwaited;
 pub use level_files::LevelFiles;
+pub use on_system::run_on_system;
 pub use running::{PAUSES_LIMIT, SCRIPT_FAILED, SHORT_USAGE, USAGE, run_names, run_words};

@@ -1,15 +1,15 @@
-//! rc at work: the scripts of two runlevels' links, stopped and started over a host, or printed.
+//! Runs or prints the scripts behind the links of two runlevels.
 
 ghost use Rattle.std.specs.Prelude.{◌≡◌, ◌≢◌, ◌++◌, ◌⊎◌, ◌↔◌, ℕ, true, false, codes, IfErr, IfOk, IfSome, IsSome, IsTrue, None, OnErr, OnOk, List, Option, map, string_bytes};
 ghost use Rattle.host_calls.specs.Calls.{HostCall};
-ghost use Rattle.host_calls.specs.Record.{Since};
+ghost use Rattle.host_calls.specs.Record.{NewCallsSatisfy};
 ghost use Rattle.command_words.specs.CommandLines.{asks_version};
 ghost use Rattle.command_words.specs.Faults.{ReportsUsage};
-ghost use Rattle.program_io.specs.Reports.{HasReported, HasSpoken};
+ghost use Rattle.program_io.specs.Reports.{AppendsReport, LastReportNonempty};
 ghost use Rattle.program_io.specs.Writing.{AppendsPrefix};
 ghost use Rattle.command_words.specs.VersionLine.{PrintsVersion};
 ghost use Rattle.rc_command.specs.CommandLine.{rc_read_of, arguments_of};
-ghost use Rattle.rc_command.specs.Endings.{Asks, AsksFor, IsBefore, IsStatusOf, IsWhole, Keeps, Reports, ReportsEnd, ReportsFirst, ReportsNames, ReportsPart, RunsAsked, Says};
+ghost use Rattle.rc_command.specs.Endings.{Asks, ForResolvedArguments, IsBefore, IsStatusOf, AllScriptsEnded, Keeps, Reports, ReportsEnd, ReportsFirst, ReportsNames, ReportsPart, RunsRequestedScripts, ParsedArgumentsSatisfy};
 ghost use Rattle.rc_command.specs.LevelFiles.{AreSame};
 ghost use Rattle.std.specs.Io.KnownBytes.{Appends};
 ghost use Rattle.rc_driver.specs.Printing.{command_lines};
@@ -29,44 +29,51 @@ use rc_driver::{LevelChange, Rc, RunEnd, ScriptOptions, print_links, run_links};
 use std::alloc::Global;
 use std::io::Write;
 
-/// The greatest number of pauses of a run: of a second at most, they are some 27 hours of one script.
+/// The maximum number of pauses in a run. They last a second at most; a single script reaches the limit after about 27
+/// hours.
 pub const PAUSES_LIMIT: u32 = 100_000;
 
-/// Exit status: all scripts came to their ends, and one of them failed.
+/// Exit status: all scripts were carried out, and one of them failed.
 pub const SCRIPT_FAILED: u8 = 2;
 
-/// What is reported where help is asked for.
+/// The usage, printed when help is requested.
 pub const USAGE: &str = "usage: rc [-n] [-v] [--strict] [--direct] [--as-sysv] [--timeout SEC]
           DIR PREV NEW
        rc [OPTION..] --level-file F DIR NEW
        rc --version
   -n              print what would be run, and run nothing
-  -v              tell of each start
-  --strict        status 2 where a script fails
-  --direct        execute each script by its own first line, not by sh
-  --as-sysv       run what sysv-rc runs, and as it does; --direct is meant too
+  -v              report each start
+  --strict        exit with status 2 if a script fails
+  --direct        execute each script by its own first line, not with sh
+  --as-sysv       run what sysv-rc runs, and in the same way; implies --direct
   --timeout SEC   send TERM to a script that runs longer than SEC seconds, 1 to
                   86400, and KILL 5 seconds later
-  --level-file F  PREV is what the file F has, N where there is none; F has NEW
-                  behind the run
-  DIR   the folder that holds those of the runlevels, as rc3.d; of bytes of
-        A-Z a-z 0-9 . _ - / alone
-  PREV  the runlevel before, 0 to 9 or S, or N where there was none
-  NEW   the runlevel that is entered, 0 to 9 or S
+  --level-file F  read PREV from the file F, or use N if there is none; after
+                  the run F holds NEW
+  DIR   the folder that holds those of the runlevels, such as rc3.d; it may
+        contain only A-Z a-z 0-9 . _ - /
+  PREV  the previous runlevel, 0 to 9 or S, or N if there was none
+  NEW   the runlevel to enter, 0 to 9 or S
 ";
 
-/// What is reported of words that are no command line, behind a line that says why.
+/// The usage for rejected arguments, which follows a line with the reason.
 pub const SHORT_USAGE: &str =
     "usage: rc [OPTION].. DIR PREV NEW | [OPTION].. --level-file F DIR NEW | --help\n";
 
-/// Runs rc on a command line without the program's name, and gives its exit status: 0 where all scripts of NEW's folder
-/// were carried out, whatever their own statuses, or were printed, or the version was written, 1 where the words are no
-/// command line, 2 where `--strict` is said, all were carried out, and one failed, 3 where a script has not ended after
-/// `PAUSES_LIMIT` pauses, 4 where NEW's folder can't be listed, the level before can't be read from its file or the new
-/// one written there, the output fails or memory runs out. The version is written on `out`, where the words are
-/// `--version` alone; or a line for each script at its end, with `-v` at its start too, with `-n` what would start it; a
-/// fault is reported on `err`. The children are
-/// those of the host, the folders are listed by `folders`, and the file of the levels is one of `levels`.
+/// Runs `rc` on a command line, without the program's name, and returns its exit status.
+///
+/// - 0: all scripts of NEW's folder were carried out, whatever their own statuses, or were printed; or the version was
+///   written.
+/// - 1: the arguments are rejected.
+/// - 2: `--strict` is given, all scripts were carried out, and one failed.
+/// - 3: a script has not ended after `PAUSES_LIMIT` pauses.
+/// - 4: NEW's folder can't be listed, the previous level can't be read from its file or the new one can't be written
+///   there, the output fails, or memory runs out.
+///
+/// If `--version` is the only argument, the version is written to `out`. Otherwise a line for each script is written
+/// there: at its end, with `-v` also at its start, and with `-n` the command that would start it. Faults are reported
+/// on `err`. The children are those of the host, the folders are listed by `folders`, and the file of the level is read
+/// and written by `levels`.
 pub fn run_words<H, F, L, W, E>(
     host: &mut H,
     folders: &F,
@@ -82,42 +89,44 @@ where
     L: LevelFiles,
     W: Write,
     E: Reporter,
-    ensures statuses { IsWhole result ⊎ (result ≡ REFUSED) ⊎ (result ≡ LIMIT_REACHED)
+    ensures statuses { AllScriptsEnded result ⊎ (result ≡ REFUSED) ⊎ (result ≡ LIMIT_REACHED)
         ⊎ (result ≡ DEVICE_FAULT) }
     ensures refused { result ≡ REFUSED → rc_read_of (map string_bytes words.items) ≡ None }
     ensures version { asks_version (map string_bytes words.items) ≡ true
         → PrintsVersion (codes "rc") result (W.contents out.old) (W.contents out.new) }
-    ensures parsed { asks_version (map string_bytes words.items) ≡ false → IsWhole result
+    ensures parsed { asks_version (map string_bytes words.items) ≡ false → AllScriptsEnded result
         → IsSome (rc_read_of (map string_bytes words.items)) }
     // The lines of all scripts of the two folders were written, and the status is the one for their ends.
-    ensures done { asks_version (map string_bytes words.items) ≡ false → IsWhole result
+    ensures done { asks_version (map string_bytes words.items) ≡ false → AllScriptsEnded result
         → Asks (L.file_at levels.old) (map string_bytes words.items) (λ arguments. Reports
         (F.names_at folders.now) arguments (W.contents out.old) result (W.contents out.new)) }
     // Nothing was written, or a prefix of those lines.
     ensures part { asks_version (map string_bytes words.items) ≡ false → (out.new ≡ out.old)
         ⊎ Asks (L.file_at levels.old) (map string_bytes words.items) (λ arguments. ReportsPart
         (F.names_at folders.now) arguments (W.contents out.old) (W.contents out.new)) }
-    // Nothing was run and nothing asked of a host, or it is a call of `run_names` over the names in the two folders, with
-    // the calls that the host tells; behind it the level is kept.
+    // Nothing was run and nothing was requested from the host; or `run_names` was called for the names in the two
+    // folders, with the calls that the host recorded, and afterwards the level was kept.
     ensures ran { asks_version (map string_bytes words.items) ≡ false
         → (((result ≡ REFUSED) ⊎ (result ≡ DEVICE_FAULT)) × (out.new ≡ out.old)
         × (H.told host.new ≡ H.told host.old))
-        ⊎ Says (map string_bytes words.items) (λ asked. RunsAsked (L.file_at levels.old)
+        ⊎ ParsedArgumentsSatisfy (map string_bytes words.items)
+        (λ asked. RunsRequestedScripts (L.file_at levels.old)
         (F.names_at folders.now) asked (H.told host.old) (H.told host.new)
         (W.contents out.old) (E.reports err.old) result
         (W.contents out.new) (E.reports err.new)) }
     ensures unasked { asks_version (map string_bytes words.items) ≡ true
         → H.told host.new ≡ H.told host.old }
-    // The new level stands in the file that is named, where all scripts were carried out; else each file is as it was.
-    ensures kept { asks_version (map string_bytes words.items) ≡ false → IsWhole result
-        → Says (map string_bytes words.items)
+    // If all scripts were carried out, the given file has the new level. Otherwise all files are unchanged.
+    ensures kept { asks_version (map string_bytes words.items) ≡ false → AllScriptsEnded result
+        → ParsedArgumentsSatisfy (map string_bytes words.items)
         (λ asked. Keeps asked (L.file_at levels.old) (L.file_at levels.new)) }
-    ensures unkept { (asks_version (map string_bytes words.items) ≡ true) ⊎ (IsWhole result → ⊥)
+    ensures unkept { (asks_version (map string_bytes words.items) ≡ true)
+        ⊎ (AllScriptsEnded result → ⊥)
         → AreSame (L.file_at levels.old) (L.file_at levels.new) }
     ensures report { result ≡ REFUSED
         → ReportsUsage (codes "rc") USAGE.now SHORT_USAGE.now
         (E.reports err.old) (E.reports err.new) }
-    ensures spoken { result ≡ DEVICE_FAULT → HasSpoken (E.reports err.new) }
+    ensures spoken { result ≡ DEVICE_FAULT → LastReportNonempty (E.reports err.new) }
 {
     if is_version(words.as_slice()) {
         return print_version("rc", out, err);
@@ -128,7 +137,7 @@ where
     }
 }
 
-/// Runs the scripts that words ask for, behind the level before, and keeps the new one.
+/// Runs the scripts for a command line and the previous level, and keeps the new one.
 fn run_asked<H: Host, F: Folders, L: LevelFiles, W: Write, E: Reporter>(
     host: &mut H,
     folders: &F,
@@ -138,23 +147,25 @@ fn run_asked<H: Host, F: Folders, L: LevelFiles, W: Write, E: Reporter>(
     out: &mut W,
     err: &mut E,
 ) -> u8
-    ensures statuses { IsWhole result ⊎ (result ≡ LIMIT_REACHED) ⊎ (result ≡ DEVICE_FAULT) }
-    ensures done { IsWhole result
-        → AsksFor (L.file_at levels.old) (arguments_of arguments.now) (λ arguments.
+    ensures statuses { AllScriptsEnded result ⊎ (result ≡ LIMIT_REACHED) ⊎ (result ≡ DEVICE_FAULT) }
+    ensures done { AllScriptsEnded result
+        → ForResolvedArguments (L.file_at levels.old) (arguments_of arguments.now) (λ arguments.
         Reports (F.names_at folders.now) arguments (W.contents out.old) result
         (W.contents out.new)) }
     ensures part { (out.new ≡ out.old)
-        ⊎ AsksFor (L.file_at levels.old) (arguments_of arguments.now) (λ arguments.
+        ⊎ ForResolvedArguments (L.file_at levels.old) (arguments_of arguments.now) (λ arguments.
         ReportsPart (F.names_at folders.now) arguments (W.contents out.old) (W.contents out.new)) }
     ensures ran { ((result ≡ DEVICE_FAULT) × (out.new ≡ out.old)
         × (H.told host.new ≡ H.told host.old))
-        ⊎ RunsAsked (L.file_at levels.old) (F.names_at folders.now) (arguments_of arguments.now)
+        ⊎ RunsRequestedScripts (L.file_at levels.old) (F.names_at folders.now)
+        (arguments_of arguments.now)
         (H.told host.old) (H.told host.new) (W.contents out.old) (E.reports err.old) result
         (W.contents out.new) (E.reports err.new) }
-    ensures kept { IsWhole result
+    ensures kept { AllScriptsEnded result
         → Keeps (arguments_of arguments.now) (L.file_at levels.old) (L.file_at levels.new) }
-    ensures unkept { (IsWhole result → ⊥) → AreSame (L.file_at levels.old) (L.file_at levels.new) }
-    ensures spoken { result ≡ DEVICE_FAULT → HasSpoken (E.reports err.new) }
+    ensures unkept { (AllScriptsEnded result → ⊥)
+        → AreSame (L.file_at levels.old) (L.file_at levels.new) }
+    ensures spoken { result ≡ DEVICE_FAULT → LastReportNonempty (E.reports err.new) }
 {
     let before = match level_before(levels, alloc, arguments, err) {
         Ok(before) => before,
@@ -190,8 +201,8 @@ fn run_asked<H: Host, F: Folders, L: LevelFiles, W: Write, E: Reporter>(
     keep_level(levels, alloc, arguments, status, err)
 }
 
-/// The level before: that of the words, or that of the file that they name; the exit status where that has none, which
-/// is told.
+/// Returns the previous level, which is an argument or in the given file. If the file has none, this is reported, and
+/// the exit status is returned.
 fn level_before<L: LevelFiles, E: Reporter>(
     levels: &L,
     alloc: Global,
@@ -202,7 +213,7 @@ fn level_before<L: LevelFiles, E: Reporter>(
         (λ before. IsBefore (L.file_at levels.now) (arguments_of arguments.now) before) }
     ensures silent { OnOk result (err.new ≡ err.old) }
     ensures status { IfErr result (λ status. status ≡ DEVICE_FAULT) }
-    ensures spoken { OnErr result (HasSpoken (E.reports err.new)) }
+    ensures spoken { OnErr result (LastReportNonempty (E.reports err.new)) }
 {
     let Some(path) = &arguments.level_file else {
         return Ok(arguments.previous);
@@ -214,30 +225,29 @@ fn level_before<L: LevelFiles, E: Reporter>(
             None => Err(report_no_level(path.as_str(), err)),
         },
         Err(error) => {
-            let rest = ": nothing was run; give PREV as a word without --level-file";
+            let rest = "; nothing was run: give PREV as an argument instead of --level-file";
             Err(report_failure("rc", "cannot read", path.as_str(), &error, rest, err))
         }
     }
 }
 
-/// What is reported of a file that has no runlevel, behind its path.
+/// The message about a file that has no runlevel, after its path.
 const NO_LEVEL: &str =
-    ": not a runlevel, 0 to 9 or S, and a newline: nothing was run; write the level that is left \
-    into it, or remove it for N\n";
+    ": not a runlevel, 0 to 9 or S, and a newline; nothing was run: write the previous runlevel \
+    into it, or remove it to mean N\n";
 
-/// Reports that a file has no runlevel, and gives the exit status.
+/// Reports that a file has no runlevel, and returns the exit status.
 fn report_no_level<E: Reporter>(path: &str, err: &mut E) -> u8
     ensures status { result ≡ DEVICE_FAULT }
-    ensures report { HasReported (E.reports err.old) (E.reports err.new)
+    ensures report { AppendsReport (E.reports err.old) (E.reports err.new)
         (codes "rc: " ++ (path.now ++ NO_LEVEL.now)) }
-    ensures spoken { HasSpoken (E.reports err.new) }
+    ensures spoken { LastReportNonempty (E.reports err.new) }
 {
     err.report_texts(&["rc: ", path, NO_LEVEL]);
     DEVICE_FAULT
 }
 
-/// Keeps the new level in the file that is named, where scripts were run and all were carried out, and gives the exit
-/// status.
+/// Keeps the new level in the given file if scripts were run and all were carried out, and returns the exit status.
 fn keep_level<L: LevelFiles, E: Reporter>(
     levels: &mut L,
     alloc: Global,
@@ -247,11 +257,12 @@ fn keep_level<L: LevelFiles, E: Reporter>(
 ) -> u8
     ensures status { IsStatusOf (arguments_of arguments.now).file status (E.reports err.old) result
         (E.reports err.new) }
-    ensures kept { IsWhole result
+    ensures kept { AllScriptsEnded result
         → Keeps (arguments_of arguments.now) (L.file_at levels.old) (L.file_at levels.new) }
-    ensures unkept { (IsWhole result → ⊥) → AreSame (L.file_at levels.old) (L.file_at levels.new) }
-    ensures spoken { (status ≡ DEVICE_FAULT → HasSpoken (E.reports err.old))
-        → result ≡ DEVICE_FAULT → HasSpoken (E.reports err.new) }
+    ensures unkept { (AllScriptsEnded result → ⊥)
+        → AreSame (L.file_at levels.old) (L.file_at levels.new) }
+    ensures spoken { (status ≡ DEVICE_FAULT → LastReportNonempty (E.reports err.old))
+        → result ≡ DEVICE_FAULT → LastReportNonempty (E.reports err.new) }
 {
     if arguments.options.dry || !is_whole(status) {
         return status;
@@ -262,24 +273,30 @@ fn keep_level<L: LevelFiles, E: Reporter>(
     match levels.put(alloc, path.as_str(), &[arguments.new.code(), b'\n']) {
         Ok(()) => status,
         Err(error) => {
-            let rest = ": all scripts were carried out, and it has not the new level";
+            let rest = "; all scripts were run, but it does not have the new level";
             report_failure("rc", "cannot write", path.as_str(), &error, rest, err)
         }
     }
 }
 
-/// All scripts were carried out, by the exit status.
+/// Reports whether the exit status means that all scripts were carried out.
 fn is_whole(status: u8) -> bool
-    ensures { IsTrue result ↔ IsWhole status }
+    ensures { IsTrue result ↔ AllScriptsEnded status }
 {
     status == DONE || status == SCRIPT_FAILED
 }
 
-/// Runs the scripts of the folder at `path` over a host, from the names in the folder of the previous level and in it,
-/// and gives the exit status: 0 where all were carried out, 2 where that is asked for and one of them failed, 3 where a
-/// script has not ended after `PAUSES_LIMIT` pauses, 4 where the output fails or memory runs out. A line for each script
-/// is written on `out` at its end, a fault is reported on `err`; the script that has not ended is named there, and one
-/// that was sent a signal since its time was up. Where the options say so nothing is run: what would start each script is written, and nothing is asked of the host.
+/// Runs the scripts of the folder at `path` on a host, for the names in the folder of the previous level and in this
+/// folder, and returns the exit status.
+///
+/// - 0: all scripts were carried out.
+/// - 2: all scripts were carried out, one of them failed, and that is to be reported.
+/// - 3: a script has not ended after `PAUSES_LIMIT` pauses.
+/// - 4: the output fails, or memory runs out.
+///
+/// A line for each script is written to `out` at its end. Faults are reported on `err`, including the script that has
+/// not ended, and each one that was sent a signal because its time was up. In a dry run nothing is run: the command
+/// that would start each script is written, and nothing is requested from the host.
 pub fn run_names<H: Host, W: Write, E: Reporter>(
     alloc: Global,
     host: &mut H,
@@ -290,22 +307,23 @@ pub fn run_names<H: Host, W: Write, E: Reporter>(
     out: &mut W,
     err: &mut E,
 ) -> u8
-    ensures statuses { IsWhole result ⊎ (result ≡ LIMIT_REACHED) ⊎ (result ≡ DEVICE_FAULT) }
-    ensures done { IsWhole result → ReportsNames options path.now
+    ensures statuses { AllScriptsEnded result ⊎ (result ≡ LIMIT_REACHED) ⊎ (result ≡ DEVICE_FAULT) }
+    ensures done { AllScriptsEnded result → ReportsNames options path.now
         (map string_bytes previous.now) (map string_bytes names.now) (W.contents out.old) result
         (W.contents out.new) }
     ensures part { (out.new ≡ out.old) ⊎ ReportsFirst options path.now
         (map string_bytes previous.now) (map string_bytes names.now) (W.contents out.old)
         (W.contents out.new) }
     ensures dry { options.dry ≡ true → host.new ≡ host.old }
-    // There was no memory for the scripts, or they were run with the calls that the host tells.
+    // There was no memory for the scripts, or they were run with the calls that the host recorded.
     ensures ran { ((result ≡ DEVICE_FAULT) × (out.new ≡ out.old) × (host.new ≡ host.old))
-        ⊎ (options.dry ≡ false → Since (H.told host.old) (H.told host.new) (RunsNames options
+        ⊎ (options.dry ≡ false
+        → NewCallsSatisfy (H.told host.old) (H.told host.new) (RunsNames options
         path.now (map string_bytes previous.now) (map string_bytes names.now)
         (W.contents out.old) (E.reports err.old) result (W.contents out.new)
         (E.reports err.new))) }
-    ensures silent { IsWhole result → IsSilent options → err.new ≡ err.old }
-    ensures spoken { result ≡ DEVICE_FAULT → HasSpoken (E.reports err.new) }
+    ensures silent { AllScriptsEnded result → IsSilent options → err.new ≡ err.old }
+    ensures spoken { result ≡ DEVICE_FAULT → LastReportNonempty (E.reports err.new) }
 {
     let Ok(mut rc) = rc_of(alloc, options.way.levels, previous, names) else {
         return report_no_memory("rc", err);
@@ -317,7 +335,7 @@ pub fn run_names<H: Host, W: Write, E: Reporter>(
     }
 }
 
-/// The scripts by the names in two folders: as sysv-rc has them, where a change of level is given.
+/// Returns the scripts for the names in two folders, those of sysv-rc if a change of level is given.
 fn rc_of<'n>(
     alloc: Global,
     levels: Option<LevelChange>,
@@ -344,12 +362,13 @@ fn run_all<'n, H: Host, W: Write, E: Reporter>(
     err: &mut E,
 ) -> u8
     requires { rc.old.waits ≡ false }
-    ensures statuses { IsWhole result ⊎ (result ≡ LIMIT_REACHED) ⊎ (result ≡ DEVICE_FAULT) }
-    ensures ran { Since (H.told host.old) (H.told host.new) (RunsScripts options path.now rc.old
+    ensures statuses { AllScriptsEnded result ⊎ (result ≡ LIMIT_REACHED) ⊎ (result ≡ DEVICE_FAULT) }
+    ensures ran { NewCallsSatisfy (H.told host.old) (H.told host.new)
+        (RunsScripts options path.now rc.old
         (W.contents out.old) (E.reports err.old) result (W.contents out.new)
         (E.reports err.new)) }
-    ensures silent { IsWhole result → options.way.seconds ≡ None → err.new ≡ err.old }
-    ensures spoken { result ≡ DEVICE_FAULT → HasSpoken (E.reports err.new) }
+    ensures silent { AllScriptsEnded result → options.way.seconds ≡ None → err.new ≡ err.old }
+    ensures spoken { result ≡ DEVICE_FAULT → LastReportNonempty (E.reports err.new) }
 {
     let ended = run_links(alloc, rc, host, options.way, path, PAUSES_LIMIT, out, err);
     report_end(path, options.strict, ended, err)
@@ -371,19 +390,19 @@ fn print_all<'n, W: Write, E: Reporter>(
     ensures part { AppendsPrefix (W.contents out.old) (W.contents out.new)
         (command_lines way path.now rc.old.remaining) }
     ensures silent { result ≡ DONE → err.new ≡ err.old }
-    ensures spoken { result ≡ DEVICE_FAULT → HasSpoken (E.reports err.new) }
+    ensures spoken { result ≡ DEVICE_FAULT → LastReportNonempty (E.reports err.new) }
 {
     let ended = print_links(alloc, rc, way, path, out);
     report_end(path, false, ended, err)
 }
 
-/// Reports how a run of the folder at `path` ended, where it wasn't done, and gives the exit status.
+/// Reports how a run of the folder at `path` ended, unless it is complete, and returns the exit status.
 fn report_end<E: Reporter>(path: &str, strict: bool, ended: RunEnd, err: &mut E) -> u8
     requires { ended ≢ RunEnd.Waiting }
     ensures status { result ≡ status_of strict ended.entry }
     ensures report { ReportsEnd path.now ended.entry (E.reports err.old) (E.reports err.new) }
-    ensures silent { IsWhole result → err.new ≡ err.old }
-    ensures spoken { result ≡ DEVICE_FAULT → HasSpoken (E.reports err.new) }
+    ensures silent { AllScriptsEnded result → err.new ≡ err.old }
+    ensures spoken { result ≡ DEVICE_FAULT → LastReportNonempty (E.reports err.new) }
 {
     match ended {
         RunEnd::Done => DONE,
@@ -395,21 +414,21 @@ fn report_end<E: Reporter>(path: &str, strict: bool, ended: RunEnd, err: &mut E)
     }
 }
 
-/// The exit status where a script failed.
+/// Returns the exit status if a script failed.
 fn failed_status(strict: bool) -> u8
     ensures { result ≡ status_of strict RunEnd.Failed }
 {
     if strict { SCRIPT_FAILED } else { DONE }
 }
 
-/// What is reported of a script that has not ended, behind its link.
-const RUNS_ON: &str = " has not ended after 100000 pauses, of a second at most: it runs on, \
-    and no script behind it was run\n";
+/// The message about a script that has not ended, after its link.
+const RUNS_ON: &str = " has not ended after 100000 pauses of at most a second; it keeps running, \
+    and no later script was run\n";
 
-/// Reports that the pauses are used up while a script runs, and gives the exit status.
+/// Reports that the limit of pauses is reached while a script runs, and returns the exit status.
 fn report_limit<E: Reporter>(path: &str, link: &str, err: &mut E) -> u8
     ensures status { result ≡ LIMIT_REACHED }
-    ensures report { HasReported (E.reports err.old) (E.reports err.new)
+    ensures report { AppendsReport (E.reports err.old) (E.reports err.new)
         (limit_text path.now link.now) }
 {
     err.report_texts(&["rc: ", path, "/", link, RUNS_ON]);

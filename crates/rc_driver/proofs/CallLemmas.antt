@@ -1,9 +1,11 @@
--- The calls of one script's run, put together.
+-- Lemmas on composing the calls of one script's run.
 use Rattle.rc_driver.proofs.Words.{◌≡◌, refl, ap, ◌∙◌, subst, cond, nat_lt, ℕ, ◌+◌, ◌-◌, Bool, true, false, List, []}
 use Rattle.rc_driver.proofs.Words.{◌∷◌, ◌++◌, length, filter, Option, Some, None, Result, Ok, Err, arith, HostCall}
-use Rattle.rc_driver.proofs.Words.{AddsCall, Since, Since-map, Since-one, Since-then, ScriptOptions}
-use Rattle.rc_driver.proofs.Words.{HasReported, ReportList}
-use Rattle.rc_driver.proofs.Words.{Begins, Goes, GoesFurther, GoneTo, RunsTo, by_late, by_look, by_reply, by_start}
+use Rattle.rc_driver.proofs.Words.{AddsCall, NewCallsSatisfy, NewCallsSatisfy-map, NewCallsSatisfy-one}
+use Rattle.rc_driver.proofs.Words.{NewCallsSatisfy-then, ScriptOptions}
+use Rattle.rc_driver.proofs.Words.{AppendsReport, ReportList}
+use Rattle.rc_driver.proofs.Words.{Begins, ScriptProgresses, ScriptContinues, GoneTo, RunsTo, by_late, by_look}
+use Rattle.rc_driver.proofs.Words.{by_reply, by_start}
 use Rattle.rc_driver.proofs.Words.{count_pauses, is_pause, is_waiting, script_id, Tells, due_by, due_signal}
 use Rattle.rc_driver.proofs.Words.{signal_line, time_lines, timer_at, timer_by}
 use Rattle.std.proofs.lemmas.List.{length-append}
@@ -21,78 +23,82 @@ use Rattle.rc_driver.specs.declared.progress.Progress.TheVariants as progress
 use Rattle.rc_driver.specs.declared.times.Timer.{Timer}
 use Rattle.rc_driver.specs.declared.times.Timer.TheVariants as timer
 
--- a start
+-- a start begins the run of a script
 pub begins : (old new : Option (List HostCall)) (limit : Option ℕ) (id text : List ℕ) (reply : Reply) (now : Progress)
     → AddsCall old new (call.Start id text reply) → id ≡ script_id
-    → now ≡ by_reply (by_start limit) reply → Since old new (Begins limit text now)
+    → now ≡ by_reply (by_start limit) reply → NewCallsSatisfy old new (Begins limit text now)
 begins old new limit id text reply now adds of is =
-    Since-one old new (call.Start id text reply) (Begins limit text now) adds ((of, refl, refl, is, refl), refl)
+    NewCallsSatisfy-one old new (call.Start id text reply) (Begins limit text now) adds
+    ((of, refl, refl, is, refl), refl)
 
--- a look
+-- a look continues it, without a pause
 pub goes_look : (old new : Option (List HostCall)) (limit : Option ℕ) (id : List ℕ) (reply : Reply) (now : Progress)
     → AddsCall old new (call.Look id reply) → id ≡ script_id
-    → now ≡ by_reply (by_look limit) reply → Since old new (GoesFurther limit progress.Born now 0)
+    → now ≡ by_reply (by_look limit) reply → NewCallsSatisfy old new (ScriptContinues limit progress.Born now 0)
 goes_look old new limit id reply now adds of is =
-    Since-one old new (call.Look id reply) (GoesFurther limit progress.Born now 0) adds
+    NewCallsSatisfy-one old new (call.Look id reply) (ScriptContinues limit progress.Born now 0) adds
     (λ time. (refl, λ command earlier ran. (of, ran, is)))
 
--- a pause, and what came later
+-- a pause, and the answer that came later, continue it
 pub goes_pause : (old mid new : Option (List HostCall)) (limit : Option ℕ) (late : Option (List ℕ × Answer))
     (before now : Progress) → AddsCall old mid call.Pause
     → AddsCall mid new (call.Late late) → is_waiting before ≡ true → now ≡ by_late limit before late
-    → Since old new (GoesFurther limit before now 1)
+    → NewCallsSatisfy old new (ScriptContinues limit before now 1)
 goes_pause old mid new limit late before now pauses lates waiting is =
-    Since-then old mid new (λ xs. xs ≡ call.Pause ∷ []) (λ ys. ys ≡ call.Late late ∷ [])
-    (GoesFurther limit before now 1)
-    (Since-one old mid call.Pause (λ xs. xs ≡ call.Pause ∷ []) pauses refl)
-    (Since-one mid new (call.Late late) (λ ys. ys ≡ call.Late late ∷ []) lates refl)
+    NewCallsSatisfy-then old mid new (λ xs. xs ≡ call.Pause ∷ []) (λ ys. ys ≡ call.Late late ∷ [])
+    (ScriptContinues limit before now 1)
+    (NewCallsSatisfy-one old mid call.Pause (λ xs. xs ≡ call.Pause ∷ []) pauses refl)
+    (NewCallsSatisfy-one mid new (call.Late late) (λ ys. ys ≡ call.Late late ∷ []) lates refl)
     (λ xs ys first second. rw (first, second) (λ time. (refl, λ command earlier ran. (before, waiting, ran, is))))
 
--- a reading of the clock by which no signal is due
+-- a reading of the clock at which no signal is due continues it
 pub goes_clock : (old new : Option (List HostCall)) (limit : Option ℕ) (reading : Result ℕ HostFault)
     (before now : Timer) → AddsCall old new (call.Clock reading)
     → due_by limit before reading ≡ None → now ≡ timer_by before reading None
-    → Since old new (Goes limit progress.Found before progress.Living now 0)
+    → NewCallsSatisfy old new (ScriptProgresses limit progress.Found before progress.Living now 0)
 goes_clock old new limit reading before now adds due is =
-    Since-one old new (call.Clock reading) (Goes limit progress.Found before progress.Living now 0) adds
+    NewCallsSatisfy-one old new (call.Clock reading)
+    (ScriptProgresses limit progress.Found before progress.Living now 0) adds
     (refl, λ command earlier ran. (refl, before, ran, due, is))
 
--- one by which a signal is due, and the signal
+-- a reading of the clock at which a signal is due, and the signal, continue it
 pub goes_signal : (old mid new : Option (List HostCall)) (limit : Option ℕ) (reading : Result ℕ HostFault) (id : List ℕ)
     (signal : SignalKind) (reply : Reply) (before now : Timer)
     → AddsCall old mid (call.Clock reading) → AddsCall mid new (call.Signal id signal reply) → id ≡ script_id
     → due_by limit before reading ≡ Some signal → now ≡ timer_by before reading (Some signal)
-    → Since old new (Goes limit progress.Found before progress.Living now 0)
+    → NewCallsSatisfy old new (ScriptProgresses limit progress.Found before progress.Living now 0)
 goes_signal old mid new limit reading id signal reply before now clocks signals of due is =
-    Since-then old mid new (λ xs. xs ≡ call.Clock reading ∷ []) (λ ys. ys ≡ call.Signal id signal reply ∷ [])
-    (Goes limit progress.Found before progress.Living now 0)
-    (Since-one old mid (call.Clock reading) (λ xs. xs ≡ call.Clock reading ∷ []) clocks refl)
-    (Since-one mid new (call.Signal id signal reply) (λ ys. ys ≡ call.Signal id signal reply ∷ []) signals refl)
+    NewCallsSatisfy-then old mid new (λ xs. xs ≡ call.Clock reading ∷ []) (λ ys. ys ≡ call.Signal id signal reply ∷ [])
+    (ScriptProgresses limit progress.Found before progress.Living now 0)
+    (NewCallsSatisfy-one old mid (call.Clock reading) (λ xs. xs ≡ call.Clock reading ∷ []) clocks refl)
+    (NewCallsSatisfy-one mid new (call.Signal id signal reply)
+    (λ ys. ys ≡ call.Signal id signal reply ∷ []) signals refl)
     (λ xs ys first second. rw (first, second) (refl, λ command earlier ran. (of, refl, before, ran, due, is)))
 
--- by a clock that can't be read none is due
+-- no signal is due if the clock can't be read
 pub no_reading : (limit : Option ℕ) (before : Timer) (fault : HostFault) → due_by limit before (Err fault) ≡ None
 no_reading None before fault = refl
 no_reading (Some seconds) before fault = refl
 
--- the signal that a choice gives
+-- the value of a conditional that is `Some`
 some_of : {T : Type 0} (b : Bool) (x y : T) → cond b (Some x) None ≡ Some y → x ≡ y
 some_of true x y is = same_Some x y is
 some_of false x y is = absurd (none-some y is)
 
--- a signal that is due is told behind those before
+-- the message about a signal that is due comes after the earlier ones
 tells_due : (way : ScriptOptions) (dir link : List ℕ) (seconds now : ℕ) (time : Timer) (signal : SignalKind)
     → due_signal seconds time now ≡ Some signal
     → time_lines way dir link (timer_at time now (Some signal))
     ≡ signal_line way.seconds dir link signal ∷ time_lines way dir link time
 tells_due way dir link seconds now timer.Unread signal due = absurd (none-some signal due)
 tells_due way dir link seconds now timer.Killed signal due = absurd (none-some signal due)
-tells_due way dir link seconds now (timer.Since began) signal due =
+tells_due way dir link seconds now (timer.RunningSince began) signal due =
     subst
-    (λ g. time_lines way dir link (timer_at (timer.Since began) now (Some g)) ≡ signal_line way.seconds dir link g ∷ [])
+    (λ g. time_lines way dir link (timer_at (timer.RunningSince began) now (Some g))
+    ≡ signal_line way.seconds dir link g ∷ [])
     (some_of (nat_lt seconds (now - began)) sig.Term signal due) refl
-tells_due way dir link seconds now (timer.Warned sent) signal due =
-    subst (λ g. time_lines way dir link (timer_at (timer.Warned sent) now (Some g))
+tells_due way dir link seconds now (timer.TermSent sent) signal due =
+    subst (λ g. time_lines way dir link (timer_at (timer.TermSent sent) now (Some g))
     ≡ signal_line way.seconds dir link g ∷ signal_line way.seconds dir link sig.Term ∷ [])
     (some_of (nat_lt GRACE (now - sent)) sig.Kill signal due) refl
 
@@ -105,18 +111,18 @@ tells_by way dir link (Some seconds) now time signal due = tells_due way dir lin
 
 pub tells_signal : (way : ScriptOptions) (dir link : List ℕ) (limit : Option ℕ) (now : ℕ) (time : Timer)
     (signal : SignalKind) (before told tells : ReportList)
-    → due_by limit time (Ok now) ≡ Some signal → HasReported told tells (signal_line way.seconds dir link signal)
+    → due_by limit time (Ok now) ≡ Some signal → AppendsReport told tells (signal_line way.seconds dir link signal)
     → Tells before told (time_lines way dir link time)
     → Tells before tells (time_lines way dir link (timer_at time now (Some signal)))
 tells_signal way dir link limit now time signal before told tells due line earlier =
     rw (tells_by way dir link limit now time signal due) (told, earlier, line)
 
--- a moment at which none is due tells nothing
+-- a reading of the clock at which no signal is due reports nothing
 pub tells_none : (way : ScriptOptions) (dir link : List ℕ) (now : ℕ) (time : Timer)
     → time_lines way dir link (timer_at time now None) ≡ time_lines way dir link time
 tells_none way dir link now timer.Unread = refl
-tells_none way dir link now (timer.Since began) = refl
-tells_none way dir link now (timer.Warned sent) = refl
+tells_none way dir link now (timer.RunningSince began) = refl
+tells_none way dir link now (timer.TermSent sent) = refl
 tells_none way dir link now timer.Killed = refl
 
 count_both : (later earlier : List HostCall)
@@ -124,14 +130,15 @@ count_both : (later earlier : List HostCall)
 count_both later earlier =
     ap length (filter-append is_pause later earlier) ∙ length-append (filter is_pause later) (filter is_pause earlier)
 
--- a run that goes on
+-- a run that continues
 pub gone_on : (old mid new : Option (List HostCall)) (limit : Option ℕ) (command : List ℕ) (known before now : Progress)
     (time then : Timer) (taken pauses still remaining : ℕ) → known ≡ before
-    → still ≡ taken + remaining → Since old mid (GoneTo limit command known time pauses still)
-    → Since mid new (Goes limit before time now then taken)
-    → Since old new (GoneTo limit command now then pauses remaining)
+    → still ≡ taken + remaining → NewCallsSatisfy old mid (GoneTo limit command known time pauses still)
+    → NewCallsSatisfy mid new (ScriptProgresses limit before time now then taken)
+    → NewCallsSatisfy old new (GoneTo limit command now then pauses remaining)
 gone_on old mid new limit command known before now time then taken pauses still remaining same fewer gone goes =
-    Since-then old mid new (GoneTo limit command known time pauses still) (Goes limit before time now then taken)
+    NewCallsSatisfy-then old mid new (GoneTo limit command known time pauses still)
+    (ScriptProgresses limit before time now then taken)
     (GoneTo limit command now then pauses remaining) gone goes
     (λ earlier later was is. (
       is.1 command earlier (subst (λ p. RunsTo limit command p time earlier) same was.0),
@@ -142,13 +149,14 @@ gone_on old mid new limit command known before now time then taken pauses still 
         → pauses ≡ count_pauses (later ++ earlier) + remaining
     counted earlier later was is = rw (count_both later earlier, is) (omega (arith, was, fewer))
 
--- the same, where its time stays as it stands
+-- the same without a change of the timer
 pub gone_further : (old mid new : Option (List HostCall)) (limit : Option ℕ) (command : List ℕ)
     (known before now : Progress) (time : Timer) (taken pauses still remaining : ℕ) → known ≡ before
-    → still ≡ taken + remaining → Since old mid (GoneTo limit command known time pauses still)
-    → Since mid new (GoesFurther limit before now taken)
-    → Since old new (GoneTo limit command now time pauses remaining)
+    → still ≡ taken + remaining → NewCallsSatisfy old mid (GoneTo limit command known time pauses still)
+    → NewCallsSatisfy mid new (ScriptContinues limit before now taken)
+    → NewCallsSatisfy old new (GoneTo limit command now time pauses remaining)
 gone_further old mid new limit command known before now time taken pauses still remaining same fewer gone goes =
     gone_on old mid new limit command known before now time time taken pauses still remaining same fewer gone
-    (Since-map mid new (GoesFurther limit before now taken) (Goes limit before time now time taken) goes
+    (NewCallsSatisfy-map mid new (ScriptContinues limit before now taken)
+    (ScriptProgresses limit before time now time taken) goes
     (λ calls is. is time))

@@ -1,4 +1,4 @@
--- A print of scripts, put together from its lines.
+-- Lemmas on composing a dry run from its lines.
 use Rattle.rc_driver.proofs.Words.{◌≡◌, ◌≢◌, ◌⊎◌, refl, sym, ◌∙◌, subst, inl, inr, ℕ, true, false, List, [], ◌∷◌, ◌++◌}
 use Rattle.rc_driver.proofs.Words.{codes, Option, Result, Ok, Err, OnOk, IfErr, Appends, Appends-nil, Appends-trans}
 use Rattle.rc_driver.proofs.Words.{true≢false, AppendsPrefix, AppendsPrefix-first, AppendsPrefix-then, RunEnd}
@@ -16,7 +16,7 @@ memory_is_not_done = λ is. cc
 waiting_is_not_done : run_end.Waiting ≢ run_end.Done
 waiting_is_not_done = λ is. cc
 
--- no script is left
+-- a dry run without remaining scripts is complete
 pub prints_done : (way : ScriptOptions) (dir : List ℕ) (rc new : RcState) (bytes : Option (List ℕ))
     → (rc.waits ≡ false) × (rc.remaining ≡ []) × (new ≡ rc) → PrintsLinks way dir rc bytes run_end.Done new bytes
 prints_done way dir rc new bytes (ready, none, same) =
@@ -32,7 +32,7 @@ prints_done way dir rc new bytes (ready, none, same) =
       ends = λ is. inl refl;
     })
 
--- an answer is missing
+-- a dry run in which an answer is missing prints nothing
 pub prints_waiting : (way : ScriptOptions) (dir : List ℕ) (rc new : RcState) (bytes : Option (List ℕ))
     → (rc.waits ≡ true) × (new ≡ rc) → PrintsLinks way dir rc bytes run_end.Waiting new bytes
 prints_waiting way dir rc new bytes (waiting, same) = record {
@@ -42,7 +42,7 @@ prints_waiting way dir rc new bytes (waiting, same) = record {
   ends = λ ready. absurd (true≢false (sym waiting ∙ ready));
 }
 
--- a print that ends at its first script
+-- a dry run that ends at its first script
 stops_by : (way : ScriptOptions) (dir : List ℕ) (old new : RcState) (before after : Option (List ℕ)) (ended : RunEnd)
     (s : LinkRun) → old.waits ≡ false
     → old.remaining ≡ s ∷ new.remaining → AppendsPrefix before after (command_line way dir s) → ended ≢ run_end.Done
@@ -72,7 +72,7 @@ prints_stops way dir old new before after run_end.Done s ready head at = absurd 
 prints_stops way dir old new before after run_end.Failed s ready head at = absurd at
 prints_stops way dir old new before after run_end.Waiting s ready head at = absurd at
 
--- the line of the text that would start it
+-- the line with the command that would start it
 pub line_written : {T : Type 0} (told : Result T RunEnd) (way : ScriptOptions) (dir : List ℕ) (s : LinkRun)
     (text : List ℕ) (before after : Option (List ℕ))
     → text ≡ command_text way dir s → OnOk told (Appends before after (text ++ codes "\n"))
@@ -99,7 +99,7 @@ pub printed_by : (way : ScriptOptions) (dir : List ℕ) (old mid new : RcState) 
 printed_by way dir old mid new before after s ready head is line =
     subst (λ (r : RcState). Printed way dir old before r after) (sym is) (s, ready, head, refl, line)
 
--- a script, and the print behind it
+-- a script, and the dry run after it
 pub prints_more : (way : ScriptOptions) (dir : List ℕ) (old mid new : RcState) (before between after : Option (List ℕ))
     (ended : RunEnd)
     → Printed way dir old before mid between → PrintsLinks way dir mid between ended new after

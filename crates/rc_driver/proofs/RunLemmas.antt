@@ -1,20 +1,21 @@
--- What a run of scripts over a host has written, by its calls.
+-- What a run of scripts on a host has written, in terms of its calls.
 use Rattle.rc_driver.proofs.Words.{◌≡◌, ◌∙◌, ℕ, suc, Bool, true, false, not, cond, ◌||◌, ◌-◌, inl, inr, List, [], ◌∷◌}
 use Rattle.rc_driver.proofs.Words.{◌++◌, length, Option, refl, sym, ap, subst, Appends-nil, Appends-trans, true≢false}
-use Rattle.rc_driver.proofs.Words.{Appends, AppendsPrefix, AppendsPrefix-first, AppendsPrefix-then, HostCall, Since}
+use Rattle.rc_driver.proofs.Words.{Appends, AppendsPrefix, AppendsPrefix-first, AppendsPrefix-then, HostCall}
+use Rattle.rc_driver.proofs.Words.{NewCallsSatisfy}
 use Rattle.rc_driver.proofs.Words.{RunEnd, RcAnswer, ScriptOptions, count_pauses, Output, TellsStart, WritesEnds}
 use Rattle.rc_driver.proofs.Words.{begin_line, done_end, is_over, line_of, lines_of, report, LinkRun, RcState}
 use Rattle.rc_driver.proofs.Words.{is_failure, ScriptsEndAt, RunsFrom, RunsLinks}
 use Rattle.std.specs.List.{list_any}
 use Rattle.std.proofs.Math.Bool.{or-false, or_assoc}
 use Rattle.rc_driver.specs.declared.driving.RunEnd.TheVariants as run_end
-use Rattle.rc_runs.specs.declared.runs.RcAnswer.TheVariants as answer
+use Rattle.rc_driver.specs.declared.runs.RcAnswer.TheVariants as answer
 
--- nothing of a text was written
+-- the empty prefix of a text was written
 pub AppendsPrefix-none : (old : Option (List ℕ)) (text : List ℕ) → AppendsPrefix old old text
 AppendsPrefix-none old text = ([], text, refl, Appends-nil old)
 
--- the line of a script's start, where starts are told, and then its line
+-- the line for a script's start, if starts are written, and then its line
 started_line : (verbose : Bool) (begin line : List ℕ) (before mid after : Option (List ℕ))
     → (verbose ≡ true → Appends before mid begin) × (verbose ≡ false → mid ≡ before) → Appends mid after line
     → Appends before after (cond verbose begin [] ++ line)
@@ -65,7 +66,7 @@ stops_part way dir pauses s before run_end.Done after calls at = absurd at
 stops_part way dir pauses s before run_end.Failed after calls at = absurd at
 stops_part way dir pauses s before run_end.Waiting after calls at = absurd at
 
--- it is not over
+-- such a run is not over
 pub stops_early : (way : ScriptOptions) (dir : List ℕ) (pauses : ℕ) (s : LinkRun) (before : Output) (ended : RunEnd)
     (after : Output) (calls : List HostCall)
     → ScriptsEndAt way dir pauses s before ended after calls → is_over ended ≡ false
@@ -76,7 +77,7 @@ stops_early way dir pauses s before run_end.Done after calls at = absurd at
 stops_early way dir pauses s before run_end.Failed after calls at = absurd at
 stops_early way dir pauses s before run_end.Waiting after calls at = absurd at
 
--- what scripts have written that were run from here
+-- what the scripts that were run from here have written
 record Wrote (way : ScriptOptions) (failed : Bool) (scripts : List LinkRun) (before : Option (List ℕ)) (ended : RunEnd)
     (remaining : List LinkRun)
     (after : Option (List ℕ)) : Type 0 where
@@ -128,7 +129,7 @@ wrote way dir pauses failed (s ∷ scripts) before ended remaining after calls
 -- what a run has written
 pub writes_ends : (old new : Option (List HostCall)) (way : ScriptOptions) (dir : List ℕ) (pauses : ℕ)
     (rc now : RcState) (before after : Output) (ended : RunEnd)
-    → Since old new (RunsLinks way dir pauses false rc before ended now after)
+    → NewCallsSatisfy old new (RunsLinks way dir pauses false rc before ended now after)
     → WritesEnds way rc before.lines ended now after.lines
 writes_ends old new way dir pauses rc now before after ended (calls, told, runs) = by rc.waits refl
   where

@@ -1,37 +1,38 @@
--- A run of scripts by its calls, put together from its scripts.
+-- Lemmas on composing a run of scripts, in terms of its calls, from those of its scripts.
 use Rattle.rc_driver.proofs.Words.{◌≡◌, refl, sym, ap, ◌∙◌, subst, inl, inr, ℕ, ◌+◌, ◌-◌, Bool, true, false, not, ◌||◌}
 use Rattle.rc_driver.proofs.Words.{List, [], ◌∷◌, ◌++◌, Option, Result, Ok, Err, IfOk, IfErr, arith, Appends}
-use Rattle.rc_driver.proofs.Words.{true≢false, AppendsPrefix, HostCall, Since, Since-map, Since-none, Since-then}
+use Rattle.rc_driver.proofs.Words.{true≢false, AppendsPrefix, HostCall, NewCallsSatisfy, NewCallsSatisfy-map}
+use Rattle.rc_driver.proofs.Words.{NewCallsSatisfy-none, NewCallsSatisfy-then}
 use Rattle.rc_driver.proofs.Words.{RunEnd, RcAnswer, ScriptOptions, Advanced, EndsCommand, EndsEarly, HasRun, RunsTo}
 use Rattle.rc_driver.proofs.Words.{count_pauses, Output, TellsStart, begin_line, command_text, done_end, is_over}
 use Rattle.rc_driver.proofs.Words.{line_of, lines_of, output, LinkRun, RcState, is_failure, ScriptsEndAt, RanBy}
 use Rattle.rc_driver.proofs.Words.{RunsFrom, RunsLinks, ReportList}
 use Rattle.std.specs.Borrow.{Bor}
 use Rattle.rc_driver.specs.declared.driving.RunEnd.TheVariants as run_end
-use Rattle.rc_runs.specs.declared.runs.Arg.{Arg}
+use Rattle.rc_driver.specs.declared.runs.Arg.{Arg}
 use Rattle.rc_driver.proofs.RunLemmas.{lines_told, stops_early}
 
--- the text that started it is the script's
+-- the command that was run is the script's
 pub run_by : (old new : Option (List HostCall)) (way : ScriptOptions) (dir link command text : List ℕ)
     (given : RcAnswer) (pauses still : ℕ) (told tells : ReportList) → command ≡ text
-    → Since old new (HasRun way dir link command given pauses still told tells)
-    → Since old new (HasRun way dir link text given pauses still told tells)
+    → NewCallsSatisfy old new (HasRun way dir link command given pauses still told tells)
+    → NewCallsSatisfy old new (HasRun way dir link text given pauses still told tells)
 run_by old new way dir link command text given pauses still told tells same gone =
-    subst (λ t. Since old new (HasRun way dir link t given pauses still told tells)) same gone
+    subst (λ t. NewCallsSatisfy old new (HasRun way dir link t given pauses still told tells)) same gone
 
--- the pauses are used up
+-- a run of a command that ends because the pauses are used up
 pub ends_early : (old new : Option (List HostCall)) (way : ScriptOptions) (dir command : List ℕ) (pauses : ℕ)
     (link : Bor (List ℕ)) (given : Arg) (bytes : Option (List ℕ)) (told tells : ReportList)
-    → Since old new (EndsEarly way dir link.now command pauses told tells)
-    → Since old new
+    → NewCallsSatisfy old new (EndsEarly way dir link.now command pauses told tells)
+    → NewCallsSatisfy old new
     (EndsCommand way dir command pauses (link.now, given) (output bytes told) (run_end.Limit link) (output bytes tells))
 ends_early old new way dir command pauses link given bytes told tells early =
-    Since-map old new (EndsEarly way dir link.now command pauses told tells)
+    NewCallsSatisfy-map old new (EndsEarly way dir link.now command pauses told tells)
     (EndsCommand way dir command pauses (link.now, given) (output bytes told) (run_end.Limit link) (output bytes tells))
     early
     (λ calls is. (refl, is, refl))
 
--- what ran to its end with fewer pauses ran with so many at most
+-- a script that ended within some pauses ended within at most that number
 ran_by : (way : ScriptOptions) (dir command : List ℕ) (pauses still : ℕ) (s : LinkRun) (given : RcAnswer)
     (told tells : ReportList) (calls : List HostCall)
     → HasRun way dir s.0 command given pauses still told tells calls
@@ -39,30 +40,31 @@ ran_by : (way : ScriptOptions) (dir command : List ℕ) (pauses still : ℕ) (s 
 ran_by way dir command pauses still s given told tells calls (time, (ran, count), lines) =
     (time, ran, omega (arith, count), lines)
 
--- the line was not written
+-- a run of a command that ends because its line was not written
 pub ends_unwritten : (old new : Option (List HostCall)) (way : ScriptOptions) (dir command : List ℕ) (pauses still : ℕ)
     (s : LinkRun) (given : RcAnswer) (before after : Option (List ℕ)) (told tells : ReportList) (ended : RunEnd)
-    → Since old new (HasRun way dir s.0 command given pauses still told tells)
+    → NewCallsSatisfy old new (HasRun way dir s.0 command given pauses still told tells)
     → (ended ≡ run_end.Write) × AppendsPrefix before after (line_of s given)
-    → Since old new (EndsCommand way dir command pauses s (output before told) ended (output after tells))
+    → NewCallsSatisfy old new (EndsCommand way dir command pauses s (output before told) ended (output after tells))
 ends_unwritten old new way dir command pauses still s given before after told tells ended gone (is, line) =
-    Since-map old new (HasRun way dir s.0 command given pauses still told tells)
+    NewCallsSatisfy-map old new (HasRun way dir s.0 command given pauses still told tells)
     (EndsCommand way dir command pauses s (output before told) ended (output after tells)) gone
     (λ calls was. subst (λ e. EndsCommand way dir command pauses s (output before told) e (output after tells) calls)
     (sym is)
     (given, ran_by way dir command pauses still s given told tells calls was, line))
 
--- the line of its start was not written
+-- a run that ends because the line for its script's start was not written
 pub ends_unbegun : (record_told : Option (List HostCall)) (way : ScriptOptions) (dir : List ℕ) (pauses : ℕ)
     (s : LinkRun) (before after : Option (List ℕ)) (told : ReportList) (ended : RunEnd)
     → (ended ≡ run_end.Write) × (way.verbose ≡ true) × AppendsPrefix before after (begin_line s)
-    → Since record_told record_told (ScriptsEndAt way dir pauses s (output before told) ended (output after told))
+    → NewCallsSatisfy record_told record_told
+    (ScriptsEndAt way dir pauses s (output before told) ended (output after told))
 ends_unbegun record_told way dir pauses s before after told ended (is, verbose, line) =
-    Since-none record_told (ScriptsEndAt way dir pauses s (output before told) ended (output after told))
+    NewCallsSatisfy-none record_told (ScriptsEndAt way dir pauses s (output before told) ended (output after told))
     (subst (λ e. ScriptsEndAt way dir pauses s (output before told) e (output after told) []) (sym is)
     (inl (verbose, refl, line, refl)))
 
--- a run of a command, behind the line of its script's start
+-- a run of a command, after the line for its script's start
 ends_at : (way : ScriptOptions) (dir command : List ℕ) (pauses : ℕ) (s : LinkRun)
     (before mid after : Option (List ℕ)) (told tells : ReportList) (ended : RunEnd) (calls : List HostCall)
     → command ≡ command_text way dir s → TellsStart way s before mid
@@ -89,14 +91,14 @@ ends_at way dir command pauses s before mid after told tells run_end.Waiting cal
 pub ends_told : (old new : Option (List HostCall)) (way : ScriptOptions) (dir command : List ℕ) (pauses : ℕ)
     (s : LinkRun) (before mid after : Option (List ℕ)) (told tells : ReportList) (ended : RunEnd)
     → command ≡ command_text way dir s → TellsStart way s before mid
-    → Since old new (EndsCommand way dir command pauses s (output mid told) ended (output after tells))
-    → Since old new (ScriptsEndAt way dir pauses s (output before told) ended (output after tells))
+    → NewCallsSatisfy old new (EndsCommand way dir command pauses s (output mid told) ended (output after tells))
+    → NewCallsSatisfy old new (ScriptsEndAt way dir pauses s (output before told) ended (output after tells))
 ends_told old new way dir command pauses s before mid after told tells ended same begun ends =
-    Since-map old new (EndsCommand way dir command pauses s (output mid told) ended (output after tells))
+    NewCallsSatisfy-map old new (EndsCommand way dir command pauses s (output mid told) ended (output after tells))
     (ScriptsEndAt way dir pauses s (output before told) ended (output after tells)) ends
     (λ calls at. ends_at way dir command pauses s before mid after told tells ended calls same begun at)
 
--- the same where a command was run, whatever came of it
+-- the same if a command was run with any result
 pub started_lines : (ran : Result RcAnswer RunEnd) (way : ScriptOptions) (s : LinkRun)
     (before mid after : Option (List ℕ)) → TellsStart way s before mid
     → IfOk ran (λ given. Appends mid after (line_of s given))
@@ -106,8 +108,8 @@ started_lines (Err ended) way s before mid after begun line = tt
 
 pub started_ran : (ran : Result RcAnswer RunEnd) (old new : Option (List HostCall)) (way : ScriptOptions)
     (dir link command text : List ℕ) (pauses still : ℕ) (told tells : ReportList) → command ≡ text
-    → IfOk ran (λ given. Since old new (HasRun way dir link command given pauses still told tells))
-    → IfOk ran (λ given. Since old new (HasRun way dir link text given pauses still told tells))
+    → IfOk ran (λ given. NewCallsSatisfy old new (HasRun way dir link command given pauses still told tells))
+    → IfOk ran (λ given. NewCallsSatisfy old new (HasRun way dir link text given pauses still told tells))
 started_ran (Ok given) old new way dir link command text pauses still told tells same gone =
     run_by old new way dir link command text given pauses still told tells same gone
 started_ran (Err ended) old new way dir link command text pauses still told tells same gone = tt
@@ -116,8 +118,10 @@ pub started_ends : (ran : Result RcAnswer RunEnd) (old new : Option (List HostCa
     (dir command : List ℕ) (pauses : ℕ) (s : LinkRun) (before mid after : Option (List ℕ)) (told tells : ReportList)
     → command ≡ command_text way dir s → TellsStart way s before mid
     → IfErr ran
-    (λ ended. Since old new (EndsCommand way dir command pauses s (output mid told) ended (output after tells)))
-    → IfErr ran (λ ended. Since old new (ScriptsEndAt way dir pauses s (output before told) ended (output after tells)))
+    (λ ended. NewCallsSatisfy old new
+    (EndsCommand way dir command pauses s (output mid told) ended (output after tells)))
+    → IfErr ran
+    (λ ended. NewCallsSatisfy old new (ScriptsEndAt way dir pauses s (output before told) ended (output after tells)))
 started_ends (Ok given) old new way dir command pauses s before mid after told tells same begun ends = tt
 started_ends (Err ended) old new way dir command pauses s before mid after told tells same begun ends =
     ends_told old new way dir command pauses s before mid after told tells ended same begun ends
@@ -126,10 +130,10 @@ started_ends (Err ended) old new way dir command pauses s before mid after told 
 pub runs_ends : (old new : Option (List HostCall)) (way : ScriptOptions) (dir : List ℕ) (pauses : ℕ) (failed : Bool)
     (rc now : RcState) (before after : Output) (ended : RunEnd) (s : LinkRun)
     → rc.waits ≡ false → rc.remaining ≡ s ∷ now.remaining → now.waits ≡ true
-    → Since old new (ScriptsEndAt way dir pauses s before ended after)
-    → Since old new (RunsLinks way dir pauses failed rc before ended now after)
+    → NewCallsSatisfy old new (ScriptsEndAt way dir pauses s before ended after)
+    → NewCallsSatisfy old new (RunsLinks way dir pauses failed rc before ended now after)
 runs_ends old new way dir pauses failed rc now before after ended s ready head waiting ends =
-    Since-map old new (ScriptsEndAt way dir pauses s before ended after)
+    NewCallsSatisfy-map old new (ScriptsEndAt way dir pauses s before ended after)
     (RunsLinks way dir pauses failed rc before ended now after) ends
     (λ calls at. record {
       waits = λ is. absurd (true≢false (sym is ∙ ready));
@@ -143,13 +147,13 @@ done_over : (failed : Bool) → is_over (done_end failed) ≡ true
 done_over true = refl
 done_over false = refl
 
--- a run of no script more
+-- a run of no further script
 pub runs_done : (told : Option (List HostCall)) (way : ScriptOptions) (dir : List ℕ) (pauses : ℕ) (failed : Bool)
     (rc now : RcState) (bytes : Output) (ended : RunEnd)
     → (rc.waits ≡ false) × (rc.remaining ≡ []) × (now ≡ rc) → ended ≡ done_end failed
-    → Since told told (RunsLinks way dir pauses failed rc bytes ended now bytes)
+    → NewCallsSatisfy told told (RunsLinks way dir pauses failed rc bytes ended now bytes)
 runs_done told way dir pauses failed rc now bytes ended (ready, none, same) is =
-    Since-none told (RunsLinks way dir pauses failed rc bytes ended now bytes) (record {
+    NewCallsSatisfy-none told (RunsLinks way dir pauses failed rc bytes ended now bytes) (record {
       waits = λ waiting. absurd (true≢false (sym waiting ∙ ready));
       runs =
           λ _. subst (λ remaining. RunsFrom way dir pauses failed remaining bytes ended now.remaining bytes [])
@@ -160,13 +164,13 @@ runs_done told way dir pauses failed rc now bytes ended (ready, none, same) is =
           ∙ sym (ap not (ap is_over is ∙ done_over failed));
     })
 
--- an answer is missing
+-- a run in which an answer is missing runs nothing
 pub runs_waiting : (told : Option (List HostCall)) (way : ScriptOptions) (dir : List ℕ) (pauses : ℕ) (failed : Bool)
     (rc now : RcState) (bytes : Output)
     → (rc.waits ≡ true) × (now ≡ rc)
-    → Since told told (RunsLinks way dir pauses failed rc bytes run_end.Waiting now bytes)
+    → NewCallsSatisfy told told (RunsLinks way dir pauses failed rc bytes run_end.Waiting now bytes)
 runs_waiting told way dir pauses failed rc now bytes (waiting, same) =
-    Since-none told (RunsLinks way dir pauses failed rc bytes run_end.Waiting now bytes) (record {
+    NewCallsSatisfy-none told (RunsLinks way dir pauses failed rc bytes run_end.Waiting now bytes) (record {
       waits = λ _. (refl, same, refl, refl);
       runs = λ ready. absurd (true≢false (sym waiting ∙ ready));
       answered = λ ready. absurd (true≢false (sym waiting ∙ ready));
@@ -177,23 +181,23 @@ pub advanced : (old new : Option (List HostCall)) (way : ScriptOptions) (dir : L
     (failed fails : Bool) (rc mid now : RcState) (before after : Output) (s : LinkRun) (given : RcAnswer)
     → rc.waits ≡ false → rc.remaining ≡ s ∷ mid.remaining → now ≡ record mid { waits = false }
     → fails ≡ (failed || is_failure given)
-    → Since old new (HasRun way dir s.0 (command_text way dir s) given pauses still before.told after.told)
+    → NewCallsSatisfy old new (HasRun way dir s.0 (command_text way dir s) given pauses still before.told after.told)
     → Appends before.lines after.lines (lines_of way s given)
-    → Since old new (Advanced way dir pauses still failed fails rc before now after)
+    → NewCallsSatisfy old new (Advanced way dir pauses still failed fails rc before now after)
 advanced old new way dir pauses still failed fails rc mid now before after s given ready head is failing gone line =
-    Since-map old new (HasRun way dir s.0 (command_text way dir s) given pauses still before.told after.told)
+    NewCallsSatisfy-map old new (HasRun way dir s.0 (command_text way dir s) given pauses still before.told after.told)
     (Advanced way dir pauses still failed fails rc before now after) gone
     (λ calls was. subst (λ (r : RcState). Advanced way dir pauses still failed fails rc before r after calls) (sym is)
     (s, given, ready, head, refl, failing, was, line))
 
--- a script, and the run behind it
+-- a script, and the run after it
 pub runs_more : (old mid new : Option (List HostCall)) (way : ScriptOptions) (dir : List ℕ) (pauses still : ℕ)
     (failed fails : Bool) (rc now last : RcState) (before between after : Output) (ended : RunEnd)
-    → Since old mid (Advanced way dir pauses still failed fails rc before now between)
-    → Since mid new (RunsLinks way dir still fails now between ended last after)
-    → Since old new (RunsLinks way dir pauses failed rc before ended last after)
+    → NewCallsSatisfy old mid (Advanced way dir pauses still failed fails rc before now between)
+    → NewCallsSatisfy mid new (RunsLinks way dir still fails now between ended last after)
+    → NewCallsSatisfy old new (RunsLinks way dir pauses failed rc before ended last after)
 runs_more old mid new way dir pauses still failed fails rc now last before between after ended first behind =
-    Since-then old mid new (Advanced way dir pauses still failed fails rc before now between)
+    NewCallsSatisfy-then old mid new (Advanced way dir pauses still failed fails rc before now between)
     (RunsLinks way dir still fails now between ended last after)
     (RunsLinks way dir pauses failed rc before ended last after) first behind together
   where

@@ -1,15 +1,17 @@
--- The words of the proofs of this crate.
+-- Names that all proofs of this crate import.
 pub use Rattle.std.proofs.Common.{◌≡◌, refl, ap, ◌∙◌, subst, cond, nat_lt, ℕ, ◌+◌, ◌-◌, Bool, true, false, List, []}
 pub use Rattle.std.proofs.Common.{◌∷◌, ◌++◌, length, filter, Option, Some, None, Result, Ok, Err, arith, ◌≢◌, ◌⊎◌, sym}
 pub use Rattle.std.proofs.Common.{inl, inr, codes, OnOk, IfErr, suc, not, ◌||◌, IfOk, ◌*◌}
 pub use Rattle.host_calls.specs.Calls.{HostCall, AddsCall}
-pub use Rattle.host_calls.specs.Record.{Since}
-pub use Rattle.host_calls.proofs.Record.{Since-map, Since-one, Since-then, Since-none}
-pub use Rattle.rc_runs.specs.declared.runs.RcAnswer.{RcAnswer}
-pub use Rattle.rc_runs.specs.declared.runs.ScriptOptions.{ScriptOptions}
-pub use Rattle.program_io.specs.Reports.{HasReported, ReportList}
+pub use Rattle.host_calls.specs.Record.{NewCallsSatisfy}
+pub use Rattle.host_calls.proofs.Record.{NewCallsSatisfy-map, NewCallsSatisfy-one, NewCallsSatisfy-then}
+pub use Rattle.host_calls.proofs.Record.{NewCallsSatisfy-none}
+pub use Rattle.rc_driver.specs.declared.runs.RcAnswer.{RcAnswer}
+pub use Rattle.rc_driver.specs.declared.runs.ScriptOptions.{ScriptOptions}
+pub use Rattle.program_io.specs.Reports.{AppendsReport, ReportList}
 pub use Rattle.program_io.specs.Writing.{AppendsPrefix}
-pub use Rattle.rc_driver.specs.Parts.{Begins, EndsEarly, Goes, GoesFurther, GoneTo, HasRun, Advanced, EndsCommand}
+pub use Rattle.rc_driver.specs.Parts.{Begins, EndsEarly, ScriptProgresses, ScriptContinues, GoneTo, HasRun, Advanced}
+pub use Rattle.rc_driver.specs.Parts.{EndsCommand}
 pub use Rattle.rc_driver.specs.Parts.{is_born, is_found}
 pub use Rattle.rc_driver.specs.Progress.{RunsTo, by_late, by_look, by_reply, by_start, count_pauses, is_pause}
 pub use Rattle.rc_driver.specs.Progress.{is_waiting, script_id}
@@ -22,5 +24,5 @@ pub use Rattle.std.proofs.lemmas.Bool.{true≢false}
 pub use Rattle.program_io.proofs.WritingLemmas.{AppendsPrefix-first, AppendsPrefix-then}
 pub use Rattle.rc_driver.specs.declared.driving.RunEnd.{RunEnd}
 pub use Rattle.rc_driver.specs.Printing.{PrintStops, Printed, PrintsLinks, command_line, command_lines}
-pub use Rattle.rc_runs.specs.Runs.{LinkRun, RcState, is_failure}
+pub use Rattle.rc_driver.specs.Runs.{LinkRun, RcState, is_failure}
 pub use Rattle.rc_driver.specs.Told.{ScriptsEndAt, RunsFrom, RunsLinks, RanBy}

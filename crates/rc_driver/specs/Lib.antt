@@ -1,6 +1,11 @@
+pub mod Links
 pub mod Parts
+pub mod Planned
 pub mod Printing
 pub mod Progress
 pub mod Report
+pub mod Runs
+pub mod Steps
+pub mod Sysv
 pub mod Times
 pub mod Told

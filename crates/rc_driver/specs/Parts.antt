@@ -1,4 +1,4 @@
--- What a part of a script's run adds to its calls.
+-- The calls that each part of a script's run adds.
 use Rattle.std.specs.Prelude.{◌≡◌, ◌+◌, ℕ, Bool, true, false, ◌||◌, List, ◌∷◌, ◌++◌, Option}
 use Rattle.host_calls.specs.Calls.{HostCall}
 use Rattle.rc_driver.specs.declared.progress.Progress.{Progress}
@@ -6,60 +6,63 @@ use Rattle.rc_driver.specs.declared.progress.Progress.TheVariants as progress
 use Rattle.rc_driver.specs.declared.times.Timer.{Timer}
 use Rattle.rc_driver.specs.declared.times.Timer.TheVariants as timer
 use Rattle.std.specs.Io.KnownBytes.{Appends}
-use Rattle.rc_runs.specs.declared.runs.RcAnswer.{RcAnswer}
+use Rattle.rc_driver.specs.declared.runs.RcAnswer.{RcAnswer}
 use Rattle.rc_driver.specs.Progress.{RunsTo, count_pauses, is_waiting}
 use Rattle.rc_driver.specs.declared.driving.RunEnd.{RunEnd}
 use Rattle.rc_driver.specs.declared.driving.RunEnd.TheVariants as run_end
-use Rattle.rc_runs.specs.declared.runs.ScriptOptions.{ScriptOptions}
+use Rattle.rc_driver.specs.declared.runs.ScriptOptions.{ScriptOptions}
 use Rattle.rc_driver.specs.Report.{Output, Tells, command_text, line_of, lines_of}
-use Rattle.rc_runs.specs.Runs.{LinkRun, RcState, is_failure}
+use Rattle.rc_driver.specs.Runs.{LinkRun, RcState, is_failure}
 use Rattle.rc_driver.specs.Times.{time_lines}
 use Rattle.rc_driver.specs.Told.{RanBy}
 use Rattle.program_io.specs.Reports.{ReportList}
 use Rattle.program_io.specs.Writing.{AppendsPrefix}
 
--- the calls begin the script's run, with no pause
+-- the calls begin the script's run, without a pause
 abbrev pub Begins : Option ℕ → List ℕ → Progress → List HostCall → Type 0
 Begins limit command now calls = RunsTo limit command now timer.Unread calls × (count_pauses calls ≡ 0)
 
--- behind a run that brought the script so far, the calls bring it farther, with so many pauses
-abbrev pub Goes : Option ℕ → Progress → Timer → Progress → Timer → ℕ → List HostCall → Type 0
-Goes limit before old now new pauses calls = (count_pauses calls ≡ pauses)
+-- after a run that brought the script to progress `before`, these calls, with this number of pauses, bring it to
+-- progress `now`
+abbrev pub ScriptProgresses : Option ℕ → Progress → Timer → Progress → Timer → ℕ → List HostCall → Type 0
+ScriptProgresses limit before old now new pauses calls = (count_pauses calls ≡ pauses)
     × ((command : List ℕ) (earlier : List HostCall) → RunsTo limit command before old earlier
     → RunsTo limit command now new (calls ++ earlier))
 
--- the same, which leaves its time as it stands
-abbrev pub GoesFurther : Option ℕ → Progress → Progress → ℕ → List HostCall → Type 0
-GoesFurther limit before now pauses calls = (time : Timer) → Goes limit before time now time pauses calls
+-- the same, without a change of its timer
+abbrev pub ScriptContinues : Option ℕ → Progress → Progress → ℕ → List HostCall → Type 0
+ScriptContinues limit before now pauses calls = (time : Timer)
+    → ScriptProgresses limit before time now time pauses calls
 
--- from the start on the calls brought the script so far, and so many pauses became fewer by theirs
+-- the calls from the start on brought the script to this progress; their pauses are those that are no longer available
 abbrev pub GoneTo : Option ℕ → List ℕ → Progress → Timer → ℕ → ℕ → List HostCall → Type 0
 GoneTo limit command now time old new calls = RunsTo limit command now time calls × (old ≡ count_pauses calls + new)
 
--- the script came to this end, and what its time has told was told
+-- the script finished with this outcome, and the messages about its time were reported
 abbrev pub HasRun : ScriptOptions → List ℕ → List ℕ → List ℕ → RcAnswer → ℕ → ℕ → ReportList → ReportList
     → List HostCall → Type 0
 HasRun way dir link command given pauses still told tells calls = (time : Timer)
     × GoneTo way.seconds command (progress.Over given) time pauses still calls
     × Tells told tells (time_lines way dir link time)
 
--- so many pauses are used up, and the script has not come to its end
+-- the pauses are used up, the script is not finished, and the messages about its time were reported
 abbrev pub EndsEarly : ScriptOptions → List ℕ → List ℕ → List ℕ → ℕ → ReportList → ReportList → List HostCall
     → Type 0
 EndsEarly way dir link command pauses told tells calls = (now : Progress) × (time : Timer) × (is_waiting now ≡ true)
     × RunsTo way.seconds command now time calls × (count_pauses calls ≡ pauses)
     × Tells told tells (time_lines way dir link time)
 
+-- it has to be looked at
 abbrev pub is_born : Progress → Bool
 is_born progress.Born = true
 is_born _ = false
 
--- it may be sent a signal
+-- it may have to be sent a signal
 abbrev pub is_found : Progress → Bool
 is_found progress.Found = true
 is_found _ = false
 
--- the script that a command starts came to no end with so many pauses, and is named; or its line was not written
+-- the script that a command starts did not finish within the pauses, and is named; or its line was not written
 abbrev pub EndsCommand : ScriptOptions → List ℕ → List ℕ → ℕ → LinkRun → Output → RunEnd → Output → List HostCall
     → Type 0
 EndsCommand way dir command pauses s before (run_end.Limit link) after calls = (link.now ≡ s.0)
@@ -69,7 +72,7 @@ EndsCommand way dir command pauses s before run_end.Write after calls = (given :
     × AppendsPrefix before.lines after.lines (line_of s given)
 EndsCommand way dir command pauses s before _ after calls = ⊥
 
--- the next script was handed out, ran to its end, and its lines were written
+-- the next script was handed out and finished, and its lines were written
 abbrev pub Advanced : ScriptOptions → List ℕ → ℕ → ℕ → Bool → Bool → RcState → Output → RcState → Output → List HostCall
     → Type 0
 Advanced way dir pauses still failed fails old before new after calls = (s : LinkRun) × (given : RcAnswer)

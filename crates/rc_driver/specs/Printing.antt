@@ -1,14 +1,14 @@
--- What would be run, printed.
+-- A dry run, which prints what would be run.
 use Rattle.std.specs.Prelude.{◌≡◌, ◌⊎◌, ℕ, true, false, List, [], ◌∷◌, ◌++◌, codes, Option}
 use Rattle.std.specs.Io.KnownBytes.{Appends}
 use Rattle.program_io.specs.Writing.{AppendsPrefix}
 use Rattle.rc_driver.specs.declared.driving.RunEnd.{RunEnd}
 use Rattle.rc_driver.specs.declared.driving.RunEnd.TheVariants as run_end
-use Rattle.rc_runs.specs.declared.runs.ScriptOptions.{ScriptOptions}
+use Rattle.rc_driver.specs.declared.runs.ScriptOptions.{ScriptOptions}
 use Rattle.rc_driver.specs.Report.{command_text}
-use Rattle.rc_runs.specs.Runs.{LinkRun, RcState}
+use Rattle.rc_driver.specs.Runs.{LinkRun, RcState}
 
--- the text that would start a script, as a line
+-- the command that would start a script, as a line
 abbrev pub command_line : ScriptOptions → List ℕ → LinkRun → List ℕ
 command_line way dir s = command_text way dir s ++ codes "\n"
 
@@ -16,19 +16,20 @@ abbrev pub command_lines : ScriptOptions → List ℕ → List LinkRun → List 
 command_lines way dir [] = []
 command_lines way dir (s ∷ scripts) = command_line way dir s ++ command_lines way dir scripts
 
--- a print ended at a script: of its line a prefix was written, or nothing for lack of memory
+-- a dry run ended at a script: a prefix of its line was written, or nothing because memory ran out
 abbrev pub PrintStops : RunEnd → ScriptOptions → List ℕ → LinkRun → Option (List ℕ) → Option (List ℕ) → Type 0
 PrintStops run_end.Write way dir s before after = AppendsPrefix before after (command_line way dir s)
 PrintStops run_end.Memory way dir s before after = after ≡ before
 PrintStops _ way dir s before after = ⊥
 
--- the next script that was left was printed
+-- the next of the remaining scripts was printed
 abbrev pub Printed : ScriptOptions → List ℕ → RcState → Option (List ℕ) → RcState → Option (List ℕ) → Type 0
 Printed way dir old before new after = (s : LinkRun) × (old.waits ≡ false) × (old.remaining ≡ s ∷ new.remaining)
     × (new.waits ≡ false) × Appends before after (command_line way dir s)
 
--- The lines of the scripts that are left were written: of all of them, where it is done, else a prefix of them. It ends
--- otherwise at a fault alone, and where the answer to a script that was handed out before is missing, with no line
+-- The lines of the remaining scripts were written: all of them if the dry run is complete, otherwise a prefix.
+-- Otherwise it ends only at a failed write or for lack of memory, or, without a line, because a script that was handed
+-- out earlier has no answer yet.
 pub record PrintsLinks (way : ScriptOptions) (dir : List ℕ) (old : RcState) (before : Option (List ℕ)) (ended : RunEnd)
     (new : RcState) (after : Option (List ℕ)) : Type 0 where
   pub part : AppendsPrefix before after (command_lines way dir old.remaining)

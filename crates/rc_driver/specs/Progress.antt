@@ -1,4 +1,4 @@
--- The calls of a host by which one script is run, the newest first, and how far the script is by them.
+-- The calls to a host that run one script, the newest first, and the progress of the script that they mean.
 use Rattle.std.specs.Prelude.{◌≡◌, ℕ, Bool, true, false, if◌then◌else◌, List, [], ◌∷◌, length, filter, codes, Option}
 use Rattle.std.specs.Prelude.{Some, None}
 use Rattle.init_words.specs.Ids.{same_id}
@@ -13,50 +13,50 @@ use Rattle.host_calls.specs.declared.calls.Reply.{Reply}
 use Rattle.host_calls.specs.declared.calls.Reply.TheVariants.{Now, Later}
 use Rattle.rc_driver.specs.declared.progress.Progress.{Progress}
 use Rattle.rc_driver.specs.declared.progress.Progress.TheVariants as progress
-use Rattle.rc_runs.specs.declared.runs.RcAnswer.TheVariants as answer
+use Rattle.rc_driver.specs.declared.runs.RcAnswer.TheVariants as answer
 
 -- the id under which scripts are started
 abbrev pub script_id : List ℕ
 script_id = codes "rc"
 
--- a script that was found alive; its time is looked at, where it has a limit
+-- the progress of a script that was found alive: its running time is checked next, if there is a time limit
 abbrev pub alive : Option ℕ → Progress
 alive None = progress.Living
 alive (Some seconds) = progress.Found
 
--- how far a script is by the answer to a look at it
+-- the progress after the answer to a look
 abbrev pub by_look : Option ℕ → Answer → Progress
 by_look limit (given.Ended how) = progress.Over (answer.Ended how)
 by_look limit _ = alive limit
 
--- by the answer to its start; a child that was born is looked at, before any pause
+-- the progress after the answer to the start: a child that was born is looked at before any pause
 abbrev pub by_start : Option ℕ → Answer → Progress
 by_start limit (given.Born number) = progress.Born
 by_start limit given.NotBorn = progress.Over answer.NotStarted
 by_start limit said = by_look limit said
 
--- an answer that is to come later is waited for
+-- the progress after a reply: if the answer will come later, it is waited for
 abbrev pub by_reply : (Answer → Progress) → Reply → Progress
 by_reply by (Now said) = by said
 by_reply by Later = progress.Asked
 
--- behind a pause, by the answer that came later: one to this script is heard, where one is waited for; a script that
--- lives is looked at again
+-- the progress after a pause and the answer that came later, if any: an answer for this script counts if one is waited
+-- for; a script that lives is looked at again
 abbrev pub by_late : Option ℕ → Progress → Option (List ℕ × Answer) → Progress
 by_late limit progress.Living late = progress.Born
 by_late limit progress.Asked (Some late) = if same_id late.0 script_id then by_start limit late.1 else progress.Asked
 by_late limit before late = before
 
--- it waits for an answer, or lives
+-- the script waits for an answer, or lives
 abbrev pub is_waiting : Progress → Bool
 is_waiting progress.Asked = true
 is_waiting progress.Living = true
 is_waiting _ = false
 
--- The calls run the script that this text starts, within a limit of seconds, where it has one; by their answers it is
--- so far, and its time stands so. It was started once, under the id of scripts; it is looked at where it was born or
--- is due again; where it was found alive and has a limit, the clock is read, and the signal is sent that is due by
--- it; while it waits or lives there is a pause, and an answer that came later is asked for.
+-- The calls run the script that this command starts, possibly with a time limit in seconds, and bring it to this
+-- progress and this timer. It was started once, under the id of scripts. It is looked at after its birth and whenever
+-- that is due again. If it was found alive and there is a limit, the clock is read, and the signal that is then due is
+-- sent. While it waits for an answer or lives, there is a pause, after which the host is asked for a late answer.
 abbrev pub RunsTo : Option ℕ → List ℕ → Progress → Timer → List HostCall → Type 0
 RunsTo limit command now time (call.Start id text reply ∷ calls) = (id ≡ script_id) × (text ≡ command) × (calls ≡ [])
     × (now ≡ by_reply (by_start limit) reply) × (time ≡ timer.Unread)

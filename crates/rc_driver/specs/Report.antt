@@ -1,4 +1,4 @@
--- What is written of the scripts that were run, and how a run over a host ends.
+-- The lines of the scripts that were run, and how a run on a host ends.
 use Rattle.std.specs.Prelude.{◌≡◌, ℕ, Bool, true, false, if◌then◌else◌, List, [], ◌∷◌, ◌++◌, length, codes, decimal}
 use Rattle.std.specs.Prelude.{Option, Some, None}
 use Rattle.std.specs.List.{list_any}
@@ -7,19 +7,19 @@ use Rattle.init_words.specs.Levels.{level_code}
 use Rattle.init_words.specs.declared.levels.Level.{Level}
 use Rattle.init_words.specs.declared.children.Status.{Status}
 use Rattle.init_words.specs.declared.children.Status.TheVariants as status
-use Rattle.program_io.specs.Reports.{HasReported, ReportList}
+use Rattle.program_io.specs.Reports.{AppendsReport, ReportList}
 use Rattle.program_io.specs.Writing.{AppendsPrefix}
 use Rattle.rc_driver.specs.declared.driving.RunEnd.{RunEnd}
 use Rattle.rc_driver.specs.declared.driving.RunEnd.TheVariants as run_end
-use Rattle.rc_runs.specs.declared.runs.Arg.{Arg}
-use Rattle.rc_runs.specs.declared.runs.Arg.TheVariants as arg
-use Rattle.rc_runs.specs.declared.runs.RcAnswer.{RcAnswer}
-use Rattle.rc_runs.specs.declared.runs.RcAnswer.TheVariants as answer
-use Rattle.rc_runs.specs.declared.runs.LevelChange.{LevelChange}
-use Rattle.rc_runs.specs.declared.runs.ScriptOptions.{ScriptOptions}
-use Rattle.rc_runs.specs.Runs.{LinkRun, RcState, is_failure}
+use Rattle.rc_driver.specs.declared.runs.Arg.{Arg}
+use Rattle.rc_driver.specs.declared.runs.Arg.TheVariants as arg
+use Rattle.rc_driver.specs.declared.runs.RcAnswer.{RcAnswer}
+use Rattle.rc_driver.specs.declared.runs.RcAnswer.TheVariants as answer
+use Rattle.rc_driver.specs.declared.runs.LevelChange.{LevelChange}
+use Rattle.rc_driver.specs.declared.runs.ScriptOptions.{ScriptOptions}
+use Rattle.rc_driver.specs.Runs.{LinkRun, RcState, is_failure}
 
--- the word of an argument
+-- the word for an argument
 abbrev pub arg_word : Arg → List ℕ
 arg_word arg.Start = codes "start"
 arg_word arg.Stop = codes "stop"
@@ -27,32 +27,33 @@ arg_word arg.Stop = codes "stop"
 abbrev pub exit_text : ℕ → List ℕ
 exit_text code = codes " exit " ++ (decimal code ++ codes "\n")
 
+-- the text for the status of a script that ended
 abbrev pub status_text : Status → List ℕ
 status_text (status.Exit code) = exit_text code
 status_text status.Killed = codes " killed\n"
 
--- how a script came to its end
+-- the text for the outcome of a script
 abbrev pub end_text : RcAnswer → List ℕ
 end_text (answer.Ended how) = status_text how
 end_text answer.NotStarted = codes " not started\n"
 
--- a line of a script: its link and its argument, and how it fares
+-- a line of a script: its link, its argument, and what happened
 abbrev pub script_line : LinkRun → List ℕ → List ℕ
 script_line s how = s.0 ++ (codes " " ++ (arg_word s.1 ++ how))
 
--- the line of a script that came to its end
+-- the line of a script that is finished
 abbrev pub line_of : LinkRun → RcAnswer → List ℕ
 line_of s given = script_line s (end_text given)
 
--- the line of a script that is started
+-- the line for the start of a script
 abbrev pub begin_line : LinkRun → List ℕ
 begin_line s = script_line s (codes " begins\n")
 
--- what is written of a script that came to its end; of its start too, where starts are told
+-- the lines of a script that is finished: its line, and before it one for its start if starts are written
 abbrev pub lines_of : ScriptOptions → LinkRun → RcAnswer → List ℕ
 lines_of way s given = (if way.verbose then begin_line s else []) ++ line_of s given
 
--- what stands in the writer of lines, and in that of what is told, where it is known
+-- what has been written to the output, and what has been reported, as far as these are known
 pub record Output : Type 0 where
   pub lines : Option (List ℕ)
   pub told : ReportList
@@ -60,55 +61,56 @@ pub record Output : Type 0 where
 abbrev pub output : Option (List ℕ) → ReportList → Output
 output lines told = record { lines = lines; told = told }
 
--- lines were reported, the newest first
+-- the lines, of which the newest is first, were reported
 abbrev pub Tells : ReportList → ReportList → List (List ℕ) → Type 0
 Tells before after [] = after ≡ before
 Tells before after (line ∷ lines) =
-    (between : ReportList) × Tells before between lines × HasReported between after line
+    (between : ReportList) × Tells before between lines × AppendsReport between after line
 
--- the line of a script's start was written, where starts are told
+-- the line for a script's start was written, if starts are written
 abbrev pub TellsStart : ScriptOptions → LinkRun → Option (List ℕ) → Option (List ℕ) → Type 0
 TellsStart way s before after =
     (way.verbose ≡ true → Appends before after (begin_line s)) × (way.verbose ≡ false → after ≡ before)
 
--- what stands in front of a script's path where it is started
+-- the text before a script's path in the command that starts it
 abbrev pub shell_word : ScriptOptions → List ℕ
 shell_word way = if way.direct then [] else codes "sh "
 
--- the word for the level before, N where there was none
+-- the character of the previous level, N if there was none
 abbrev pub before_code : Option Level → ℕ
 before_code (Some level) = level_code level
 before_code None = 78
 
--- env(1), which sets the two levels for a script (init(8)), where scripts have them
+-- env(1), which sets RUNLEVEL and PREVLEVEL for a script (init(8)), if scripts are given them
 abbrev pub level_words : Option LevelChange → List ℕ
 level_words None = []
 level_words (Some change) =
     codes "env RUNLEVEL=" ++ (level_code change.new ∷ (codes " PREVLEVEL=" ++ (before_code change.before ∷ codes " ")))
 
--- what starts a script, whose link stands in the folder
+-- the command that starts a script, whose link is in the folder
 abbrev pub command_text : ScriptOptions → List ℕ → LinkRun → List ℕ
 command_text way dir s =
     level_words way.levels ++ (shell_word way ++ (dir ++ (codes "/" ++ (s.0 ++ (codes " " ++ arg_word s.1)))))
 
--- what is written of scripts that came to these ends, as far as there are both
+-- the lines of the scripts with these outcomes, up to the shorter of both lists
 abbrev pub report : ScriptOptions → List LinkRun → List RcAnswer → List ℕ
 report way (s ∷ scripts) (given ∷ answers) = lines_of way s given ++ report way scripts answers
 report way _ _ = []
 
--- how a run ends whose scripts all came to their ends
+-- how a run ends in which all scripts are finished
 abbrev pub done_end : Bool → RunEnd
 done_end failed = if failed then run_end.Failed else run_end.Done
 
--- all scripts came to their ends
+-- all scripts are finished
 abbrev pub is_over : RunEnd → Bool
 is_over run_end.Done = true
 is_over run_end.Failed = true
 is_over _ = false
 
--- how a run over a host changes the run of the scripts and a writer's bytes. Lines of the scripts that were left were
--- written, each with an end (which one the host answered is not said): of all of them, where the run is over, which
--- says whether one failed; else as far as it came, and the last script that was handed out is not answered
+-- The effect of a run on a host on the remaining scripts and the output. Lines of the remaining scripts were written,
+-- each with an answer; that this is the host's answer is not said here. If the run is over, which shows whether a
+-- script failed, these are the lines of all of them. Otherwise they are the lines up to where it ended, and the script
+-- that was handed out last has no answer.
 pub record WritesEnds (way : ScriptOptions) (old : RcState) (before : Option (List ℕ)) (ended : RunEnd) (new : RcState)
     (after : Option (List ℕ)) : Type 0 where
   pub answers : List RcAnswer

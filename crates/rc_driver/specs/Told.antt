@@ -1,4 +1,4 @@
--- A run of scripts over a host, by the calls of it.
+-- A run of scripts on a host, in terms of its calls.
 use Rattle.std.specs.Prelude.{◌≡◌, ◌⊎◌, ◌≤◌, ◌-◌, ℕ, Bool, true, false, not, ◌||◌, List, [], ◌∷◌, ◌++◌, Option}
 use Rattle.std.specs.Io.KnownBytes.{Appends}
 use Rattle.program_io.specs.Reports.{ReportList}
@@ -8,17 +8,17 @@ use Rattle.rc_driver.specs.declared.driving.RunEnd.{RunEnd}
 use Rattle.rc_driver.specs.declared.driving.RunEnd.TheVariants as run_end
 use Rattle.rc_driver.specs.declared.progress.Progress.{Progress}
 use Rattle.rc_driver.specs.declared.progress.Progress.TheVariants as progress
-use Rattle.rc_runs.specs.declared.runs.RcAnswer.{RcAnswer}
-use Rattle.rc_runs.specs.declared.runs.ScriptOptions.{ScriptOptions}
+use Rattle.rc_driver.specs.declared.runs.RcAnswer.{RcAnswer}
+use Rattle.rc_driver.specs.declared.runs.ScriptOptions.{ScriptOptions}
 use Rattle.rc_driver.specs.declared.times.Timer.{Timer}
 use Rattle.rc_driver.specs.Progress.{RunsTo, count_pauses, is_waiting}
 use Rattle.rc_driver.specs.Report.{Output, Tells, TellsStart, begin_line, command_text, done_end, is_over, line_of}
 use Rattle.rc_driver.specs.Report.{lines_of}
-use Rattle.rc_runs.specs.Runs.{LinkRun, RcState, is_failure}
+use Rattle.rc_driver.specs.Runs.{LinkRun, RcState, is_failure}
 use Rattle.rc_driver.specs.Times.{time_lines}
 
--- the calls run the script that a command starts to this end, with so many pauses at most, and what its time has told
--- was told
+-- the calls run the script that a command starts until it finishes with this outcome, with at most this number of
+-- pauses, and the messages about its time were reported
 abbrev pub RanBy : ScriptOptions → List ℕ → List ℕ → ℕ → LinkRun → RcAnswer → ReportList → ReportList
     → List HostCall → Type 0
 RanBy way dir command pauses s given told tells calls = (time : Timer)
@@ -31,7 +31,7 @@ abbrev pub Ran : ScriptOptions → List ℕ → ℕ → LinkRun → RcAnswer →
 Ran way dir pauses s given told tells calls =
     RanBy way dir (command_text way dir s) pauses s given told tells calls
 
--- a script's line was not written whole: that of its start, and so nothing is started; or that of its end
+-- a line of a script was not written completely: that for its start, so that nothing was started; or that for its end
 abbrev pub EndsUnwritten : ScriptOptions → List ℕ → ℕ → LinkRun → Output → Output → List HostCall → Type 0
 EndsUnwritten way dir pauses s before after calls =
     ((way.verbose ≡ true) × (calls ≡ []) × AppendsPrefix before.lines after.lines (begin_line s)
@@ -39,8 +39,8 @@ EndsUnwritten way dir pauses s before after calls =
     ⊎ ((given : RcAnswer) × (begun : Option (List ℕ)) × Ran way dir pauses s given before.told after.told calls
     × TellsStart way s before.lines begun × AppendsPrefix begun after.lines (line_of s given))
 
--- how a run ends at a script. The pauses are used up, and it, which is named, has no end yet; or of one of its lines a
--- prefix was written; or it was not started for lack of memory
+-- How a run ends at a script: the pauses are used up and it is not finished, and it is named; or a prefix of one of its
+-- lines was written; or it was not started because memory ran out.
 abbrev pub ScriptsEndAt : ScriptOptions → List ℕ → ℕ → LinkRun → Output → RunEnd → Output → List HostCall → Type 0
 ScriptsEndAt way dir pauses s before (run_end.Limit link) after calls =
     (link.now ≡ s.0) × (now : Progress) × (time : Timer)
@@ -51,8 +51,8 @@ ScriptsEndAt way dir pauses s before run_end.Write after calls = EndsUnwritten w
 ScriptsEndAt way dir pauses s before run_end.Memory after calls = (calls ≡ []) × (after ≡ before)
 ScriptsEndAt way dir pauses s before _ after calls = ⊥
 
--- a script ran to the end that the host answered, and its lines were written; the calls behind it, with the pauses that
--- are left then, whether this one failed, and what was written by then
+-- a script ran until it finished with the host's answer, and its lines were written; `Rest` holds of the later calls,
+-- with the pauses that remain, whether this script failed, and the output so far
 abbrev pub ScriptsGoOn : ScriptOptions → List ℕ → ℕ → LinkRun → Output → List HostCall
     → (ℕ → Bool → Output → List HostCall → Type 0) → Type 0
 ScriptsGoOn way dir pauses s before calls Rest = (given : RcAnswer) × (first later : List HostCall)
@@ -60,8 +60,9 @@ ScriptsGoOn way dir pauses s before calls Rest = (given : RcAnswer) × (first la
     × Appends before.lines between.lines (lines_of way s given)
     × Rest (pauses - count_pauses first) (is_failure given) between later
 
--- The scripts were run one behind the other, from a folder and with so many pauses, where one has failed already or
--- none: each to its end, and then the next, until none was left or the run ended at one. Those behind it are left.
+-- The scripts were run one after another, from a folder and with this number of pauses; `failed` says whether one
+-- failed before. Each was run until it finished, and then the next, until none remained or the run ended at one. The
+-- scripts after it remain.
 abbrev pub RunsFrom : ScriptOptions → List ℕ → ℕ → Bool → List LinkRun → Output → RunEnd → List LinkRun → Output
     → List HostCall → Type 0
 RunsFrom way dir pauses failed [] before ended remaining after calls =
@@ -71,8 +72,8 @@ RunsFrom way dir pauses failed (s ∷ scripts) before ended remaining after call
     ⊎ ScriptsGoOn way dir pauses s before calls
     (λ still fails between later. RunsFrom way dir still (failed || fails) scripts between ended remaining after later)
 
--- a run of the scripts that are left, where one has failed already or none. Where the answer to one that was handed out
--- before is missing, none is run
+-- A run of the remaining scripts; `failed` says whether one failed before. If one that was handed out earlier has no
+-- answer yet, none is run.
 pub record RunsLinks (way : ScriptOptions) (dir : List ℕ) (pauses : ℕ) (failed : Bool) (old : RcState) (before : Output)
     (ended : RunEnd) (new : RcState) (after : Output) (calls : List HostCall) : Type 0 where
   pub waits : old.waits ≡ true → (ended ≡ run_end.Waiting) × (new ≡ old) × (after ≡ before) × (calls ≡ [])

@@ -1,32 +1,32 @@
-//! The turns of the scripts: each is started, looked at until it has ended, and told.
+//! Runs scripts in turn: starts each, looks at it until it has ended, and writes its line.
 
 ghost use Rattle.std.specs.Prelude.{◌≡◌, ◌||◌, false, None, IfOk, IfErr, IfSome};
 ghost use Rattle.std.specs.Io.KnownBytes.{Appends};
-ghost use Rattle.host_calls.specs.Record.{Since};
+ghost use Rattle.host_calls.specs.Record.{NewCallsSatisfy};
 ghost use Rattle.rc_driver.specs.Parts.{Advanced, EndsCommand, HasRun};
 ghost use Rattle.rc_driver.specs.Report.{WritesEnds, command_text, done_end, line_of, lines_of, output};
 ghost use Rattle.rc_driver.specs.Told.{ScriptsEndAt, RunsLinks};
-ghost use Rattle.rc_runs.specs.Runs.{is_failure};
+ghost use Rattle.rc_driver.specs.Runs.{is_failure};
 
 use crate::progress::run_script;
+use crate::runs::{Arg, Rc, RcAnswer, RcStep, ScriptOptions};
 use crate::writing::{command_of, tell_end, tell_start};
 use host_calls::Host;
 use init_words::Status;
 use program_io::Reporter;
-use rc_runs::{Arg, Rc, RcAnswer, RcStep, ScriptOptions};
 use std::alloc::Allocator;
 use std::io::Write;
 
-/// How a run of scripts over a host ended.
+/// How a run of scripts on a host ended.
 #[derive(Clone, Copy, PartialEq, Eq)]
 pub enum RunEnd<'n> {
-    /// All scripts came to their ends, and none failed.
+    /// All scripts are finished, and none failed.
     Done,
-    /// All scripts came to their ends. One was not started, or its end was no exit with 0.
+    /// All scripts are finished. At least one was not started, or did not exit with status 0.
     Failed,
-    /// The pauses are used up, and the script of this link, which was handed out last, has not come to its end.
+    /// The limit of pauses is reached, and the script of this link, which was handed out last, is not finished.
     Limit(&'n str),
-    /// The answer to a script that was handed out before is missing. Nothing was run.
+    /// A script that was handed out earlier has no answer yet. Nothing was run.
     Waiting,
     /// A line could not be written.
     Write,
@@ -34,7 +34,7 @@ pub enum RunEnd<'n> {
     Memory,
 }
 
-/// The script failed: it was not started, or its end is no exit with 0.
+/// Reports whether the script failed: it was not started, or did not exit with status 0.
 fn is_failure(answer: &RcAnswer) -> bool
     ensures { result ≡ is_failure answer.now }
 {
@@ -44,21 +44,21 @@ fn is_failure(answer: &RcAnswer) -> bool
     }
 }
 
-/// One has failed already, or the script that came to this end failed.
+/// Reports whether a script failed before, or the one with this answer did.
 fn failed_by(failed: bool, answer: &RcAnswer) -> bool
     ensures { result ≡ (failed || is_failure answer.now) }
 {
     failed || is_failure(answer)
 }
 
-/// How a run ends whose scripts all came to their ends.
+/// Returns how a run ended in which all scripts are finished.
 fn done_end(failed: bool) -> RunEnd<'static>
     ensures { result ≡ done_end failed }
 {
     if failed { RunEnd::Failed } else { RunEnd::Done }
 }
 
-/// Runs the script that the command starts, and writes its line at its end.
+/// Runs the script that the command starts, and writes its line when it is finished.
 #[tactic(auto, using(crate::proofs::ToldLemmas::ends_early, crate::proofs::ToldLemmas::ends_unwritten))]
 fn run_command<'n, A: Allocator + Copy, H: Host, W: Write, E: Reporter>(
     alloc: A,
@@ -74,10 +74,11 @@ fn run_command<'n, A: Allocator + Copy, H: Host, W: Write, E: Reporter>(
 ) -> Result<RcAnswer, RunEnd<'n>>
     ensures ok { IfOk result (λ answer. Appends (W.contents out.old) (W.contents out.new)
         (line_of (link.now, arg) answer)) }
-    ensures ran { IfOk result (λ answer. Since (H.told host.old) (H.told host.new) (HasRun way
+    ensures ran { IfOk result
+        (λ answer. NewCallsSatisfy (H.told host.old) (H.told host.new) (HasRun way
         dir.now link.now command.now answer pauses.old pauses.new (E.reports err.old)
         (E.reports err.new))) }
-    ensures ends { IfErr result (λ ended. Since (H.told host.old) (H.told host.new)
+    ensures ends { IfErr result (λ ended. NewCallsSatisfy (H.told host.old) (H.told host.new)
         (EndsCommand way dir.now command.now pauses.old (link.now, arg)
         (output (W.contents out.old) (E.reports err.old)) ended
         (output (W.contents out.new) (E.reports err.new)))) }
@@ -106,10 +107,11 @@ fn run_link<'n, A: Allocator + Copy, H: Host, W: Write, E: Reporter>(
 ) -> Result<RcAnswer, RunEnd<'n>>
     ensures ok { IfOk result (λ answer. Appends (W.contents out.old) (W.contents out.new)
         (lines_of way (link.now, arg) answer)) }
-    ensures ran { IfOk result (λ answer. Since (H.told host.old) (H.told host.new) (HasRun way
+    ensures ran { IfOk result
+        (λ answer. NewCallsSatisfy (H.told host.old) (H.told host.new) (HasRun way
         dir.now link.now (command_text way dir.now (link.now, arg)) answer pauses.old pauses.new
         (E.reports err.old) (E.reports err.new))) }
-    ensures ends { IfErr result (λ ended. Since (H.told host.old) (H.told host.new)
+    ensures ends { IfErr result (λ ended. NewCallsSatisfy (H.told host.old) (H.told host.new)
         (ScriptsEndAt way dir.now pauses.old (link.now, arg)
         (output (W.contents out.old) (E.reports err.old)) ended
         (output (W.contents out.new) (E.reports err.new)))) }
@@ -135,7 +137,7 @@ fn run_link<'n, A: Allocator + Copy, H: Host, W: Write, E: Reporter>(
     }
 }
 
-/// Runs the next script, and notes whether it failed; gives how the run ended, where it did.
+/// Runs the next script, and notes whether it failed. Returns how the run ended, if it did.
 fn run_next<'n, A: Allocator + Copy, B: Allocator, H: Host, W: Write, E: Reporter>(
     alloc: A,
     rc: &mut Rc<'n, B>,
@@ -147,10 +149,12 @@ fn run_next<'n, A: Allocator + Copy, B: Allocator, H: Host, W: Write, E: Reporte
     out: &mut W,
     err: &mut E,
 ) -> Option<RunEnd<'n>>
-    ensures last { IfSome result (λ ended. Since (H.told host.old) (H.told host.new) (RunsLinks way
+    ensures last { IfSome result
+        (λ ended. NewCallsSatisfy (H.told host.old) (H.told host.new) (RunsLinks way
         dir.now pauses.old failed.old rc.old (output (W.contents out.old) (E.reports err.old))
         ended rc.new (output (W.contents out.new) (E.reports err.new)))) }
-    ensures one { result ≡ None → Since (H.told host.old) (H.told host.new) (Advanced way dir.now
+    ensures one { result ≡ None
+        → NewCallsSatisfy (H.told host.old) (H.told host.new) (Advanced way dir.now
         pauses.old pauses.new failed.old failed.new rc.old
         (output (W.contents out.old) (E.reports err.old)) rc.new
         (output (W.contents out.new) (E.reports err.new))) }
@@ -174,14 +178,15 @@ fn run_next<'n, A: Allocator + Copy, B: Allocator, H: Host, W: Write, E: Reporte
     }
 }
 
-/// Runs the scripts that are left over a host, one at a time, and writes the line of each at its end: its link, its
-/// argument, and `exit N`, `killed` or `not started`; where starts are told, a line at its start too. `dir` is the path
-/// of the new level's folder. The host is asked to start each under the id `rc`, and to look until the script has ended,
-/// with a pause between two looks; `limit` is the greatest number of pauses. Where scripts have a limit of seconds, one
-/// that was found alive and has run for longer, by the host's clock, is sent TERM, and KILL where it runs on for longer
-/// than init's grace; each is told on `err`, in a line that names the link. How a script ends doesn't end the run.
-/// Where the run ends early, `rc` waits for the answer to the script that was handed out last; where it waited for one
-/// before, nothing is run.
+/// Runs the remaining scripts on a host, one at a time, and writes a line for each at its end: its link, its argument,
+/// and `exit N`, `killed` or `not started`. In verbose runs there is also a line at its start.
+///
+/// `dir` is the path of the new level's folder. The host starts each script under the id `rc`, and looks at it until it
+/// has ended, with a pause between two looks; `limit` is the maximum number of pauses. If scripts have a time limit, a
+/// script that was found alive and has run for longer, by the host's clock, is sent SIGTERM, and SIGKILL if it keeps
+/// running for longer than init's grace period. Each signal is reported on `err`, in a line with the link. The run
+/// continues however a script ends. If the run ends early, `rc` waits for the answer to the script that was handed out
+/// last. If it already waited for an answer, nothing is run.
 pub fn run_links<'n, A: Allocator + Copy, B: Allocator, H: Host, W: Write, E: Reporter>(
     alloc: A,
     rc: &mut Rc<'n, B>,
@@ -194,7 +199,8 @@ pub fn run_links<'n, A: Allocator + Copy, B: Allocator, H: Host, W: Write, E: Re
 ) -> RunEnd<'n>
     ensures written { WritesEnds way rc.old (W.contents out.old) result rc.new
         (W.contents out.new) }
-    ensures calls { Since (H.told host.old) (H.told host.new) (RunsLinks way dir.now limit false
+    ensures calls { NewCallsSatisfy (H.told host.old) (H.told host.new)
+        (RunsLinks way dir.now limit false
         rc.old (output (W.contents out.old) (E.reports err.old)) result rc.new
         (output (W.contents out.new) (E.reports err.new))) }
     ensures silent { way.seconds ≡ None → err.new ≡ err.old }

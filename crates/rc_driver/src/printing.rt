@@ -1,16 +1,16 @@
-//! What would be run, printed.
+//! A dry run: prints what would be run.
 
 ghost use Rattle.std.specs.Prelude.{◌≡◌, None, IfSome, IfErr, OnOk};
 ghost use Rattle.std.specs.Io.KnownBytes.{Appends};
 ghost use Rattle.rc_driver.specs.Printing.{PrintStops, Printed, PrintsLinks, command_line};
 
 use crate::driving::RunEnd;
+use crate::runs::{Arg, Rc, RcAnswer, RcStep, ScriptOptions};
 use crate::writing::{command_of, tell_text};
-use rc_runs::{Arg, Rc, RcAnswer, RcStep, ScriptOptions};
 use std::alloc::Allocator;
 use std::io::Write;
 
-/// Writes the text that would start the next script; gives how the run ended, where it did.
+/// Writes the command that would start the next script. Returns how the run ended, if it did.
 fn print_next<'n, A: Allocator + Copy, B: Allocator, W: Write>(
     alloc: A,
     rc: &mut Rc<'n, B>,
@@ -40,7 +40,7 @@ fn print_next<'n, A: Allocator + Copy, B: Allocator, W: Write>(
     }
 }
 
-/// Writes the text that would start a script, as a line.
+/// Writes the command that would start a script, as a line.
 #[tactic(auto, using(crate::proofs::PrintLemmas::line_stopped, crate::proofs::PrintLemmas::line_written))]
 fn print_link<A: Allocator + Copy, W: Write>(
     alloc: A,
@@ -61,8 +61,8 @@ fn print_link<A: Allocator + Copy, W: Write>(
     tell_text(out, command.as_str())
 }
 
-/// Writes for each of the scripts that are left the text that would start it, a line each, and runs none: no host is
-/// there. Each is handed out, and answered as one that was not started.
+/// Writes the command that would start each of the remaining scripts, one per line, and runs none. It needs no host.
+/// Each script is handed out, and answered as not started.
 pub fn print_links<'n, A: Allocator + Copy, B: Allocator, W: Write>(
     alloc: A,
     rc: &mut Rc<'n, B>,

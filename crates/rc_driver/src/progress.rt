@@ -1,37 +1,37 @@
-//! How far one script has come: ordered, started, looked at, ended.
+//! The progress of one script: ordered, started, looked at, ended.
 
 ghost use Rattle.std.specs.Prelude.{◌≡◌, None, true, false, IfNone, IfSome};
-ghost use Rattle.host_calls.specs.Record.{Since};
+ghost use Rattle.host_calls.specs.Record.{NewCallsSatisfy};
 ghost use Rattle.program_io.specs.Reports.{ReportList};
-ghost use Rattle.rc_driver.specs.Parts.{Begins, EndsEarly, Goes, GoesFurther, HasRun, is_born, is_found};
+ghost use Rattle.rc_driver.specs.Parts.{Begins, EndsEarly, ScriptProgresses, ScriptContinues, HasRun, is_born, is_found};
 ghost use Rattle.rc_driver.specs.Progress.{alive, by_late, by_look, by_start, is_waiting, script_id};
 ghost use Rattle.rc_driver.specs.Report.{Tells};
 ghost use Rattle.rc_driver.specs.Times.{time_lines};
 
+use crate::runs::{RcAnswer, ScriptOptions};
 use crate::times::{Timer, due_at, timer_at};
 use crate::writing::tell_signal;
 use host_calls::{Host, Reply};
 use init_words::{Answer, Id};
 use program_io::Reporter;
-use rc_runs::{RcAnswer, ScriptOptions};
 use std::alloc::Allocator;
 
-/// How far a script is.
+/// The progress of a script.
 #[derive(Clone, Copy)]
 pub(crate) enum Progress {
-    /// The answer to the last order is to come later.
+    /// The answer to the last order will come later.
     Asked,
-    /// It is to be looked at.
+    /// The script has to be looked at.
     Born,
-    /// It lives, and its time is to be looked at.
+    /// The script lives, and its running time has to be checked.
     Found,
-    /// It lives, and is to be looked at behind the next pause.
+    /// The script lives, and has to be looked at after the next pause.
     Living,
-    /// It came to its end.
+    /// The script is finished.
     Over(RcAnswer),
 }
 
-/// The id under which scripts are started.
+/// Returns the id under which scripts are started.
 fn script_id() -> Id
     ensures { result ≡ script_id }
 {
@@ -41,7 +41,7 @@ fn script_id() -> Id
     }
 }
 
-/// A script that was found alive.
+/// Returns the progress of a script that was found alive.
 fn alive(limit: Option<u32>) -> Progress
     ensures { result ≡ alive limit }
 {
@@ -51,7 +51,7 @@ fn alive(limit: Option<u32>) -> Progress
     }
 }
 
-/// How far a script is by the answer to a look.
+/// Returns the progress of a script after the answer to a look.
 fn by_look(limit: Option<u32>, answer: Answer) -> Progress
     ensures { result ≡ by_look limit answer }
 {
@@ -61,7 +61,7 @@ fn by_look(limit: Option<u32>, answer: Answer) -> Progress
     }
 }
 
-/// How far a script is by the answer to its start, or by one that came later.
+/// Returns the progress of a script after the answer to its start, or after a later one.
 fn by_start(limit: Option<u32>, answer: Answer) -> Progress
     ensures { result ≡ by_start limit answer }
 {
@@ -72,7 +72,7 @@ fn by_start(limit: Option<u32>, answer: Answer) -> Progress
     }
 }
 
-/// How far a script is by the answer that came later.
+/// Returns the progress of a script after an answer that came later.
 fn by_late(limit: Option<u32>, progress: Progress, late: Option<(Id, Answer)>) -> Progress
     ensures { result ≡ by_late limit progress late }
 {
@@ -92,7 +92,8 @@ fn started<A: Allocator + Copy, H: Host>(
     limit: Option<u32>,
     command: &[u8],
 ) -> Progress
-    ensures { Since (H.told host.old) (H.told host.new) (Begins limit command.now result) }
+    ensures { NewCallsSatisfy (H.told host.old) (H.told host.new)
+        (Begins limit command.now result) }
 {
     match host.start(alloc, script_id(), command) {
         Reply::Later => Progress::Asked,
@@ -102,8 +103,8 @@ fn started<A: Allocator + Copy, H: Host>(
 
 /// Looks at a script that was born, or is due again.
 fn looked<H: Host>(host: &mut H, limit: Option<u32>) -> Progress
-    ensures calls { Since (H.told host.old) (H.told host.new)
-        (GoesFurther limit Progress.Born result 0) }
+    ensures calls { NewCallsSatisfy (H.told host.old) (H.told host.new)
+        (ScriptContinues limit Progress.Born result 0) }
     ensures settled { is_born result ≡ false }
 {
     match host.look(script_id()) {
@@ -112,7 +113,7 @@ fn looked<H: Host>(host: &mut H, limit: Option<u32>) -> Progress
     }
 }
 
-/// Looks at the time of a script that was found alive: sends it the signal that is due, and tells of that.
+/// Checks the running time of a script that was found alive. Sends it the signal that is due, and reports that.
 fn timed<H: Host, E: Reporter>(
     host: &mut H,
     way: ScriptOptions,
@@ -121,8 +122,8 @@ fn timed<H: Host, E: Reporter>(
     timer: &mut Timer,
     err: &mut E,
 )
-    ensures calls { Since (H.told host.old) (H.told host.new)
-        (Goes way.seconds Progress.Found timer.old Progress.Living timer.new 0) }
+    ensures calls { NewCallsSatisfy (H.told host.old) (H.told host.new)
+        (ScriptProgresses way.seconds Progress.Found timer.old Progress.Living timer.new 0) }
     ensures told { (before : ReportList) → Tells before (E.reports err.old)
         (time_lines way dir.now link.now timer.old) → Tells before (E.reports err.new)
         (time_lines way dir.now link.now timer.new) }
@@ -143,14 +144,16 @@ fn timed<H: Host, E: Reporter>(
 /// Pauses, and asks for an answer that came later.
 fn paused<H: Host>(host: &mut H, limit: Option<u32>, progress: Progress) -> Progress
     requires { is_waiting progress ≡ true }
-    ensures { Since (H.told host.old) (H.told host.new) (GoesFurther limit progress result 1) }
+    ensures { NewCallsSatisfy (H.told host.old) (H.told host.new)
+        (ScriptContinues limit progress result 1) }
 {
     host.pause();
     by_late(limit, progress, host.late())
 }
 
-/// Starts a script and waits for its end; None where no pause is left and it hasn't come to its end. Where it has a
-/// limit of seconds it is sent TERM behind them, and KILL behind the grace; that is told on `err`, by the link's name.
+/// Starts a script and waits until it is finished. Returns `None` if no pause is left and it is not finished. If there
+/// is a time limit, the script is sent SIGTERM after that time and SIGKILL after the grace period, and this is reported
+/// on `err` with its link.
 pub(crate) fn run_script<A: Allocator + Copy, H: Host, E: Reporter>(
     alloc: A,
     host: &mut H,
@@ -161,10 +164,10 @@ pub(crate) fn run_script<A: Allocator + Copy, H: Host, E: Reporter>(
     pauses: &mut u32,
     err: &mut E,
 ) -> Option<RcAnswer>
-    ensures ended { IfSome result (λ given. Since (H.told host.old) (H.told host.new)
+    ensures ended { IfSome result (λ given. NewCallsSatisfy (H.told host.old) (H.told host.new)
         (HasRun way dir.now link.now command.now given pauses.old pauses.new
         (E.reports err.old) (E.reports err.new))) }
-    ensures limit { IfNone result (Since (H.told host.old) (H.told host.new)
+    ensures limit { IfNone result (NewCallsSatisfy (H.told host.old) (H.told host.new)
         (EndsEarly way dir.now link.now command.now pauses.old (E.reports err.old)
         (E.reports err.new))) }
     ensures silent { way.seconds ≡ None → err.new ≡ err.old }

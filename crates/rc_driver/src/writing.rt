@@ -1,19 +1,19 @@
-//! The lines of scripts, and the texts that start them.
+//! The lines of scripts, and the commands that start them.
 
 ghost use Rattle.std.specs.Prelude.{◌≡◌, ◌++◌, string_bytes, true, codes, IfOk, IfErr, OnOk};
 ghost use Rattle.std.specs.Io.KnownBytes.{Appends};
-ghost use Rattle.program_io.specs.Reports.{HasReported};
+ghost use Rattle.program_io.specs.Reports.{AppendsReport};
 ghost use Rattle.program_io.specs.Writing.{AppendsPrefix};
 ghost use Rattle.rc_driver.specs.Report.{TellsStart, arg_word, before_code, begin_line, command_text, level_words, line_of, script_line, shell_word};
 ghost use Rattle.rc_driver.specs.Times.{signal_line, signal_word};
 ghost use Rattle.rc_driver.specs.declared.driving.RunEnd.TheVariants as run_end;
 
 use crate::driving::RunEnd;
+use crate::runs::{Arg, LevelChange, RcAnswer, ScriptOptions};
 use crate::times::wait_of;
 use init_words::{Level, SignalKind, Status};
 use itoa::Buffer;
 use program_io::{Reporter, write_texts};
-use rc_runs::{Arg, LevelChange, RcAnswer, ScriptOptions};
 use std::alloc::{AllocError, Allocator};
 use std::io;
 use std::io::Write;
@@ -27,7 +27,7 @@ fn arg_word(arg: Arg) -> &'static str
     }
 }
 
-/// Writes the line of a script, in its parts.
+/// Writes the line of a script from its parts.
 fn write_script<W: Write>(
     out: &mut W,
     link: &str,
@@ -43,7 +43,7 @@ fn write_script<W: Write>(
     write_texts(out, &[link, " ", word, how, code, "\n"])
 }
 
-/// Writes the line of a script, which ends with two texts, and sees that it is out.
+/// Writes the line of a script, which ends with two texts, and flushes it.
 fn tell_script<W: Write>(
     out: &mut W,
     link: &str,
@@ -63,7 +63,7 @@ fn tell_script<W: Write>(
     Ok(())
 }
 
-/// Writes the line of a script's start, where starts are told.
+/// Writes the line for a script's start, if starts are written.
 pub(crate) fn tell_start<W: Write>(
     out: &mut W,
     way: ScriptOptions,
@@ -83,7 +83,7 @@ pub(crate) fn tell_start<W: Write>(
     }
 }
 
-/// Writes the line of a script that came to its end.
+/// Writes the line of a script that is finished.
 pub(crate) fn tell_end<W: Write>(
     out: &mut W,
     link: &str,
@@ -105,14 +105,14 @@ pub(crate) fn tell_end<W: Write>(
     }
 }
 
-/// What stands in front of a script's path where it is started.
+/// Returns the text before a script's path in the command that starts it.
 fn shell_word(way: ScriptOptions) -> &'static str
     ensures { result.now ≡ shell_word way }
 {
     if way.direct { "" } else { "sh " }
 }
 
-/// The character of the level before, `N` where there was none.
+/// Returns the character of the previous level, or `N` if there was none.
 fn before_code(before: Option<Level>) -> u8
     ensures { result ≡ before_code before }
 {
@@ -122,7 +122,7 @@ fn before_code(before: Option<Level>) -> u8
     }
 }
 
-/// What sets the two levels for a script, where scripts have them.
+/// Returns the text that sets the two levels for a script, if scripts are given them.
 fn level_words<A: Allocator>(alloc: A, levels: Option<LevelChange>) -> Result<String<A>, AllocError>
     ensures { IfOk result (λ text. string_bytes text ≡ level_words levels) }
 {
@@ -134,7 +134,7 @@ fn level_words<A: Allocator>(alloc: A, levels: Option<LevelChange>) -> Result<St
     format!(in alloc; "env RUNLEVEL={new} PREVLEVEL={before} ")
 }
 
-/// The process text that starts a script.
+/// Returns the command that starts a script.
 pub(crate) fn command_of<A: Allocator + Copy>(
     alloc: A,
     way: ScriptOptions,
@@ -160,19 +160,19 @@ fn signal_word(signal: SignalKind) -> &'static str
     }
 }
 
-/// What is told of a script that is late, behind its link.
+/// The message about a script that exceeds its time, after its link.
 const LATE: &str = " has not ended after ";
 
-/// Tells by how much of its time a script is late, and what it was sent.
+/// Reports by how much a script has exceeded its time, and which signal it was sent.
 fn tell_late<E: Reporter>(err: &mut E, dir: &str, link: &str, seconds: &str, sent: &str)
-    ensures { HasReported (E.reports err.old) (E.reports err.new) (codes "rc: " ++ (dir.now
+    ensures { AppendsReport (E.reports err.old) (E.reports err.new) (codes "rc: " ++ (dir.now
         ++ (codes "/" ++ (link.now ++ (codes " has not ended after " ++ (seconds.now
         ++ (sent.now ++ codes "\n"))))))) }
 {
     err.report_texts(&["rc: ", dir, "/", link, LATE, seconds, sent, "\n"]);
 }
 
-/// Tells that a script was sent a signal.
+/// Reports that a script was sent a signal.
 pub(crate) fn tell_signal<E: Reporter>(
     err: &mut E,
     limit: Option<u32>,
@@ -180,7 +180,7 @@ pub(crate) fn tell_signal<E: Reporter>(
     link: &str,
     signal: SignalKind,
 )
-    ensures { HasReported (E.reports err.old) (E.reports err.new)
+    ensures { AppendsReport (E.reports err.old) (E.reports err.new)
         (signal_line limit dir.now link.now signal) }
 {
     let mut buffer = Buffer::new();
@@ -188,7 +188,7 @@ pub(crate) fn tell_signal<E: Reporter>(
     tell_late(err, dir, link, seconds, signal_word(signal));
 }
 
-/// Writes a text as a line, and sees that it is out.
+/// Writes a text as a line, and flushes it.
 pub(crate) fn tell_text<W: Write>(out: &mut W, text: &str) -> Result<(), RunEnd<'static>>
     ensures ok { OnOk result (Appends (W.contents out.old) (W.contents out.new)
         (text.now ++ codes "\n")) }

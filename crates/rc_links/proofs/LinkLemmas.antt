@@ -1,4 +1,4 @@
--- Texts in byte order: a list that ascends is the one list of its texts that does.
+-- Lemmas on texts in byte order: there is only one ascending list of the same texts.
 use Rattle.rc_links.proofs.Words.{◌≡◌, ℕ, zero, suc, ◌+◌, ◌<◌, ◌≤◌, Bool, true, false, cond, List, [], ◌∷◌, length}
 use Rattle.rc_links.proofs.Words.{get_or, map, refl, sym, ap, ◌∙◌, subst, arith, AllByRecursion, filter, sum_by}
 use Rattle.rc_links.proofs.Words.{bytes_eq, false_from_ne_true, true≢false, bytes_eq-Decides, in_byte_order, is_before}
@@ -28,7 +28,7 @@ same_bytes x y is = (bytes_eq-Decides x y).0 is
 pub same_itself : (x : List ℕ) → bytes_eq x x ≡ true
 same_itself x = (bytes_eq-Decides x x).1 refl
 
--- texts of which none stands before the other are one
+-- two texts are equal if neither is before the other
 one_text_by : (x y : List ℕ) (o : Ordering) → slice_cmp nat_cmp x y ≡ o → is_lt o ≡ false
     → is_lt (ordering_reverse o) ≡ false → x ≡ y
 one_text_by x y Less at h k = absurd (true≢false h)
@@ -38,7 +38,7 @@ one_text_by x y Greater at h k = absurd (true≢false k)
 one_text : (x y : List ℕ) → is_before x y ≡ false → is_before y x ≡ false → x ≡ y
 one_text x y h k = one_text_by x y (slice_cmp nat_cmp x y) refl h (sym (ap is_lt (nat_list_cmp_total.antisymm y x)) ∙ k)
 
--- each text stands before none of those after it
+-- no later text is before an earlier one
 abbrev pub Ascends : List (List ℕ) → Type 0
 Ascends [] = Unit {0}
 Ascends (x ∷ xs) = AllByRecursion (λ y. is_before y x ≡ false) xs × Ascends xs
@@ -73,7 +73,7 @@ Ascends-in_byte_order : (xs : List (List ℕ)) → Ascends (in_byte_order xs)
 Ascends-in_byte_order [] = tt
 Ascends-in_byte_order (x ∷ xs) = Ascends-placed x (in_byte_order xs) (Ascends-in_byte_order xs)
 
--- how many of the texts are this one
+-- the number of occurrences of a text
 abbrev times : List ℕ → List (List ℕ) → ℕ
 times z [] = 0
 times z (x ∷ xs) = cond (bytes_eq z x) 1 0 + times z xs
@@ -107,7 +107,7 @@ placed-moves : (x : List ℕ) (xs : List (List ℕ)) → IsPermutation (x ∷ xs
 placed-moves x [] = IsPermutation-refl _
 placed-moves x (y ∷ xs) = placed_by x y xs (placed x xs) (is_before y x) (placed-moves x xs)
 
--- byte order moves texts, and does no more
+-- sorting in byte order is a permutation
 pub in_byte_order-moves : (xs : List (List ℕ)) → IsPermutation xs (in_byte_order xs)
 in_byte_order-moves [] = IsPermutation-refl _
 in_byte_order-moves (x ∷ xs) =
@@ -116,7 +116,7 @@ in_byte_order-moves (x ∷ xs) =
 times-in_byte_order : (z : List ℕ) (xs : List (List ℕ)) → times z (in_byte_order xs) ≡ times z xs
 times-in_byte_order z xs = times-IsPermutation z xs (in_byte_order xs) (in_byte_order-moves xs)
 
--- what holds of each text holds of one that is among them
+-- a property of all texts holds for one that occurs among them
 held_by : (P : List ℕ → Type 0) (z x : List ℕ) (n : ℕ) (b : Bool) → bytes_eq z x ≡ b → P x → (0 < n → P z)
     → 0 < cond b 1 0 + n → P z
 held_by P z x n true at here rest some = subst P (sym (same_bytes z x at)) here
@@ -132,7 +132,7 @@ times_itself z xs = rw (same_itself z) (omega arith)
 rest_of : (a b c d : ℕ) → a + b ≡ c + d → a ≡ c → b ≡ d
 rest_of a b c d h e = omega arith
 
--- lists that ascend and have the same texts are one
+-- ascending lists with the same texts are equal
 one_list : (xs ys : List (List ℕ)) → Ascends xs → Ascends ys → ((z : List ℕ) → times z xs ≡ times z ys) → xs ≡ ys
 one_list [] [] up also same = refl
 one_list [] (y ∷ ys) up also same = absurd (let h = times_itself y ys in let e = same y in omega arith)
@@ -147,7 +147,7 @@ one_list (x ∷ xs) (y ∷ ys) up also same =
     one_list xs ys up.1 also.1 (λ z. rest_of _ _ _ _ (same z) (ap (λ w. cond (bytes_eq z w) 1 0) first)) in
     λ i. first i ∷ rest i
 
--- in byte order, what is kept of some texts is the same in whatever order they stood
+-- the sorted texts that pass a test do not depend on the original order
 pub one_order : (p : List ℕ → Bool) (xs ys : List (List ℕ)) → IsPermutation xs ys
     → in_byte_order (filter p ys) ≡ in_byte_order (filter p xs)
 one_order p xs ys moved =
@@ -168,7 +168,7 @@ Ascends-far key (v ∷ vs) far = (
   Ascends-far key vs (λ i j d upto below. far (suc i) (suc j) d (omega arith) (omega arith)),
 )
 
--- what a sort by texts leaves are the texts in byte order
+-- sorting by texts leaves the texts in byte order
 pub sorted_texts : {V : Type 0} (key : V → List ℕ) (vs ws : List V) → IsPermutation vs ws
     → IsSortedBy (λ v w. is_before (key v) (key w)) ws → map key ws ≡ in_byte_order (map key vs)
 sorted_texts key vs ws moved sorted =

@@ -1,5 +1,5 @@
--- Folders at each moment of their changes: those of other folders pass one by, what is neither ours nor planned stays,
--- and a script whose link is planned and held has one throughout.
+-- Lemmas on folders when only some of their changes were made: changes of other folders do not matter, entries that are
+-- neither ours nor planned stay, and a script whose link is planned and held has one throughout.
 use Rattle.rc_links.proofs.Words.{arith, or-false, append_assoc, ◌≡◌, ℕ, zero, suc, Bool, true, false, not, ◌&&◌, ◌||◌}
 use Rattle.rc_links.proofs.Words.{cond, List, [], ◌∷◌, ◌++◌, map, take, refl, sym, ap, ◌∙◌, AllByRecursion, filter}
 use Rattle.rc_links.proofs.Words.{list_any, byte, bytes_eq, true≢false, and_parts, false_from_ne_true, or_from, or_left}
@@ -19,7 +19,7 @@ use Rattle.rc_links.specs.declared.folders.LinkAction.{LinkAction}
 use Rattle.rc_links.specs.declared.folders.LinkAction.TheVariants.{Make, Remove}
 use Rattle.rc_links.proofs.LinkLemmas.{same_bytes, same_itself}
 
--- entries that are the same are one
+-- entries that compare equal are equal
 pub one_entry : (a b : EntryText) → same_entry a b ≡ true → a ≡ b
 one_entry a b is =
     let both = and_parts (bytes_eq a.name b.name) (bytes_eq a.leads b.leads) is in
@@ -30,7 +30,7 @@ one_entry a b is =
 pub entry_itself : (a : EntryText) → same_entry a a ≡ true
 entry_itself a = ap (λ b. b && bytes_eq a.leads a.leads) (same_itself a.name) ∙ same_itself a.leads
 
--- an entry that passes a test is none that fails it
+-- an entry that passes a test is not one that fails it
 other_entry : (q : EntryText → Bool) (a b : EntryText) → q a ≡ true → q b ≡ false → same_entry a b ≡ false
 other_entry q a b passes fails =
     false_from_ne_true (same_entry a b) (λ is. true≢false (sym passes ∙ ap q (one_entry a b is) ∙ fails))
@@ -39,7 +39,7 @@ entry_other : (q : EntryText → Bool) (a b : EntryText) → q a ≡ false → q
 entry_other q a b fails passes =
     false_from_ne_true (same_entry a b) (λ is. true≢false (sym passes ∙ sym (ap q (one_entry a b is)) ∙ fails))
 
--- tests of lists
+-- tests of the elements of lists
 none-append : {X : Type 0} (p : X → Bool) (xs ys : List X) → list_any p xs ≡ false → list_any p ys ≡ false
     → list_any p (xs ++ ys) ≡ false
 none-append p xs ys none also = list_any-append p xs ys ∙ or_from (list_any p xs) (list_any p ys) none also
@@ -66,7 +66,7 @@ all_cond : {X : Type 0} (P : X → Type 0) (x : X) (xs : List X) (b : Bool) → 
 all_cond P x xs true is all = (is refl, all)
 all_cond P x xs false is all = all
 
--- what a test gives, of those that pass it
+-- a property that the test implies holds for all elements that pass it
 all-passed : {X : Type 0} (P : X → Type 0) (p : X → Bool) (xs : List X) → ((x : X) → p x ≡ true → P x)
     → AllByRecursion P (filter p xs)
 all-passed P p [] is = tt
@@ -78,7 +78,7 @@ all_fail p (x ∷ xs) none =
     let both = or_parts (p x) (list_any p xs) none in
     (both.0, all_fail p xs both.1)
 
--- entries that are among others
+-- entries of one list that are all in another
 abbrev pub has : EntryText → List EntryText → Bool
 has e es = list_any (same_entry e) es
 
@@ -90,22 +90,22 @@ all_among (x ∷ es) all among = (
   all_among es all (λ e is. among e (or_right (same_entry e x) (has e es) is)),
 )
 
--- those that pass a test have the entry where it passes and is among them
+-- filtered entries include an entry if it passes the test and was included
 has_filter : (p : EntryText → Bool) (e : EntryText) (es : List EntryText) → has e (filter p es) ≡ (p e && has e es)
 has_filter p e es = any-filter_same (same_entry e) p (p e) (λ x is. sym (ap p (one_entry e x is))) es
 
--- an entry that is there and passes
+-- an entry that is included and passes a test
 any_from : (p : EntryText → Bool) (e : EntryText) (es : List EntryText) → p e ≡ true → has e es ≡ true
     → list_any p es ≡ true
 any_from p e es passes there = any_less (same_entry e) p (λ x is. sym (ap p (one_entry e x is)) ∙ passes) es there
 
--- where some entry passes, one is there
+-- if some entry passes a test, one is included that does
 found : (p : EntryText → Bool) (es : List EntryText) → list_any p es ≡ true
     → (e : EntryText) × (p e ≡ true) × (has e es ≡ true)
 found p es there = let one = passing p es there in
     (one.item, one.passes, one.within (same_entry one.item) (entry_itself one.item))
 
--- changes of one runlevel's folder
+-- the changes of one runlevel's folder
 abbrev pub at_level : Level → ChangeText → Bool
 at_level level c = same_level c.level level
 
@@ -114,7 +114,7 @@ pub behind_more : (a b : List ChangeText) (level : Level) (es : List EntryText)
 behind_more [] b level es = refl
 behind_more (c ∷ a) b level es = behind_more a b level (cond (same_level c.level level) (changed c.act c.entry es) es)
 
--- those of others change nothing
+-- changes of other folders change nothing
 pub elsewhere : (changes : List ChangeText) (level : Level) (es : List EntryText)
     → list_any (at_level level) changes ≡ false → held_behind changes level es ≡ es
 elsewhere [] level es none = refl
@@ -123,7 +123,7 @@ elsewhere (c ∷ changes) level es none =
     ap (λ b. held_behind changes level (cond b (changed c.act c.entry es) es)) both.0
     ∙ elsewhere changes level es both.1
 
--- the first of changes are the first of those before, where those behind are others'
+-- the first changes of two lists are the first of the front list, if the back list is about other folders
 before_others : (a b : List ChangeText) (level : Level) (n : ℕ) (es : List EntryText)
     → list_any (at_level level) b ≡ false
     → (m : ℕ) × (held_behind (take n (a ++ b)) level es ≡ held_behind (take m a) level es)
@@ -134,7 +134,7 @@ before_others (c ∷ a) b level (suc n) es none =
     let rest = before_others a b level n (cond (same_level c.level level) (changed c.act c.entry es) es) none in
     (suc rest.0, rest.1)
 
--- and the first of those behind, where those before are others'
+-- and the first of the back list, if the front list is about other folders
 behind_others : (a b : List ChangeText) (level : Level) (n : ℕ) (es : List EntryText)
     → list_any (at_level level) a ≡ false
     → (m : ℕ) × (held_behind (take n (a ++ b)) level es ≡ held_behind (take m b) level es)
@@ -179,7 +179,7 @@ level_flip a b differs =
     false_from_ne_true (same_level b a)
     (λ is. true≢false (sym (same_level-self a) ∙ ap (same_level a) (sym (same_level-is b a is)) ∙ differs))
 
--- behind the first of changes a folder is as behind the first of its own
+-- after the first changes a folder is in the state after the first of its own
 abbrev pub HasOwn : List (List ℕ) → List ChangeText → FolderText → Type 0
 HasOwn targets changes f = (n : ℕ) (es : List EntryText)
     → (m : ℕ) × (held_behind (take n changes) f.level es ≡ held_behind (take m (changes_of targets f)) f.level es)
@@ -209,7 +209,7 @@ all_own targets (f ∷ folders) apart = (
   own_behind targets f (flat_map (changes_of targets) folders) folders apart.0 (all_own targets folders apart.1),
 )
 
--- what holds of the entries of a folder's changes, by what is done with them
+-- a property of the entries in a folder's changes, which depends on the action
 abbrev Each : (LinkAction → EntryText → Type 0) → ChangeText → Type 0
 Each R c = R c.act c.entry
 
@@ -235,7 +235,7 @@ all_changes R targets f stale made =
     (all-passed (R Remove) (is_left_over targets f.planned) f.held
     (λ e is. stale e (and_parts (is_stale targets f.planned e) (not (has_name e.name f.planned)) is).0)))
 
--- an entry that fails a test which all changed ones pass stays as it was
+-- an entry that fails a test which all changed ones pass is unchanged
 abbrev Passes : (EntryText → Bool) → LinkAction → EntryText → Type 0
 Passes q act e = q e ≡ true
 
@@ -258,7 +258,7 @@ others_stay q e (c ∷ changes) level es fails all =
 settled_by : (o p h : Bool) → ((not (o && not p) && h) || (not h && p)) ≡ (p || (not o && h))
 settled_by o p h = grind arith
 
--- a settled folder holds what is planned, and what it held of others
+-- a settled folder holds what is planned, and its earlier entries that are not ours
 has_settled : (targets : List (List ℕ)) (planned es : List EntryText) (e : EntryText)
     → has e (settled targets planned es) ≡ (has e planned || (not (is_ours targets e) && has e es))
 has_settled targets planned es e =
@@ -301,7 +301,7 @@ all_mended targets changes n (f ∷ folders) own =
       all_mended targets changes n folders own.1,
     )
 
--- changes that make no entry which passes a test leave none where there was none
+-- changes that create no entry which passes a test leave none if there was none
 abbrev MakesNone : (EntryText → Bool) → LinkAction → EntryText → Type 0
 MakesNone p Remove e = Unit {0}
 MakesNone p Make e = p e ≡ false
@@ -322,7 +322,7 @@ none_made p (c ∷ changes) level es none all =
     none_made p changes level (cond (same_level c.level level) (changed c.act c.entry es) es)
     (change_makes_none p c.entry es c.act (same_level c.level level) none all.0) all.1
 
--- changes that don't take an entry away leave it where it was
+-- changes that do not remove an entry leave it if it was there
 abbrev Leaves : EntryText → LinkAction → EntryText → Type 0
 Leaves l Remove e = same_entry e l ≡ false
 Leaves l Make e = Unit {0}
@@ -342,7 +342,7 @@ stays_there l (c ∷ changes) level es there all =
     stays_there l changes level (cond (same_level c.level level) (changed c.act c.entry es) es)
     (change_leaves l c.entry es c.act (same_level c.level level) there all.0) all.1
 
--- one entry that passes stays until another that passes is there, and that one stays
+-- one entry that passes stays until another one that passes is there, and that one stays
 in_turn : (p : EntryText → Bool) (x l : EntryText) (a b : List ChangeText) (level : Level) (es : List EntryText) (m : ℕ)
     → p x ≡ true → p l ≡ true → has x es ≡ true → AllByRecursion (Each (Leaves x)) a
     → has l (held_behind a level es) ≡ true → AllByRecursion (Each (Leaves l)) b
@@ -361,7 +361,7 @@ made k (x ∷ xs) es =
     ap (λ b. held_behind (map (making k) xs) k (cond b (es ++ x ∷ []) es)) (same_level-self k)
     ∙ made k xs (es ++ x ∷ []) ∙ append_assoc es (x ∷ []) xs
 
--- a planned link is none that goes
+-- a planned link is not stale
 pub not_stale : (targets : List (List ℕ)) (planned : List EntryText) (l : EntryText) → has l planned ≡ true
     → is_stale targets planned l ≡ false
 not_stale targets planned l there = no_both (is_ours targets l) (has l planned) there
@@ -370,8 +370,8 @@ not_stale targets planned l there = no_both (is_ours targets l) (has l planned) 
     no_both true b is = ap not is
     no_both false b is = refl
 
--- a planned link that is missing is made before what is left over goes; until then any other that isn't in the way
--- stays
+-- a missing link of the plan is created before the left-over links are removed; until then any link that is not in the
+-- way stays
 stays_missing : (targets : List (List ℕ)) (f : FolderText) (m : ℕ) (p : EntryText → Bool) (x l : EntryText) → p x ≡ true
     → has x f.held ≡ true → is_in_way targets f.planned x ≡ false
     → p l ≡ true → has l f.planned ≡ true → has l f.held ≡ false
@@ -426,14 +426,14 @@ stays_some targets f m p x l true at passes there clear also planned = stays_hel
 stays_some targets f m p x l false at passes there clear also planned =
     stays_missing targets f m p x l passes there clear also planned at
 
--- an entry that passes is no other test's, where none has both
+-- an entry that passes one test does not pass another one, if no entry passes both
 not_both : (p q : EntryText → Bool) (x : EntryText) (es : List EntryText) → list_any (λ e. p e && q e) es ≡ false
     → p x ≡ true → has x es ≡ true → q x ≡ false
 not_both p q x es none passes there =
     false_from_ne_true (q x)
     (λ is. true≢false (sym (any_from (λ e. p e && q e) x es (ap (λ b. b && q x) passes ∙ is) there) ∙ none))
 
--- what plan and folder both have or both lack stays so
+-- what the plan and the folder both have, or both lack, stays that way
 stays_by : (targets : List (List ℕ)) (f : FolderText) (m : ℕ) (p : EntryText → Bool) (b : Bool) → list_any p f.held ≡ b
     → list_any p f.planned ≡ list_any p f.held → list_any (λ e. p e && is_in_way targets f.planned e) f.held ≡ false
     → list_any p (held_behind (take m (changes_of targets f)) f.level f.held) ≡ b
@@ -471,7 +471,7 @@ levels_stay targets letter name changes n (f ∷ folders) own stays =
     (ap (list_any p) part.1 ∙ stays_by targets f part.0 p (list_any p f.held) refl stays.0.both stays.0.clear)
     (levels_stay targets letter name changes n folders own.1 stays.1)
 
--- a script that the plan leaves where it is can be read off the folders throughout
+-- the runlevels of a script that the plan leaves in place can be read off the folders throughout
 pub kept_stays : (targets : List (List ℕ)) (changes : List ChangeText) (n : ℕ) (folders : List FolderText)
     (s : PlannedText) → AllByRecursion (HasOwn targets changes) folders → Stays targets s.name folders
     → kept_script (map (behind (take n changes)) folders) s ≡ kept_script folders s

@@ -1,4 +1,5 @@
--- A script that stands in a runlevel which its header doesn't name, at each of its changes; and what can't be had.
+-- Examples: a script with a link in a runlevel that its header does not name, after each of its changes; and cases that
+-- can't be handled.
 use Rattle.rc_links.proofs.Words.{◌≡◌, ℕ, true, List, [], ◌∷◌, ◌++◌, map, take, codes, refl, byte, Level, L2, L3, L5}
 use Rattle.rc_links.proofs.Words.{ChangeText, changes_of, is_in_way, making, removal, entry_of, EntryText, FolderText}
 use Rattle.rc_links.proofs.Words.{folder_text, kept_plan, kept_script, levels_in, linked_name, links_at, AreApart}
@@ -48,15 +49,15 @@ stays = (
 throughout : (count : ℕ) → kept_script (map (behind (take count changes)) folders) web ≡ record web { starts = L3 ∷ [] }
 throughout count = kept_stays targets changes count folders web (all_own targets folders apart) stays
 
--- taken away first, its link would have been no more
+-- if its old link were removed first, it would have none
 the_other_way : levels_in (byte "S") (codes "web") (map (behind (removal L3 (link (codes "S20web")) ∷ [])) folders) ≡ []
 the_other_way = refl
 
--- a link that has another's name, which the plan needs, has to go before that is made
+-- a link with the name of another script's planned link has to be removed before that is created
 named_otherwise : is_in_way targets (planned L3) (entry_of (codes "S01net") (codes "../init.d/web")) ≡ true
 named_otherwise = refl
 
--- a script without links that got the first of two is read off that one
+-- a script without links that was given only the first of two has the runlevel of that one
 abbrev bare : List FolderText
 bare = folder_text L2 (link (codes "S01net") ∷ []) [] ∷ folder_text L3 (link (codes "S01net") ∷ []) [] ∷ []
 

@@ -1,4 +1,4 @@
--- Tables of names, and what the scripts before a place provide.
+-- Lemmas on tables of names, and on what the scripts before a position provide.
 use Rattle.rc_links.proofs.Words.{or-false, or_assoc, ◌≡◌, ℕ, zero, suc, ◌+◌, ◌<◌, Bool, true, false, cond, not, ◌&&◌}
 use Rattle.rc_links.proofs.Words.{◌||◌, if◌then◌else◌, List, [], ◌∷◌, ◌++◌, length, find, get_or, take, drop, Option}
 use Rattle.rc_links.proofs.Words.{Some, None, is_some, Result, Ok, Err, IfErr, refl, sym, ap, ◌∙◌, subst, arith}
@@ -8,7 +8,7 @@ use Rattle.std.specs.Bool.{Decides, one_answer}
 use Rattle.std.specs.Result.{IsErrAnd}
 use Rattle.rc_links.specs.Scripts.{has_name}
 
--- two names are the same from both sides
+-- equality of names is symmetric
 pub bytes_eq-sym : (a b : List ℕ) → bytes_eq a b ≡ bytes_eq b a
 bytes_eq-sym a b =
     let back : Decides (bytes_eq b a) (a ≡ b) =
@@ -19,7 +19,7 @@ same_cond : {X : Type 0} (y : Bool) (x : X) → cond y x x ≡ x
 same_cond true x = refl
 same_cond false x = refl
 
--- what a table has for a name after these names were given the place
+-- the table's position for a name after one position was set for these names
 abbrev pub put_all : ℕ → List (List ℕ) → List ℕ → Option ℕ → Option ℕ
 put_all position [] bs found = found
 put_all position (name ∷ names) bs found = put_all position names bs (if bytes_eq name bs then Some position else found)
@@ -37,19 +37,19 @@ put_all-by : (position : ℕ) (name : List ℕ) (names : List (List ℕ)) (bs : 
 put_all-by position name names bs found true e rest = rw (bytes_eq-sym bs name ∙ e) (put_all-kept position names bs)
 put_all-by position name names bs found false e rest = rw (bytes_eq-sym bs name ∙ e) rest
 
--- it has the place for these, and what it had for the others
+-- it is the new position for these names, and the old one for all others
 pub put_all-is : (position : ℕ) (names : List (List ℕ)) (bs : List ℕ) (found : Option ℕ)
     → put_all position names bs found ≡ (if has_name bs names then Some position else found)
 put_all-is position [] bs found = refl
 put_all-is position (name ∷ names) bs found =
     put_all-by position name names bs found (bytes_eq name bs) refl (put_all-is position names bs found)
 
--- tests that agree find the same
+-- equal tests find the same element
 pub find-ext : {X : Type 0} (p q : X → Bool) (xs : List X) → ((x : X) → p x ≡ q x) → find p xs ≡ find q xs
 find-ext p q [] same = refl
 find-ext p q (x ∷ xs) same = rw (same x, find-ext p q xs same) refl
 
--- the place of a name, with one more script behind
+-- the position for a name, with one more script at the end
 last_by : (position : ℕ) (before : List ScriptText) (s : ScriptText) (bs : List ℕ) (y : Bool)
     → position_from (position + 1) (before ++ s ∷ []) bs ≡ option_or (position_from (position + 1) before bs)
     (if has_name bs s.header.provides then Some (position + 1 + length before) else None) → cond y (Some position)
@@ -66,7 +66,7 @@ position_from-last position [] s bs = let e : position + 0 ≡ position = omega 
 position_from-last position (x ∷ before) s bs =
     last_by position before s bs (has_name bs x.header.provides) (position_from-last (position + 1) before s bs)
 
--- a name of a list none of which passes the test
+-- no name in a list passes the test if none is found
 unfound_by : (test : List ℕ → Bool) (bs name : List ℕ) (names : List (List ℕ)) (x y : Bool) → test name ≡ x
     → bytes_eq bs name ≡ y → cond x (Some name) (find test names) ≡ None → y || has_name bs names ≡ true
     → (find test names ≡ None → has_name bs names ≡ true → test bs ≡ false) → test bs ≡ false
@@ -93,7 +93,7 @@ position-next_by : (n : ℕ) (o : Option ℕ) (y : Bool) → (y ≡ true → is_
 position-next_by n o true new = none_or o (Some n) (new refl)
 position-next_by n o false new = or_none o
 
--- the places after one more script, none of whose names is known
+-- the positions after one more script, none of whose names is known
 pub position-next : (before : List ScriptText) (s : ScriptText) (bs : List ℕ)
     → find (λ name. is_some (place_of before name)) s.header.provides ≡ None → place_of (before ++ s ∷ []) bs
     ≡ (if has_name bs s.header.provides then Some (length before) else place_of before bs)
@@ -103,7 +103,7 @@ position-next before s bs new =
     (rw e at first) ∙ position-next_by (length before) (place_of before bs) (has_name bs s.header.provides)
     (unfound (λ name. is_some (place_of before name)) bs s.header.provides new)
 
--- the names of scripts, with one more behind
+-- the names of scripts, with one more at the end
 named-next_by : (x y : Bool) (o : Option ℕ) (n : ℕ) → is_some o ≡ x → is_some (if y then Some n else o) ≡ x || y
 named-next_by x y o n is = grind arith
 
@@ -118,7 +118,7 @@ pub named-next : (before : List ScriptText) (s : ScriptText) (bs : List ℕ) (o 
 named-next before s bs o n is =
     named-next_by (has_script before bs) (bytes_eq s.name bs) o n is ∙ sym (has_script-last before s bs)
 
--- what is doubled, by tables of what stands before
+-- the doubled name, in terms of tables for the scripts before
 pub doubled-is : (f h : List ℕ → Option ℕ) (before : List ScriptText) (s : ScriptText)
     → ((bs : List ℕ) → f bs ≡ place_of before bs) → ((bs : List ℕ) → is_some (h bs) ≡ has_script before bs)
     → option_or (find (λ name. is_some (f name)) s.header.provides) (if is_some (h s.name) then Some s.name else None)
@@ -130,7 +130,7 @@ doubled-is f h before s places names =
       names s.name,
     ) refl
 
--- and what is missing
+-- the missing name, in terms of a table
 pub missing-is : (f : List ℕ → Option ℕ) (scripts : List ScriptText) (s : ScriptText)
     → ((bs : List ℕ) → f bs ≡ place_of scripts bs)
     → option_or (find (λ name. not (is_system name) && not (is_some (f name))) s.header.required_start)
@@ -145,7 +145,7 @@ missing-is f scripts s places =
           (λ name. not (is_system name) && not (is_some (place_of scripts name))) s.header.required_stop same,
     ) refl
 
--- a list at one of its places
+-- a list split at a position
 pub cut_at : {X : Type 0} (xs : List X) (n : ℕ) (x : X) → n < length xs → x ≡ get_or xs n x
     → (drop n xs ≡ x ∷ drop (n + 1) xs) × (take (n + 1) xs ≡ take n xs ++ x ∷ []) × (length (take n xs) ≡ n)
 cut_at [] n x within is = absurd (omega arith)
@@ -163,13 +163,13 @@ err_and (Err x) e Q is q = subst Q (sym is) q
 option_some : {X : Type 0} (o p : Option X) (x : X) → o ≡ Some x → option_or o p ≡ Some x
 option_some o p x is = rw is refl
 
--- a double name is told
+-- a doubled name is the first one
 pub double-told : (all before after : List ScriptText) (s : ScriptText) (name : List ℕ) → double_from before (s ∷ after)
     ≡ double_from [] all → Some name ≡ doubled before s → double_from [] all ≡ Some name
 double-told all before after s name same is =
     sym same ∙ option_some (doubled before s) (double_from (before ++ s ∷ []) after) name (sym is)
 
--- none is told
+-- a script without a doubled name does not change the first one
 pub double-next : (all before after : List ScriptText) (s : ScriptText) → double_from before (s ∷ after)
     ≡ double_from [] all → doubled before s ≡ None → double_from (before ++ s ∷ []) after ≡ double_from [] all
 double-next all before after s same none =
@@ -186,7 +186,7 @@ missing-next all after s same none =
     let P : Option (List ℕ) → Type 0 = λ o. option_or o (missing_from all after) ≡ missing_from all all in
     subst P none same
 
--- where nothing is doubled, nothing provided is known
+-- if nothing is doubled, no provided name is known
 pub unknown : (before : List ScriptText) (s : ScriptText) → doubled before s ≡ None
     → find (λ name. is_some (place_of before name)) s.header.provides ≡ None
 unknown before s none = first_none (find (λ name. is_some (place_of before name)) s.header.provides) _ none

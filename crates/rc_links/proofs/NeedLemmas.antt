@@ -1,4 +1,4 @@
--- The needs by names: where they are, by a table, and within which places.
+-- Lemmas on the needs for names: how a table gives them, and that they are among the scripts.
 use Rattle.rc_links.proofs.Words.{◌≡◌, ℕ, zero, suc, ◌+◌, ◌<◌, ◌≤◌, Bool, true, false, cond, List, [], ◌∷◌, ◌++◌}
 use Rattle.rc_links.proofs.Words.{length, get_or, drop, map, Option, Some, None, is_some, Result, Ok, Err, OnOk, refl}
 use Rattle.rc_links.proofs.Words.{sym, ap, ◌∙◌, arith, append_assoc, filter_map, cons_option, unwrap_or, true≢false}
@@ -10,18 +10,18 @@ use Rattle.rc_links.specs.declared.needs.Phase.TheVariants as phase
 use Rattle.rc_links.specs.Scripts.{has_name}
 use Rattle.rc_links.proofs.NameLemmas.{cut_at}
 
--- two lists of names after another
+-- the needs for two lists of names, joined
 names-after : {X Y Z : Type 0} (f : Y → Z) (h : X → Option Y) (xs ys : List X)
     → map f (filter_map h xs) ++ map f (filter_map h ys) ≡ map f (filter_map h (xs ++ ys))
 names-after f h xs ys = sym (ap (map f) (filter_map-append h xs ys) ∙ map-append f (filter_map h xs) (filter_map h ys))
 
--- tables that agree give the same
+-- equal functions give the same list
 pub filter_map-ext : {X Y : Type 0} (f h : X → Option Y) (xs : List X) → ((x : X) → f x ≡ h x)
     → filter_map f xs ≡ filter_map h xs
 filter_map-ext f h [] same = refl
 filter_map-ext f h (x ∷ xs) same = rw (same x, filter_map-ext f h xs same) refl
 
--- both places of each need are below the count
+-- both positions of each need are below the count
 abbrev Within : ℕ → List (ℕ × ℕ) → Type 0
 Within count [] = Unit {0}
 Within count (edge ∷ edges) = (edge.0 < count) × (edge.1 < count) × Within count edges
@@ -39,7 +39,7 @@ Within-range : (count : ℕ) (edges : List (ℕ × ℕ)) → Within count edges 
 Within-range count [] all = λ k within. absurd (omega arith)
 Within-range count (e ∷ edges) all = range-first count e edges (all.0, all.1) (Within-range count edges all.2)
 
--- a place that provides a name is one of the scripts
+-- a position that provides a name is that of one of the scripts
 below_by : (position : ℕ) (scripts : List ScriptText) (bs : List ℕ) (n : ℕ) (y : Bool) → cond y (Some position)
     (position_from (position + 1) scripts bs) ≡ Some n → (position_from (position + 1) scripts bs ≡ Some n
     → n < position + 1 + length scripts) → n < position + suc (length scripts)
@@ -80,7 +80,7 @@ Within-from turn all position (s ∷ scripts) low =
     (Within-names turn all position (named turn s.header) (omega arith))
     (Within-from turn all (position + 1) scripts (omega arith))
 
--- the needs of scripts are among their places
+-- the needs of scripts are among their positions
 pub needs-range : (turn : Phase) (scripts : List ScriptText) → InRange (length scripts) (needs_of turn scripts)
 needs-range turn scripts =
     Within-range (length scripts) (needs_of turn scripts) (Within-from turn scripts 0 scripts (omega arith))

@@ -1,14 +1,14 @@
--- Plans: their fields, their names, and the faults that a step gives on.
+-- Lemmas on plans: their fields, their names, and the faults that a step passes on.
 use Rattle.rc_links.proofs.Words.{string_bytes, ◌≡◌, ℕ, zero, suc, ◌+◌, ◌<◌, List, [], ◌∷◌, ◌++◌, length, map, get_or}
 use Rattle.rc_links.proofs.Words.{refl, sym, ap, ◌∙◌, subst, arith, append_assoc, inl, inr, AllByRecursion, Phase}
-use Rattle.rc_links.proofs.Words.{Wrong, Round, IsAnyDeep, IsRound, IsTooDeep, Says, HasNoNumbering, IsCycle}
+use Rattle.rc_links.proofs.Words.{Wrong, Round, IsAnyDeep, IsRound, IsTooDeep, FaultSatisfies, HasNoNumbering, IsCycle}
 use Rattle.rc_links.proofs.Words.{ScriptText, PlannedText, AreLeast, IsCycleOf, IsPlan, IsProvided, IsRefused, IsShort}
 use Rattle.rc_links.proofs.Words.{names_at, planned, planned_all, needs_of}
 use Rattle.rc_links.specs.declared.needs.Phase.TheVariants as phase
 use Rattle.rc_links.specs.declared.faults.PlanFault.{PlanFault}
 use Rattle.rc_links.specs.declared.faults.PlanFault.TheVariants as fault
 
--- the name at a place
+-- the name at a position
 pub name_is : (scripts : List ScriptText) (position : ℕ) (s : ScriptText) → position < length scripts
     → s ≡ get_or scripts position s → get_or (map (λ t. t.name) scripts) position [] ≡ s.name
 name_is [] position s within is = absurd (omega arith)
@@ -34,16 +34,16 @@ pub short-push : (plan : List PlannedText) (s : PlannedText) → AllByRecursion 
 short-push [] s all short = (short, tt)
 short-push (t ∷ plan) s all short = (all.0, short-push plan s all.1 short)
 
--- what is said of one thing is said of another
-pub Says-weaker : {A : Type 0} {P Q : Wrong → Type 0} (f : PlanFault A) → ((wrong : Wrong) → P wrong → Q wrong)
-    → Says P f → Says Q f
-Says-weaker (fault.DoubleProvide name) more said = more _ said
-Says-weaker (fault.Missing name) more said = more _ said
-Says-weaker (fault.Cycle names) more said = more _ said
-Says-weaker fault.TooDeep more said = more _ said
-Says-weaker fault.Memory more said = tt
+-- a property of the fault that implies another one
+pub FaultSatisfies-weaker : {A : Type 0} {P Q : Wrong → Type 0} (f : PlanFault A)
+    → ((wrong : Wrong) → P wrong → Q wrong) → FaultSatisfies P f → FaultSatisfies Q f
+FaultSatisfies-weaker (fault.DoubleProvide name) more said = more _ said
+FaultSatisfies-weaker (fault.Missing name) more said = more _ said
+FaultSatisfies-weaker (fault.Cycle names) more said = more _ said
+FaultSatisfies-weaker fault.TooDeep more said = more _ said
+FaultSatisfies-weaker fault.Memory more said = tt
 
--- a number that is too great, of all
+-- a number that is too great is one of all numbers
 pub any_deep : (starts stops : List ℕ) (position : ℕ) (wrong : Wrong)
     → IsTooDeep (get_or starts position 0) (get_or stops position 0) wrong → IsAnyDeep starts stops wrong
 any_deep starts stops position wrong deep = elim deep.1 [
@@ -80,7 +80,7 @@ stop-planned (s ∷ scripts) (a ∷ starts) [] first second = absurd (omega arit
 stop-planned (s ∷ scripts) (a ∷ starts) (b ∷ stops) first second =
     ap (λ numbers. b ∷ numbers) (stop-planned scripts starts stops (omega arith) (omega arith))
 
--- a plan that is made
+-- a plan that is complete
 pub plan_made : (scripts : List ScriptText) (starts stops : List ℕ) (plan : List PlannedText) → IsProvided scripts
     → AreLeast phase.Start scripts starts → AreLeast phase.Stop scripts stops → plan ≡ planned_all scripts starts stops
     → AllByRecursion IsShort plan → IsPlan scripts plan
@@ -97,7 +97,7 @@ plan_made scripts starts stops plan provided first second is short = record {
   short = short;
 }
 
--- a cycle, by its names
+-- a cycle, given by its names
 pub round : (turn : Phase) (scripts : List ScriptText) (places : List ℕ) (wrong : Wrong)
     → IsCycle (needs_of turn scripts) places → HasNoNumbering (needs_of turn scripts)
     → wrong ≡ Round (names_at scripts places) → IsRound turn scripts wrong
@@ -108,7 +108,7 @@ same_round : (x y : List (List ℕ)) → Round x ≡ Round y → x ≡ y
 same_round x y e = cc
 
 pub refused-start : {A : Type 0} (scripts : List ScriptText) (f : PlanFault A) → IsProvided scripts
-    → Says (IsRound phase.Start scripts) f → IsRefused scripts f
+    → FaultSatisfies (IsRound phase.Start scripts) f → IsRefused scripts f
 refused-start scripts (fault.DoubleProvide name) provided is = absurd (let e = is.1 in cc)
 refused-start scripts (fault.Missing name) provided is = absurd (let e = is.1 in cc)
 refused-start scripts (fault.Cycle names) provided is =
@@ -118,7 +118,7 @@ refused-start scripts fault.TooDeep provided is = absurd (let e = is.1 in cc)
 refused-start scripts fault.Memory provided is = tt
 
 pub refused-stop : {A : Type 0} (scripts : List ScriptText) (starts : List ℕ) (f : PlanFault A) → IsProvided scripts
-    → AreLeast phase.Start scripts starts → Says (IsRound phase.Stop scripts) f → IsRefused scripts f
+    → AreLeast phase.Start scripts starts → FaultSatisfies (IsRound phase.Stop scripts) f → IsRefused scripts f
 refused-stop scripts starts (fault.DoubleProvide name) provided first is = absurd (let e = is.1 in cc)
 refused-stop scripts starts (fault.Missing name) provided first is = absurd (let e = is.1 in cc)
 refused-stop scripts starts (fault.Cycle names) provided first is =
@@ -129,7 +129,7 @@ refused-stop scripts starts fault.Memory provided first is = tt
 
 pub refused-deep : {A : Type 0} (scripts : List ScriptText) (starts stops : List ℕ) (f : PlanFault A)
     → IsProvided scripts → AreLeast phase.Start scripts starts → AreLeast phase.Stop scripts stops
-    → Says (IsAnyDeep starts stops) f → IsRefused scripts f
+    → FaultSatisfies (IsAnyDeep starts stops) f → IsRefused scripts f
 refused-deep scripts starts stops (fault.DoubleProvide name) provided first second is = absurd (let e = is.0 in cc)
 refused-deep scripts starts stops (fault.Missing name) provided first second is = absurd (let e = is.0 in cc)
 refused-deep scripts starts stops (fault.Cycle names) provided first second is = absurd (let e = is.0 in cc)

@@ -1,4 +1,4 @@
--- What sets of names, entries and links have, and what is asked of lists by them.
+-- Lemmas on sets of names, entries and links, and on tests that use them.
 use Rattle.rc_links.proofs.Words.{◌≡◌, ◌∙◌, ℕ, Bool, true, false, not, ◌&&◌, ◌||◌, List, [], ◌∷◌, ◌++◌, refl, sym, ap}
 use Rattle.rc_links.proofs.Words.{arith, bytes_eq, filter, get_or, list_any, map, append_assoc, true≢false}
 use Rattle.rc_links.proofs.Words.{Level, ChangeText, EntryText, FolderText, changes_of, is_in_way, is_left_over}
@@ -14,7 +14,7 @@ use Rattle.std.proofs.lemmas.List.Elements.{filter_agree}
 or_next : (x a rest : Bool) → (if x then true else a) || rest ≡ a || (x || rest)
 or_next x a rest = grind arith
 
--- what a set has of names and what is to come, after one more
+-- whether the names added so far and the remaining ones contain a name, after one more was added
 pub name-gained : (given name : List ℕ) (a rest : Bool)
     → (if bytes_eq given name then true else a) || rest ≡ a || (bytes_eq name given || rest)
 name-gained given name a rest = rw (bytes_eq-sym name given) (or_next (bytes_eq given name) a rest)
@@ -26,11 +26,11 @@ pub entry-gained : (given e : EntryText) (a rest : Bool)
     → (if same_entry given e then true else a) || rest ≡ a || (same_entry e given || rest)
 entry-gained given e a rest = rw (same_entry-sym e given) (or_next (same_entry given e) a rest)
 
--- the same of links
+-- the same for links
 pub link-next : (x a rest : Bool) → (if x then true else a) || rest ≡ a || (x || rest)
 link-next x a rest = or_next x a rest
 
--- the tests by sets are those by the lists that they have
+-- the tests that use sets agree with those that use the lists
 module _ {R S T : Type 0} (targets : NameSet R) (planned : EntrySet S) (names : NameSet T)
     (places : List (List ℕ)) (links : List EntryText)
     (those : HasNames targets places) (theirs : HasEntries planned links) (called : HasNamesOf names links) where
@@ -50,7 +50,7 @@ pub missing : {S : Type 0} (held : EntrySet S) (entries : List EntryText) → Ha
 missing held entries has links =
     filter_agree (λ e. not (is_entry_of held e)) (is_missing entries) (λ e. rw (has e) refl) links
 
--- what is added step by step of a folder's changes is all of them
+-- the changes of a folder that are added step by step are all of its changes
 pub folder-changed : {Q R S T : Type 0} (targets : NameSet Q) (planned : EntrySet R) (names : NameSet S)
     (held : EntrySet T) (places : List (List ℕ)) (f : FolderText) → HasNames targets places
     → HasEntries planned f.planned → HasNamesOf names f.planned → HasEntries held f.held
@@ -83,7 +83,7 @@ pub gone_by : {S : Type 0} (names : NameSet S) (scripts : List EntryText) → Ha
 gone_by names scripts called held =
     filter_agree (is_gone_by names) (is_gone scripts) (λ e. rw (called (target_in e.leads)) refl) held
 
--- the levels of sets from one on that has a link, or none
+-- the levels of the remaining sets, depending on whether the next set has a link
 pub level_kept : {S : Type 0} (letter : ℕ) (name : List ℕ) (levels : List Level) (pair : Level × LinkSet S)
     (rest : List (Level × LinkSet S)) → has_link letter name pair.1 ≡ true
     → (levels ++ pair.0 ∷ []) ++ levels_by letter name rest ≡ levels ++ levels_by letter name (pair ∷ rest)
@@ -103,7 +103,7 @@ module _ (letter : ℕ) (name : List ℕ) where
   pushed_by level links folder rest true one other same = rw (one, other, same) refl
   pushed_by level links folder rest false one other same = rw (one, other) refl
 
-  -- the levels of sets and of the folders to come, after one more
+  -- the levels of the sets so far and of the remaining folders, after one more
   pub levels-pushed : {S : Type 0} (found : List (Level × LinkSet S)) (level : Level) (links : LinkSet S)
       (folder : FolderText) (rest : List FolderText) → level ≡ folder.level → HasLinks links folder.held
       → levels_by letter name (found ++ (level, links) ∷ []) ++ levels_in letter name rest
@@ -126,7 +126,7 @@ begins : (letter : ℕ) (name : List ℕ) → is_numbered name ≡ true
 begins letter [] numbered = absurd (true≢false (sym numbered))
 begins letter (b ∷ name) numbered = refl
 
--- what a set has of links after a numbered one
+-- whether a set has a link after a numbered link was added
 pub link-gained : (e : EntryText) (letter : ℕ) (name : List ℕ) (old new : Bool) → is_numbered e.name ≡ true
     → new ≡ (if nat_eq (get_or e.name 0 0) letter && bytes_eq (target_in e.leads) name then true else old)
     → new ≡ (if is_link_of letter name e then true else old)

@@ -1,4 +1,4 @@
--- The words of the proofs of this crate.
+-- Names that all proofs of this crate import.
 pub use Rattle.std.proofs.Common.{◌≡◌, ℕ, zero, suc, ◌+◌, ◌<◌, ◌≤◌, Bool, true, false, cond, List, [], ◌∷◌, ◌++◌}
 pub use Rattle.std.proofs.Common.{length, get_or, drop, map, refl, sym, ap, ◌∙◌, subst, arith, append_assoc, not, ◌&&◌}
 pub use Rattle.std.proofs.Common.{◌||◌, take, codes, if◌then◌else◌, find, Option, Some, None, is_some, Result, Ok, Err}
@@ -29,7 +29,7 @@ pub use Rattle.rc_links.specs.Scripts.{position_from, place_of, has_script, is_s
 pub use Rattle.rc_links.specs.Scripts.{missing_from, named, need, needs_from, needs_of, places_of}
 pub use Rattle.rc_links.specs.declared.needs.Phase.{Phase}
 pub use Rattle.rc_numbers.specs.Numbering.{InRange, HasNoNumbering, IsCycle}
-pub use Rattle.rc_links.specs.Faults.{Wrong, Round, IsAnyDeep, IsRound, IsTooDeep, Says, IsDouble}
+pub use Rattle.rc_links.specs.Faults.{Wrong, Round, IsAnyDeep, IsRound, IsTooDeep, FaultSatisfies, IsDouble}
 pub use Rattle.rc_links.specs.Plans.{AreLeast, IsCycleOf, IsPlan, IsProvided, IsRefused, IsShort, names_at, planned}
 pub use Rattle.rc_links.specs.Plans.{planned_all}
 pub use Rattle.rc_links.specs.AllLast.{other_names}

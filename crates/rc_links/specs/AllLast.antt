@@ -1,7 +1,7 @@
--- `$all` as a facility: what names it comes behind all that don't, to start, and in front of them to stop.
+-- `$all` as a facility: scripts that name it come after all others at the start, and before them at the stop.
 use Rattle.std.specs.Prelude.{ℕ, Bool, ◌||◌, if◌then◌else◌, List, [], ◌∷◌, codes}
 use Rattle.std.specs.List.{flat_map, list_any}
-use Rattle.rc_header.specs.HeaderText.{facility_header}
+use Rattle.lsb_header.specs.HeaderText.{facility_header}
 use Rattle.rc_links.specs.declared.needs.Phase.{Phase}
 use Rattle.rc_links.specs.declared.needs.Phase.TheVariants as phase
 use Rattle.rc_links.specs.ScriptText.{ScriptText}
@@ -10,16 +10,16 @@ use Rattle.rc_links.specs.Scripts.{has_name}
 abbrev pub has_all : List (List ℕ) → Bool
 has_all names = has_name (codes "$all") names
 
--- the script names `$all`, to start or to stop
+-- the script names `$all` for its start, or for its stop
 abbrev pub names_all : Phase → ScriptText → Bool
 names_all phase.Start s = has_all s.header.required_start || has_all s.header.should_start
 names_all phase.Stop s = has_all s.header.required_stop || has_all s.header.should_stop
 
--- what a script provides that doesn't name it
+-- the names that a script provides, if it does not name `$all`
 abbrev pub other_names : Phase → ScriptText → List (List ℕ)
 other_names turn s = if names_all turn s then [] else s.header.provides
 
--- the same of all scripts, where one names it
+-- these names of all scripts, if one of them names `$all`
 abbrev pub others : Phase → List ScriptText → List (List ℕ)
 others turn scripts = if list_any (names_all turn) scripts then flat_map (other_names turn) scripts else []
 
@@ -30,6 +30,6 @@ all_facility scripts = record {
   header = facility_header (codes "$all" ∷ []) (others phase.Start scripts) (others phase.Stop scripts);
 }
 
--- the scripts as they are planned, with the facility in front where what names `$all` comes last
+-- the scripts that are planned: if those that name `$all` are to come last, with the facility before all others
 abbrev pub with_all : Bool → List ScriptText → List ScriptText
 with_all last scripts = if last then all_facility scripts ∷ scripts else scripts

@@ -1,4 +1,4 @@
--- Which entries of a folder are taken away and made for it to hold just the links of the plan.
+-- The entries of a folder that are removed and created so that it holds exactly the links of the plan.
 use Rattle.std.specs.Prelude.{ℕ, Vec, Bool, false, not, ◌==◌, ◌&&◌, ◌||◌, List, ◌∷◌, ◌++◌, map}
 use Rattle.std.specs.Char.{is_ascii_digit}
 use Rattle.std.specs.List.{filter, list_any}
@@ -14,33 +14,33 @@ use Rattle.rc_links.specs.declared.folders.LinkAction.TheVariants.{Make, Remove}
 abbrev pub targets_of : {A : Type 0} → List (Vec ℕ A) → List (List ℕ)
 targets_of targets = map (λ target. target.items) targets
 
--- S or K, two digits and one more byte at least
+-- the name of a numbered link: S or K, two digits and at least one more byte
 abbrev pub is_numbered : List ℕ → Bool
 is_numbered (letter ∷ tens ∷ ones ∷ b ∷ name) =
     (letter == byte "S" || letter == byte "K") && is_ascii_digit tens && is_ascii_digit ones
 is_numbered _ = false
 
--- a numbered link that leads to a planned script
+-- a numbered link to a planned script
 abbrev pub is_ours : List (List ℕ) → EntryText → Bool
 is_ours targets e = is_numbered e.name && list_any (bytes_eq e.leads) targets
 
--- the name of a link of the plan is taken by what is no such link
+-- the entry occupies the name of a link of the plan, and is not a numbered link to a planned script
 abbrev pub is_taken : List (List ℕ) → List EntryText → EntryText → Bool
 is_taken targets planned e = has_name e.name planned && not (is_ours targets e)
 
--- such a link that the plan doesn't have
+-- a numbered link to a planned script that is not in the plan
 abbrev pub is_stale : List (List ℕ) → List EntryText → EntryText → Bool
 is_stale targets planned e = is_ours targets e && not (list_any (same_entry e) planned)
 
--- such a link whose name one of the plan has, so that it has to go before that is made
+-- such a link with the name of a link of the plan, so it has to be removed before that is created
 abbrev pub is_in_way : List (List ℕ) → List EntryText → EntryText → Bool
 is_in_way targets planned e = is_stale targets planned e && has_name e.name planned
 
--- such a link that can stay until the plan's are made
+-- such a link that can stay until the links of the plan are created
 abbrev pub is_left_over : List (List ℕ) → List EntryText → EntryText → Bool
 is_left_over targets planned e = is_stale targets planned e && not (has_name e.name planned)
 
--- a link that the folder doesn't hold
+-- a link that the folder does not hold
 abbrev pub is_missing : List EntryText → EntryText → Bool
 is_missing held link = not (list_any (same_entry link) held)
 
@@ -50,15 +50,16 @@ removal level e = change_of Remove level e
 abbrev pub making : Level → EntryText → ChangeText
 making level e = change_of Make level e
 
--- the changes of a folder: what is in the way is taken away, then the links are made, and then the rest is taken away
+-- the changes of a folder: links in the way are removed, then the missing links are created, and then the other stale
+-- links are removed
 abbrev pub changes_of : List (List ℕ) → FolderText → List ChangeText
 changes_of targets f =
     map (removal f.level) (filter (is_in_way targets f.planned) f.held)
     ++ map (making f.level) (filter (is_missing f.held) f.planned)
     ++ map (removal f.level) (filter (is_left_over targets f.planned) f.held)
 
--- what a folder holds behind the changes: what it held without the links that the plan doesn't have, and then the
--- plan's that it didn't hold
+-- what a folder holds after the changes: its entries without the stale links, and then the links of the plan that were
+-- missing
 abbrev pub settled : List (List ℕ) → List EntryText → List EntryText → List EntryText
 settled targets planned held =
     filter (λ e. not (is_stale targets planned e)) held ++ filter (is_missing held) planned

@@ -7,7 +7,7 @@ use Rattle.rc_links.specs.EntryText.{EntryText}
 abbrev pub entry_of : List ℕ → List ℕ → EntryText
 entry_of name leads = record { name = name; leads = leads }
 
--- two entries have one name and lead to one place
+-- two entries have the same name and the same target
 abbrev pub same_entry : EntryText → EntryText → Bool
 same_entry a b = bytes_eq a.name b.name && bytes_eq a.leads b.leads
 

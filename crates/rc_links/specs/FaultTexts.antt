@@ -1,4 +1,4 @@
--- What is printed of a fault of a plan.
+-- The messages about the faults of a plan.
 use Rattle.std.specs.Prelude.{string_bytes, ℕ, List, ◌++◌, codes, flat_map}
 use Rattle.std.specs.declared.string.String.{String}
 use Rattle.rc_links.specs.declared.faults.PlanFault.{PlanFault}

@@ -1,4 +1,4 @@
--- What one step of planning is refused for.
+-- The faults of the steps of planning.
 use Rattle.std.specs.Prelude.{string_bytes, ◌≡◌, ◌⊎◌, ℕ, ◌<◌, List, Option, Some, None, IfSome, map}
 use Rattle.rc_links.specs.declared.planning.TheConstants.{NUMBER_LIMIT}
 use Rattle.rc_links.specs.declared.needs.Phase.{Phase}
@@ -14,7 +14,7 @@ pub data Wrong : Type 0 where
   Round : List (List ℕ) → Wrong
   Deep : Wrong
 
--- what a fault says is wrong, and nothing for lack of memory
+-- what a fault says is wrong; nothing if memory ran out
 abbrev pub wrong_of : {A : Type 0} → PlanFault A → Option Wrong
 wrong_of (fault.DoubleProvide name) = Some (Double (string_bytes name))
 wrong_of (fault.Missing name) = Some (Missing (string_bytes name))
@@ -22,11 +22,11 @@ wrong_of (fault.Cycle names) = Some (Round (map string_bytes names.items))
 wrong_of fault.TooDeep = Some Deep
 wrong_of fault.Memory = None
 
--- the fault says this of the scripts, or memory ran out
-abbrev pub Says : {A : Type 0} → (Wrong → Type 0) → PlanFault A → Type 0
-Says P found = IfSome (wrong_of found) P
+-- the fault says something wrong for which the property holds, or memory ran out
+abbrev pub FaultSatisfies : {A : Type 0} → (Wrong → Type 0) → PlanFault A → Type 0
+FaultSatisfies P found = IfSome (wrong_of found) P
 
--- names that are those of a cycle
+-- the names are those of a cycle
 abbrev pub IsRound : Phase → List ScriptText → Wrong → Type 0
 IsRound turn scripts wrong = (names : List (List ℕ)) × (wrong ≡ Round names) × IsCycleOf turn scripts names
 
@@ -34,14 +34,14 @@ IsRound turn scripts wrong = (names : List (List ℕ)) × (wrong ≡ Round names
 abbrev pub IsTooDeep : ℕ → ℕ → Wrong → Type 0
 IsTooDeep start stop wrong = (wrong ≡ Deep) × ((NUMBER_LIMIT < start) ⊎ (NUMBER_LIMIT < stop))
 
--- one of the numbers is too great
+-- one of the numbers in the lists is too great
 abbrev pub IsAnyDeep : List ℕ → List ℕ → Wrong → Type 0
 IsAnyDeep starts stops wrong = (wrong ≡ Deep) × (IsDeep starts ⊎ IsDeep stops)
 
--- the name, if there is one, that is provided twice
+-- the name that is due is provided twice
 abbrev pub IsDouble : Option (List ℕ) → Wrong → Type 0
 IsDouble due wrong = (name : List ℕ) × (due ≡ Some name) × (wrong ≡ Double name)
 
--- the name, if there is one, that is missing
+-- the name that is due is missing
 abbrev pub IsMissing : Option (List ℕ) → Wrong → Type 0
 IsMissing due wrong = (name : List ℕ) × (due ≡ Some name) × (wrong ≡ Missing name)

@@ -1,9 +1,9 @@
--- A runlevel's folder.
+-- The folder of a runlevel, as lists.
 use Rattle.std.specs.Prelude.{List}
 use Rattle.init_words.specs.declared.levels.Level.{Level}
 use Rattle.rc_links.specs.EntryText.{EntryText}
 
--- the links that the plan has there, and the entries that it holds
+-- the links that the plan has in it, and the entries that it holds
 pub record FolderText : Type 0 where
   pub level : Level
   pub planned : List EntryText

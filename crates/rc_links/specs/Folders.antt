@@ -1,4 +1,4 @@
--- Folders and changes of them, by their parts.
+-- Constructors of folders and of changes.
 use Rattle.std.specs.Prelude.{List}
 use Rattle.init_words.specs.declared.levels.Level.{Level}
 use Rattle.rc_links.specs.ChangeText.{ChangeText}

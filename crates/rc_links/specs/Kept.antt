@@ -1,4 +1,4 @@
--- The runlevels of the links that folders hold, and links whose script is gone.
+-- The runlevels of the links in the folders, and links whose script is gone.
 use Rattle.std.specs.Prelude.{ℕ, Bool, true, false, not, ◌==◌, ◌&&◌, if◌then◌else◌, List, [], ◌∷◌, map, drop, take}
 use Rattle.std.specs.Prelude.{codes}
 use Rattle.std.specs.List.{filter, list_any}
@@ -15,11 +15,11 @@ abbrev pub begins_with : ℕ → List ℕ → Bool
 begins_with letter [] = false
 begins_with letter (b ∷ name) = b == letter
 
--- the name behind `../init.d/`, to which a link leads; nothing where it leads elsewhere
+-- the name after `../init.d/` in the target of a link; empty if the target begins differently
 abbrev pub target_in : List ℕ → List ℕ
 target_in leads = if bytes_eq (take 10 leads) (codes "../init.d/") then drop 10 leads else []
 
--- a numbered link of the letter to the script of a name
+-- a numbered link with the letter to the script of this name
 abbrev pub is_link_of : ℕ → List ℕ → EntryText → Bool
 is_link_of letter name e = begins_with letter e.name && (is_numbered e.name && bytes_eq (target_in e.leads) name)
 
@@ -33,17 +33,18 @@ abbrev pub is_nowhere : List Level → List Level → Bool
 is_nowhere [] [] = true
 is_nowhere _ _ = false
 
--- a script that starts and stops at these runlevels, where there are some
+-- a script that is started and stopped in these runlevels, if there are any
 abbrev pub with_levels : List Level → List Level → PlannedText → PlannedText
 with_levels starts stops s = if is_nowhere starts stops then s else record s { starts = starts; stops = stops }
 
--- a script with the runlevels of its links, where it has some
+-- a script with the runlevels of its links, if it has any
 abbrev pub kept_script : List FolderText → PlannedText → PlannedText
 kept_script folders s = with_levels (levels_in (byte "S") s.name folders) (levels_in (byte "K") s.name folders) s
 
+-- a plan with the runlevels of the existing links
 abbrev pub kept_plan : List FolderText → List PlannedText → List PlannedText
 kept_plan folders plan = map (kept_script folders) plan
 
--- the entry leads to an init script that is none of these entries
+-- the entry points to an init script that is none of these
 abbrev pub is_gone : List EntryText → EntryText → Bool
 is_gone scripts e = is_name (target_in e.leads) && not (has_name (target_in e.leads) scripts)

@@ -14,19 +14,19 @@ use Rattle.rc_links.specs.PlannedText.{PlannedText}
 abbrev pub has_level : Level → List Level → Bool
 has_level level levels = list_any (λ other. same_level other level) levels
 
--- a link: its letter, its number in two digits and the script's name
+-- the name of a link: its letter, its number in two digits and the script's name
 abbrev pub link_of : ℕ → ℕ → List ℕ → List ℕ
 link_of letter number name = letter ∷ (byte "0" + number / 10 % 10) ∷ (byte "0" + number % 10) ∷ name
 
--- the script's name in a link
+-- the script's name in the name of a link
 abbrev pub linked_name : List ℕ → List ℕ
 linked_name link = drop 3 link
 
--- the first text stands before the second in byte order
+-- the first text is before the second in byte order
 abbrev pub is_before : List ℕ → List ℕ → Bool
 is_before a b = is_lt (slice_cmp nat_cmp a b)
 
--- texts in byte order with one more, at its place
+-- a text inserted into sorted texts
 abbrev pub placed : List ℕ → List (List ℕ) → List (List ℕ)
 placed text [] = text ∷ []
 placed text (first ∷ texts) = if is_before first text then first ∷ placed text texts else text ∷ first ∷ texts
@@ -36,31 +36,31 @@ abbrev pub in_byte_order : List (List ℕ) → List (List ℕ)
 in_byte_order [] = []
 in_byte_order (text ∷ texts) = placed text (in_byte_order texts)
 
--- the links of the scripts that stop at the level
+-- the links of the scripts that are stopped in the level
 abbrev pub stop_links : Level → List PlannedText → List (List ℕ)
 stop_links level plan = map (λ s. link_of (byte "K") s.stop s.name) (filter (λ s. has_level level s.stops) plan)
 
--- the links of the scripts that start at the level
+-- the links of the scripts that are started in the level
 abbrev pub start_links : Level → List PlannedText → List (List ℕ)
 start_links level plan = map (λ s. link_of (byte "S") s.start s.name) (filter (λ s. has_level level s.starts) plan)
 
--- the links of a level's folder: those that stop, then those that start, each set in byte order
+-- the links in a level's folder: those that stop, then those that start, each group in byte order
 abbrev pub links_at : List PlannedText → Level → List (List ℕ)
 links_at plan level = in_byte_order (stop_links level plan) ++ in_byte_order (start_links level plan)
 
--- a link's line: where it stands, and the script that it names
+-- the line for a link: its path, and its target, ../init.d/NAME
 abbrev pub link_line : Level → List ℕ → List ℕ
 link_line level link =
     codes "rc" ++ level_code level ∷ codes ".d/" ++ link ++ codes " ../init.d/" ++ linked_name link ++ codes "\n"
 
--- the lines of a level's folder
+-- the lines for a level's folder
 abbrev pub level_text : List PlannedText → Level → List ℕ
 level_text plan level = flat_map (link_line level) (links_at plan level)
 
--- the lines of all levels, 0 to 9 and then S
+-- the lines for all levels, 0 to 9 and then S
 abbrev pub plan_text : List PlannedText → List ℕ
 plan_text plan = flat_map (level_text plan) (L0 ∷ L1 ∷ L2 ∷ L3 ∷ L4 ∷ L5 ∷ L6 ∷ L7 ∷ L8 ∷ L9 ∷ S ∷ [])
 
--- texts were added to the texts that lists of bytes hold
+-- these texts were appended
 abbrev pub AddsLinks : {A : Type 0} → List (Vec ℕ A) → List (Vec ℕ A) → List (List ℕ) → Type 0
 AddsLinks old new links = map (λ link. link.items) new ≡ map (λ link. link.items) old ++ links

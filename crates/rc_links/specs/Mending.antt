@@ -1,4 +1,4 @@
--- What folders hold at each moment of their changes, and what the next run makes of that.
+-- What folders hold when only some of their changes were made, and what the next run makes of that.
 use Rattle.std.specs.Prelude.{◌≡◌, ℕ, false, not, ◌&&◌, if◌then◌else◌, List, [], ◌∷◌, ◌++◌}
 use Rattle.std.specs.List.{AllByRecursion, filter, list_any}
 use Rattle.std.specs.Str.{byte}
@@ -13,37 +13,39 @@ use Rattle.rc_links.specs.Kept.{is_link_of}
 use Rattle.rc_links.specs.declared.folders.LinkAction.{LinkAction}
 use Rattle.rc_links.specs.declared.folders.LinkAction.TheVariants.{Make, Remove}
 
--- the entries without this one, or with it
+-- the entries after this one was removed or created
 abbrev pub changed : LinkAction → EntryText → List EntryText → List EntryText
 changed Remove e es = filter (λ other. not (same_entry e other)) es
 changed Make e es = es ++ e ∷ []
 
--- what the folder of a runlevel holds behind changes, each of which changes the folder of its runlevel alone
+-- what the folder of a runlevel holds after changes, of which each applies only to the folder of its runlevel
 abbrev pub held_behind : List ChangeText → Level → List EntryText → List EntryText
 held_behind [] level es = es
 held_behind (c ∷ changes) level es =
     held_behind changes level (if same_level c.level level then changed c.act c.entry es else es)
 
--- a folder behind changes
+-- a folder after changes
 abbrev pub behind : List ChangeText → FolderText → FolderText
 behind changes f = record f { held = held_behind changes f.level f.held }
 
--- each runlevel has one of the folders at most
+-- no two of the folders have the same runlevel
 abbrev pub AreApart : List FolderText → Type 0
 AreApart [] = Unit {0}
 AreApart (f ∷ folders) =
     (list_any (λ (g : FolderText). same_level g.level f.level) folders ≡ false) × AreApart folders
 
--- two folders hold the same entries
+-- the same entries are in both lists
 abbrev pub HoldSame : List EntryText → List EntryText → Type 0
 HoldSame es others = (e : EntryText) → list_any (same_entry e) es ≡ list_any (same_entry e) others
 
--- behind the changes, one more run by the same plan makes of the folder what a whole run makes of it
+-- if only these changes were made, the next run with the same plan leaves the same entries in the folder as a complete
+-- run
 abbrev pub IsMended : List (List ℕ) → List ChangeText → FolderText → Type 0
 IsMended targets changes f =
     HoldSame (settled targets f.planned (behind changes f).held) (settled targets f.planned f.held)
 
--- plan and folder both have a link of the letter to the script, or neither; and none of the folder's is in the way
+-- the plan and the folder both have a link with the letter to the script, or neither has; and no such link of the
+-- folder is in the way
 pub record StaysIn (targets : List (List ℕ)) (letter : ℕ) (name : List ℕ) (f : FolderText) : Type 0 where
   pub both : list_any (is_link_of letter name) f.planned ≡ list_any (is_link_of letter name) f.held
   pub clear : list_any (λ e. is_link_of letter name e && is_in_way targets f.planned e) f.held ≡ false

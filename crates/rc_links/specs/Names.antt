@@ -1,4 +1,4 @@
--- The names that a link may have after its digits.
+-- The names that a link can have after its digits.
 use Rattle.std.specs.Prelude.{ℕ, Bool, false, ◌==◌, ◌||◌, List, [], ◌∷◌}
 use Rattle.std.specs.Str.{byte}
 use Rattle.std.specs.List.{list_all}

@@ -2,7 +2,7 @@
 use Rattle.std.specs.Prelude.{ℕ, List}
 use Rattle.init_words.specs.declared.levels.Level.{Level}
 
--- its name, its numbers, and the runlevels where it starts and stops
+-- its name, its numbers, and the runlevels in which it is started and stopped
 pub record PlannedText : Type 0 where
   pub name : List ℕ
   pub start : ℕ

@@ -1,4 +1,4 @@
--- What a plan of scripts says, and why scripts have none (LSB Core 5.0).
+-- The plan for scripts, and why there is none (LSB Core 5.0).
 use Rattle.std.specs.Prelude.{string_bytes, ◌≡◌, ◌⊎◌, ℕ, ◌<◌, ◌≤◌, List, [], ◌∷◌, map, find, get_or, length, Option}
 use Rattle.std.specs.Prelude.{Some, None}
 use Rattle.std.specs.List.{AllByRecursion}
@@ -13,12 +13,12 @@ use Rattle.rc_links.specs.ScriptText.{ScriptText}
 use Rattle.rc_links.specs.PlannedText.{PlannedText}
 use Rattle.rc_links.specs.Scripts.{double_from, missing_from, needs_of}
 
--- no name is provided twice, and none that is required is missing
+-- no name is provided twice, and no required name is missing
 pub record IsProvided (scripts : List ScriptText) : Type 0 where
   pub single : double_from [] scripts ≡ None
   pub whole : missing_from scripts scripts ≡ None
 
--- the least numbers of the scripts, to start or to stop
+-- these are the least numbers of the scripts, for the start or for the stop
 pub record AreLeast (turn : Phase) (scripts : List ScriptText) (numbers : List ℕ) : Type 0 where
   pub size : length numbers ≡ length scripts
   pub least : IsLeast (length scripts) (needs_of turn scripts) numbers
@@ -31,7 +31,7 @@ IsDeep numbers = (position : ℕ) × (NUMBER_LIMIT < get_or numbers position 0)
 abbrev pub IsShort : PlannedText → Type 0
 IsShort s = (s.start ≤ NUMBER_LIMIT) × (s.stop ≤ NUMBER_LIMIT)
 
--- the plan has the scripts in their order, with their runlevels and their least numbers, none above the limit
+-- the plan has the scripts in order, with their runlevels and their least numbers, none above the limit
 pub record IsPlan (scripts : List ScriptText) (plan : List PlannedText) : Type 0 where
   pub provided : IsProvided scripts
   pub names : map (λ s. s.name) plan ≡ map (λ s. s.name) scripts
@@ -41,7 +41,7 @@ pub record IsPlan (scripts : List ScriptText) (plan : List PlannedText) : Type 0
   pub least_stops : AreLeast phase.Stop scripts (map (λ s. s.stop) plan)
   pub short : AllByRecursion IsShort plan
 
--- the script of a name, the first that has it
+-- the first script with this name
 abbrev pub planned_named : List ℕ → List PlannedText → Option PlannedText
 planned_named name plan = find (λ s. bytes_eq s.name name) plan
 
@@ -62,18 +62,18 @@ planned_all (s ∷ scripts) [] stops = []
 planned_all (s ∷ scripts) (start ∷ starts) [] = []
 planned_all (s ∷ scripts) (start ∷ starts) (stop ∷ stops) = planned s start stop ∷ planned_all scripts starts stops
 
--- the names of the scripts at these places
+-- the names of the scripts at these positions
 abbrev pub names_at : List ScriptText → List ℕ → List (List ℕ)
 names_at scripts places = map (λ position. get_or (map (λ s. s.name) scripts) position []) places
 
--- the names are those of a cycle, so that there are no numbers
+-- the names are those of a cycle, and there is no numbering
 pub record IsCycleOf (turn : Phase) (scripts : List ScriptText) (names : List (List ℕ)) : Type 0 where
   pub places : List ℕ
   pub named : names ≡ names_at scripts places
   pub cycle : IsCycle (needs_of turn scripts) places
   pub none : HasNoNumbering (needs_of turn scripts)
 
--- why scripts have no plan: the first check that fails
+-- why scripts have no plan: the first check that fails, in this order
 abbrev pub IsRefused : {A : Type 0} → List ScriptText → PlanFault A → Type 0
 IsRefused scripts (fault.DoubleProvide name) = double_from [] scripts ≡ Some (string_bytes name)
 IsRefused scripts (fault.Missing name) =

@@ -1,4 +1,4 @@
--- Sets of names and of entries of folders.
+-- Sets of names, of folders' entries, and of links.
 use Rattle.std.specs.Prelude.{◌≡◌, ℕ, Bool, true, false, not, ◌&&◌, if◌then◌else◌, List, map, nat_eq}
 use Rattle.std.specs.Borrow.{Bor}
 use Rattle.std.specs.List.{filter, list_any}
@@ -15,7 +15,7 @@ use Rattle.init_words.specs.declared.levels.Level.{Level}
 abbrev pub NameSet : Type 0 → Type 0
 NameSet S = IndexSet (Bor (List ℕ)) S
 
--- names with where they lead
+-- pairs of a name and a target
 abbrev pub EntrySet : Type 0 → Type 0
 EntrySet S = IndexSet (Bor (List ℕ) × Bor (List ℕ)) S
 
@@ -27,68 +27,68 @@ is_among names name = contains_by (λ key. bytes_eq name key.now) names
 abbrev pub is_entry_of : {S : Type 0} → EntrySet S → EntryText → Bool
 is_entry_of entries e = contains_by (λ key. bytes_eq e.name key.0.now && bytes_eq e.leads key.1.now) entries
 
--- the set gained the name
+-- the name was added to the set
 abbrev pub GainsName : {S : Type 0} → NameSet S → NameSet S → List ℕ → Type 0
 GainsName old new given =
     (name : List ℕ) → is_among new name ≡ (if bytes_eq given name then true else is_among old name)
 
--- the set gained the entry
+-- the entry was added to the set
 abbrev pub GainsEntry : {S : Type 0} → EntrySet S → EntrySet S → EntryText → Type 0
 GainsEntry old new given =
     (e : EntryText) → is_entry_of new e ≡ (if same_entry given e then true else is_entry_of old e)
 
--- the set has these names
+-- the set has exactly these names
 abbrev pub HasNames : {S : Type 0} → NameSet S → List (List ℕ) → Type 0
 HasNames set names = (name : List ℕ) → is_among set name ≡ list_any (bytes_eq name) names
 
--- the set has the names of these entries
+-- the set has exactly the names of these entries
 abbrev pub HasNamesOf : {S : Type 0} → NameSet S → List EntryText → Type 0
 HasNamesOf set entries = (name : List ℕ) → is_among set name ≡ has_name name entries
 
--- the set has these entries
+-- the set has exactly these entries
 abbrev pub HasEntries : {S : Type 0} → EntrySet S → List EntryText → Type 0
 HasEntries set entries = (e : EntryText) → is_entry_of set e ≡ list_any (same_entry e) entries
 
--- a numbered link that leads to one of the places
+-- a numbered link with one of the targets
 abbrev pub leads_among : {S : Type 0} → NameSet S → EntryText → Bool
 leads_among targets e = is_numbered e.name && is_among targets e.leads
 
--- an entry that has one of the names, and is no such link
+-- an entry that has one of the names and is not such a link
 abbrev pub is_taken_by : {R S : Type 0} → NameSet R → NameSet S → EntryText → Bool
 is_taken_by targets names e = is_among names e.name && not (leads_among targets e)
 
--- the entry leads to an init script that has none of the names
+-- the entry points to an init script with none of the names
 abbrev pub is_gone_by : {S : Type 0} → NameSet S → EntryText → Bool
 is_gone_by names e = is_name (target_in e.leads) && not (is_among names (target_in e.leads))
 
--- such a link, which is none of the plan's
+-- such a link that is not in the plan
 abbrev pub is_stale_by : {R S : Type 0} → NameSet R → EntrySet S → EntryText → Bool
 is_stale_by targets planned e = leads_among targets e && not (is_entry_of planned e)
 
--- and whose name one of the plan has, or none has
+-- it is to be removed: with `true`, if some link of the plan has its name; with `false`, if none has
 abbrev pub is_removed_by : {R S T : Type 0} → Bool → NameSet R → EntrySet S → NameSet T → EntryText → Bool
 is_removed_by true targets planned names e = is_stale_by targets planned e && is_among names e.name
 is_removed_by false targets planned names e = is_stale_by targets planned e && not (is_among names e.name)
 
--- numbered links, each by its letter and the name of its script
+-- numbered links, each represented by its letter and the name of its script
 abbrev pub LinkSet : Type 0 → Type 0
 LinkSet S = IndexSet (ℕ × Bor (List ℕ)) S
 
--- the set has a link of the letter to the script of a name
+-- the set has a link with the letter to the script of this name
 abbrev pub has_link : {S : Type 0} → ℕ → List ℕ → LinkSet S → Bool
 has_link letter name links = contains_by (λ key. nat_eq letter key.0 && bytes_eq name key.1.now) links
 
--- the set gained the link that the entry is, if it is one
+-- the entry was added to the set of links, if it is a numbered link
 abbrev pub GainsLink : {S : Type 0} → LinkSet S → LinkSet S → EntryText → Type 0
 GainsLink old new e = (letter : ℕ) (name : List ℕ)
     → has_link letter name new ≡ (if is_link_of letter name e then true else has_link letter name old)
 
--- the set has the links among these entries
+-- the set has exactly the links among these entries
 abbrev pub HasLinks : {S : Type 0} → LinkSet S → List EntryText → Type 0
 HasLinks links entries = (letter : ℕ) (name : List ℕ)
     → has_link letter name links ≡ list_any (is_link_of letter name) entries
 
--- the runlevels where a set has such a link
+-- the runlevels whose set has such a link
 abbrev pub levels_by : {S : Type 0} → ℕ → List ℕ → List (Level × LinkSet S) → List Level
 levels_by letter name links = map (λ pair. pair.0) (filter (λ pair. has_link letter name pair.1) links)
 

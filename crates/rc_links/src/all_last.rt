@@ -1,6 +1,7 @@
-//! `$all` as a facility: what names it comes behind all that don't, to start, and in front of them to stop.
+//! `$all` as a facility: scripts that name it come after all others at the start, and before them at the stop.
 //!
-//! Tested by `tools/pages.d/rclinks`. Each function is its definition in `specs/AllLast` and may be written otherwise.
+//! It is tested by `tools/pages.d/rclinks`. The contract of each function is its definition in `specs/AllLast`, so that
+//! its body can be changed freely.
 
 ghost use Rattle.std.specs.Prelude.{◌≡◌, ◌++◌, ◌∷◌, map, string_bytes, IfOk, IfErr, OnOk};
 ghost use Rattle.std.specs.List.{list_any};
@@ -10,10 +11,10 @@ ghost use Rattle.rc_links.specs.Scripts.{has_name};
 use crate::needs::Phase;
 use crate::scripts::Script;
 use init_words::Memory;
-use rc_header::Header;
+use lsb_header::Header;
 use std::alloc::Allocator;
 
-/// The name is one of these.
+/// Reports whether the name is one of these.
 pub fn has_name<A: Allocator>(name: &str, names: &[String<A>]) -> bool
     ensures { result ≡ has_name name.now (map string_bytes names.now) }
 {
@@ -31,7 +32,7 @@ fn has_all<A: Allocator>(names: &[String<A>]) -> bool
     has_name("$all", names)
 }
 
-/// The script names `$all`, to start or to stop.
+/// Reports whether the script names `$all` for its start, or for its stop.
 fn names_all<A: Allocator>(phase: Phase, script: &Script<A>) -> bool
     ensures { result ≡ names_all phase script.now }
 {
@@ -42,14 +43,14 @@ fn names_all<A: Allocator>(phase: Phase, script: &Script<A>) -> bool
     }
 }
 
-/// One of the scripts does.
+/// Reports whether one of the scripts names `$all`.
 fn is_named<A: Allocator>(phase: Phase, scripts: &[Script<A>]) -> bool
     ensures { result ≡ list_any (names_all phase) scripts.now }
 {
     scripts.iter().any(|script| names_all(phase, script))
 }
 
-/// Adds names.
+/// Appends copies of names.
 fn add_names<A: Allocator + Copy>(
     alloc: A,
     names: &mut Vec<String<A>, A>,
@@ -64,7 +65,7 @@ fn add_names<A: Allocator + Copy>(
     Ok(())
 }
 
-/// Adds the names that a script provides, where it doesn't name `$all`.
+/// Adds the names that a script provides, unless it names `$all`.
 fn add_other<A: Allocator + Copy>(
     alloc: A,
     names: &mut Vec<String<A>, A>,
@@ -80,7 +81,7 @@ fn add_other<A: Allocator + Copy>(
     add_names(alloc, names, script.header().provides())
 }
 
-/// The names of the scripts that don't name `$all`, where one does.
+/// Returns the names provided by the scripts that do not name `$all`, if another script does.
 fn others<A: Allocator + Copy>(
     alloc: A,
     phase: Phase,
@@ -98,7 +99,7 @@ fn others<A: Allocator + Copy>(
     Ok(names)
 }
 
-/// The facility that provides `$all`.
+/// Returns the facility that provides `$all`.
 fn all_facility<A: Allocator + Copy>(alloc: A, scripts: &[Script<A>]) -> Result<Script<A>, Memory>
     ensures { IfOk result (λ facility. facility ≡ all_facility scripts.now) }
 {
@@ -110,8 +111,8 @@ fn all_facility<A: Allocator + Copy>(alloc: A, scripts: &[Script<A>]) -> Result<
     Ok(Script::new(String::from_str(alloc, "$all")?, header))
 }
 
-/// Puts the facility that provides `$all` in front of the scripts, so that those which name it come last: behind all
-/// others to start, and in front of them to stop. Where memory runs out they stay as they are.
+/// Inserts the facility that provides `$all` before the scripts, so that those which name it come last: after all
+/// others at the start, and before them at the stop. If memory allocation fails, the scripts are unchanged.
 pub fn add_all<A: Allocator + Copy>(alloc: A, scripts: &mut Vec<Script<A>, A>) -> Result<(), Memory>
     ensures added { OnOk result
         (scripts.new.items ≡ all_facility scripts.old.items ∷ scripts.old.items) }

@@ -1,4 +1,4 @@
-//! The changes that make the folders hold just the links of the plan, and the names that are taken.
+//! The changes after which the folders hold exactly the links of the plan, and the names that other entries occupy.
 
 ghost use Rattle.std.specs.Prelude.{◌≡◌, ◌++◌, ℕ, List, not, map, flat_map, take, IfOk, OnOk};
 ghost use Rattle.std.specs.List.{AllByRecursion, filter};
@@ -14,7 +14,7 @@ use crate::sets::{Entries, Names, entries_in, is_among, is_entry_of, names_in, t
 use init_words::Memory;
 use std::alloc::Allocator;
 
-/// `S` or `K`, two digits and one more byte at least.
+/// Reports whether a name is that of a numbered link: `S` or `K`, two digits and at least one more byte.
 pub(crate) fn is_numbered(name: &[u8]) -> bool
     ensures { result ≡ is_numbered name.now }
 {
@@ -26,14 +26,14 @@ pub(crate) fn is_numbered(name: &[u8]) -> bool
     }
 }
 
-/// A numbered link that leads to one of the places of the scripts that are planned.
+/// Reports whether an entry is a numbered link to one of the planned scripts' paths.
 fn is_ours<A: Allocator, B: Allocator>(targets: &Names<'_, A>, entry: &FolderEntry<B>) -> bool
     ensures { result ≡ leads_among targets.now entry.now }
 {
     is_numbered(entry.name()) && is_among(targets, entry.leads())
 }
 
-/// The entries that have one of the names and are no numbered links to a planned script.
+/// Returns the entries that have one of the names and are not numbered links to a planned script.
 fn taken_among<'a, A: Allocator>(
     alloc: A,
     targets: &Names<'_, A>,
@@ -52,7 +52,7 @@ fn taken_among<'a, A: Allocator>(
     Ok(found)
 }
 
-/// The entries of a folder by which a name of the plan is taken: they are no numbered links to a planned script.
+/// Returns the entries of a folder that occupy a name of the plan and are not numbered links to a planned script.
 pub fn taken<'a, A: Allocator + Copy>(
     alloc: A,
     targets: &[Vec<u8, A>],
@@ -67,7 +67,8 @@ pub fn taken<'a, A: Allocator + Copy>(
     Ok(found)
 }
 
-/// A numbered link to a planned script, and none of the plan's, whose name one of the plan has, or none has.
+/// Reports whether an entry is to be removed: it is a numbered link to a planned script but not a link of the plan, and
+/// some link of the plan has its name, or none has, as requested.
 fn is_removed<A: Allocator, B: Allocator>(
     targets: &Names<'_, A>,
     planned: &Entries<'_, A>,
@@ -103,7 +104,7 @@ fn add_removals<A: Allocator + Copy>(
     Ok(())
 }
 
-/// Adds the makings of the plan's links that the folder doesn't hold.
+/// Adds the creation of the plan's links that the folder does not hold.
 fn add_makings<A: Allocator + Copy>(
     alloc: A,
     held: &Entries<'_, A>,
@@ -140,10 +141,10 @@ fn add_folder<A: Allocator + Copy>(
     Ok(())
 }
 
-/// The changes by which the folders hold just the links of the plan, of all numbered links that lead to a planned
-/// script: in each folder those that stand in the way of a name of the plan are taken away, then those of the plan are
-/// made, and then the others are taken away. So a script has a link wherever it had one and is to have one, however few
-/// of the changes are made. The scripts' places are given as links lead to them.
+/// Returns the changes after which, of all numbered links to a planned script, the folders hold exactly those of the
+/// plan. In each folder the links that occupy a name of the plan are removed first, then those of the plan are created,
+/// and then the other ones are removed. So, wherever the changes are interrupted, a script has a link in each folder in
+/// which it had one and is to have one. The scripts' paths are given as links point to them.
 pub fn changes<A: Allocator + Copy>(
     alloc: A,
     targets: &[Vec<u8, A>],
@@ -151,10 +152,11 @@ pub fn changes<A: Allocator + Copy>(
 ) -> Result<Vec<LinkChange<A>, A>, Memory>
     ensures changes { IfOk result (λ found.
         found.items ≡ flat_map (changes_of (targets_of targets.now)) folders.now) }
-    // Whichever first ones of the changes are made, the next run by the plan makes of each folder what it is to be,
+    // If only the first changes are made, however many, the next run with the plan changes each folder to what it is to
+    // be,
     ensures mended { IfOk result (λ found. AreApart folders.now → (count : ℕ)
         → AllByRecursion (IsMended (targets_of targets.now) (take count found.items)) folders.now) }
-    // and a script that the plan leaves in the runlevels of its links has these to read off the folders.
+    // and a script whose links stay in the same runlevels has these runlevels according to the folders at any time.
     ensures kept { IfOk result (λ found. AreApart folders.now → (count : ℕ) (s : PlannedText)
         → Stays (targets_of targets.now) s.name folders.now
         → kept_script (map (behind (take count found.items)) folders.now) s

@@ -1,21 +1,21 @@
-//! Why init scripts can't be planned, in words.
+//! The reasons why init scripts have no plan, and their messages.
 
 use init_words::Memory;
 use std::alloc::{AllocFailed, Allocator, Global};
 use std::error::Error;
 use std::fmt;
 
-/// Why scripts have no plan: the first check that fails, in this order.
+/// Why scripts have no plan. These are the checks, in order; the first that fails is the fault.
 #[derive(Drop)]
 #[derive_where(Debug, PartialEq, Eq)]
 pub enum PlanFault<A: Allocator = Global> {
-    /// A script provides this name as an earlier one does, or has an earlier one's name.
+    /// A script provides this name, which an earlier one provides, or has the name of an earlier one.
     DoubleProvide(String<A>),
-    /// No script provides this name, and one requires it.
+    /// A script requires this name, and none provides it.
     Missing(String<A>),
-    /// The script of each name needs the next and the last the first, which is the earliest.
+    /// Each script with one of these names needs the next, and the last needs the first, which is the earliest.
     Cycle(Vec<String<A>, A>),
-    /// A number would be above 99.
+    /// A number would be greater than 99.
     TooDeep,
     /// Out of memory.
     Memory,

@@ -1,4 +1,4 @@
-//! The entries of a folder, and where symbolic links lead.
+//! The entries of a folder, and the targets of symbolic links.
 
 ghost use Rattle.std.specs.Prelude.{◌≡◌, IfOk};
 ghost use Rattle.rc_links.specs.Entries.{same_entry, entry_of};
@@ -6,7 +6,7 @@ ghost use Rattle.rc_links.specs.Entries.{same_entry, entry_of};
 use std::alloc::{AllocError, Allocator, Global};
 use std::marker::Model;
 
-/// An entry of a folder: its name, and where it leads if it is a symbolic link.
+/// An entry of a folder: its name, and its target if it is a symbolic link.
 #[derive(Drop)]
 pub struct FolderEntry<A: Allocator = Global> {
     name: Vec<u8, A>,
@@ -22,21 +22,21 @@ impl<A: Allocator> Model for FolderEntry<A> {
 }
 
 impl<A: Allocator> FolderEntry<A> {
-    /// An entry of this name that leads there; to no byte where it is no symbolic link.
+    /// Creates an entry with this name and target. The target is empty if it is not a symbolic link.
     pub fn new(name: Vec<u8, A>, leads: Vec<u8, A>) -> FolderEntry<A>
         ensures { result ≡ entry_of name.items leads.items }
     {
         FolderEntry { name, leads }
     }
 
-    /// Its name.
+    /// Returns the name.
     pub fn name(&self) -> &[u8]
         ensures { result.now ≡ self.now.name }
     {
         self.name.as_slice()
     }
 
-    /// Where it leads; no byte where it is no symbolic link.
+    /// Returns the target, which is empty if the entry is not a symbolic link.
     pub fn leads(&self) -> &[u8]
         ensures { result.now ≡ self.now.leads }
     {
@@ -45,7 +45,7 @@ impl<A: Allocator> FolderEntry<A> {
 }
 
 impl<A: Allocator + Copy> FolderEntry<A> {
-    /// The same entry once more.
+    /// Copies the entry.
     pub fn copy(&self, alloc: A) -> Result<FolderEntry<A>, AllocError>
         ensures { IfOk result (λ copied. copied ≡ self.now) }
     {
@@ -55,7 +55,7 @@ impl<A: Allocator + Copy> FolderEntry<A> {
     }
 }
 
-/// Two entries have one name and lead to one place.
+/// Reports whether two entries have the same name and the same target.
 pub fn is_same<A: Allocator>(one: &FolderEntry<A>, other: &FolderEntry<A>) -> bool
     ensures { result ≡ same_entry one.now other.now }
 {

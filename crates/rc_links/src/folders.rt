@@ -1,4 +1,4 @@
-//! A runlevel's folder as it stands and as it is planned, and the changes that lead from the one to the other.
+//! The present and the planned contents of a runlevel's folder, and changes of it.
 
 ghost use Rattle.std.specs.Prelude.{◌≡◌};
 ghost use Rattle.rc_links.specs.Folders.{change_of, folder_text};
@@ -29,7 +29,7 @@ impl<A: Allocator> Model for Folder<A> {
 }
 
 impl<A: Allocator> Folder<A> {
-    /// The folder of a runlevel, with the links that the plan has there and the entries that it holds.
+    /// Creates the folder of a runlevel, from the links that the plan has there and the entries that it holds.
     pub fn new(
         level: Level,
         planned: Vec<FolderEntry<A>, A>,
@@ -44,21 +44,21 @@ impl<A: Allocator> Folder<A> {
         }
     }
 
-    /// Its runlevel.
+    /// Returns the runlevel.
     pub fn level(&self) -> Level
         ensures { result ≡ self.now.level }
     {
         self.level
     }
 
-    /// The links that the plan has there.
+    /// Returns the links that the plan has in the folder.
     pub fn planned(&self) -> &[FolderEntry<A>]
         ensures { result.now ≡ self.now.planned }
     {
         self.planned.as_slice()
     }
 
-    /// The entries that it holds.
+    /// Returns the entries that the folder holds.
     pub fn held(&self) -> &[FolderEntry<A>]
         ensures { result.now ≡ self.now.held }
     {
@@ -69,9 +69,9 @@ impl<A: Allocator> Folder<A> {
 /// What is done with an entry.
 #[derive(Clone, Copy, PartialEq, Eq, Debug)]
 pub enum LinkAction {
-    /// It is taken away.
+    /// Remove it.
     Remove,
-    /// It is made.
+    /// Create it.
     Make,
 }
 
@@ -92,28 +92,28 @@ impl<A: Allocator> Model for LinkChange<A> {
 }
 
 impl<A: Allocator> LinkChange<A> {
-    /// A change of the folder of a runlevel.
+    /// Creates a change of the folder of a runlevel.
     pub(crate) fn new(act: LinkAction, level: Level, entry: FolderEntry<A>) -> LinkChange<A>
         ensures { result ≡ change_of act level entry }
     {
         LinkChange { act, level, entry }
     }
 
-    /// What is done.
+    /// Returns what is done.
     pub fn act(&self) -> LinkAction
         ensures { result ≡ self.now.act }
     {
         self.act
     }
 
-    /// The runlevel of the folder.
+    /// Returns the runlevel of the folder.
     pub fn level(&self) -> Level
         ensures { result ≡ self.now.level }
     {
         self.level
     }
 
-    /// The entry.
+    /// Returns the entry.
     pub fn entry(&self) -> &FolderEntry<A>
         ensures { result.now ≡ self.now.entry }
     {

@@ -1,4 +1,4 @@
-//! The runlevels of the links that folders hold, in the place of those of the headers; and links whose script is gone.
+//! Plans that use the runlevels of existing links instead of those in the headers; and links whose script is gone.
 
 ghost use Rattle.std.specs.Prelude.{◌≡◌, List, map, IfOk, OnOk};
 ghost use Rattle.std.specs.List.{filter};
@@ -17,20 +17,20 @@ use init_words::{Level, Memory};
 use std::alloc::Allocator;
 use std::hash::{BuildHasherDefault, FoldHasher};
 
-/// Numbered links, each by its letter and the name of its script.
+/// Numbered links, each represented by its letter and the name of its script.
 type Links<'a, A> = IndexSet<(u8, &'a [u8]), BuildHasherDefault<FoldHasher>, A>;
 
-/// A runlevel, and the numbered links of its folder.
+/// A runlevel, and the numbered links in its folder.
 type LevelLinks<'a, A> = (Level, Links<'a, A>);
 
-/// The name behind `../init.d/`; nothing where the place begins in another way.
+/// Returns the name after `../init.d/`, or an empty name if the target begins differently.
 fn target_in(leads: &[u8]) -> &[u8]
     ensures { result.now ≡ target_in leads.now }
 {
     leads.strip_prefix(b"../init.d/").unwrap_or(&[])
 }
 
-/// Adds the letter and the script of an entry that is a numbered link.
+/// Adds the letter and the script of an entry, if it is a numbered link.
 fn add_link<'a, A: Allocator + Copy>(
     links: &mut Links<'a, A>,
     entry: &'a FolderEntry<A>,
@@ -45,7 +45,7 @@ fn add_link<'a, A: Allocator + Copy>(
     Ok(())
 }
 
-/// The numbered links of these entries.
+/// Returns the numbered links among these entries.
 fn links_in<A: Allocator + Copy>(
     alloc: A,
     entries: &[FolderEntry<A>],
@@ -59,14 +59,14 @@ fn links_in<A: Allocator + Copy>(
     Ok(links)
 }
 
-/// A link of the letter to the script of a name is there.
+/// Reports whether there is a link with the letter to the script of this name.
 fn has_link<A: Allocator>(links: &Links<'_, A>, letter: u8, name: &[u8]) -> bool
     ensures { result ≡ has_link letter name.now links.now }
 {
     links.contains(&(letter, name))
 }
 
-/// The numbered links of each folder.
+/// Returns the numbered links of each folder.
 fn all_links<A: Allocator + Copy>(
     alloc: A,
     folders: &[Folder<A>],
@@ -80,7 +80,7 @@ fn all_links<A: Allocator + Copy>(
     Ok(found)
 }
 
-/// The runlevels where there is such a link.
+/// Returns the runlevels in which there is such a link.
 fn levels_in<A: Allocator>(
     alloc: A,
     letter: u8,
@@ -98,14 +98,14 @@ fn levels_in<A: Allocator>(
     Ok(levels)
 }
 
-/// There are no runlevels.
+/// Reports whether there are no runlevels.
 fn is_nowhere(starts: &[Level], stops: &[Level]) -> bool
     ensures { result ≡ is_nowhere starts.now stops.now }
 {
     matches!((starts, stops), ([], []))
 }
 
-/// The script with the runlevels of its links, where it has some.
+/// Returns the script with the runlevels of its links, if it has any.
 fn kept_script<A: Allocator + Copy>(
     alloc: A,
     links: &[LevelLinks<'_, A>],
@@ -129,8 +129,8 @@ fn kept_script<A: Allocator + Copy>(
 }
 
 impl<A: Allocator + Copy> Plan<A> {
-    /// The same numbers, and of each script that has numbered links in the folders the runlevels of those: it starts
-    /// where it has one of `S`, and stops where it has one of `K`.
+    /// Returns a plan with the same numbers. A script that has numbered links in the folders has the runlevels of
+    /// these: it is started where it has an `S` link, and stopped where it has a `K` link.
     pub fn kept(&self, alloc: A, folders: &[Folder<A>]) -> Result<Plan<A>, Memory>
         ensures { IfOk result (λ plan. plan ≡ kept_plan folders.now self.now) }
     {
@@ -143,7 +143,7 @@ impl<A: Allocator + Copy> Plan<A> {
     }
 }
 
-/// The entries that lead to an init script that has none of the names.
+/// Returns the entries that point to an init script with none of the names.
 fn gone_among<'a, A: Allocator>(
     alloc: A,
     names: &Names<'_, A>,
@@ -162,7 +162,7 @@ fn gone_among<'a, A: Allocator>(
     Ok(found)
 }
 
-/// The entries of a folder that lead to an init script that is none of these.
+/// Returns the entries of a folder that point to an init script which is none of these.
 pub fn gone<'a, A: Allocator + Copy>(
     alloc: A,
     scripts: &[FolderEntry<A>],

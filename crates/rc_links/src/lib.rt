@@ -1,5 +1,5 @@
-//! The order in which init scripts are started and stopped: each script's least start and stop number, or the
-//! cycle of names that rules numbers out (LSB Core 5.0), and the links of the runlevels' folders.
+//! The order in which init scripts are started and stopped: the least start and stop number of each script, or a cycle
+//! of names that makes numbers impossible (LSB Core 5.0); and the links in the runlevels' folders.
 #![tactic(auto)]
 
 mod all_last;

@@ -4,7 +4,7 @@ ghost use Rattle.std.specs.Prelude.{◌≡◌};
 ghost use Rattle.std.specs.List.{list_all};
 ghost use Rattle.rc_links.specs.Names.{is_name, is_name_byte};
 
-/// A byte of a name that a link may have: one of `A-Z a-z 0-9 . _ -`.
+/// Reports whether a byte is allowed in the name of a link: `A-Z a-z 0-9 . _ -`.
 pub fn is_name_byte(byte: u8) -> bool
     ensures { result ≡ is_name_byte byte }
 {
@@ -17,7 +17,7 @@ fn has_name_bytes(name: &[u8]) -> bool
     name.iter().all(|byte| is_name_byte(*byte))
 }
 
-/// A name that a link may have after its digits: one or more such bytes.
+/// Reports whether a name can follow the digits of a link: one or more such bytes.
 pub fn is_name(name: &[u8]) -> bool
     ensures { result ≡ is_name name.now }
 {

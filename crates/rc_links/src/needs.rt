@@ -10,14 +10,15 @@ use crate::tables::{Providers, position_at};
 use init_words::Memory;
 use std::alloc::Allocator;
 
-/// What scripts are put in order for.
+/// What scripts are ordered for.
 #[derive(Clone, Copy, PartialEq, Eq)]
 pub(crate) enum Phase {
     Start,
     Stop,
 }
 
-/// Who needs whom, where the script at this place names another: to start, it the other; to stop, the other it.
+/// Returns the need if the script at this position names another one: at the start it needs the other; at the stop the
+/// other needs it.
 fn need(phase: Phase, position: usize, other: usize) -> (usize, usize)
     ensures { result ≡ need phase position other }
 {
@@ -27,7 +28,7 @@ fn need(phase: Phase, position: usize, other: usize) -> (usize, usize)
     }
 }
 
-/// Adds who needs whom, where the script at this place gives these names.
+/// Adds the needs for the names that the script at this position gives.
 fn add_names<A: Allocator, B: Allocator>(
     edges: &mut Vec<(usize, usize), A>,
     phase: Phase,
@@ -46,7 +47,7 @@ fn add_names<A: Allocator, B: Allocator>(
     Ok(())
 }
 
-/// Adds who needs whom by the names of a script's header.
+/// Adds the needs for the names in a script's header.
 fn add_script<A: Allocator>(
     edges: &mut Vec<(usize, usize), A>,
     phase: Phase,
@@ -70,7 +71,7 @@ fn add_script<A: Allocator>(
     }
 }
 
-/// Who needs whom, of all scripts.
+/// Returns the needs of all scripts.
 pub(crate) fn needs<A: Allocator + Copy>(
     alloc: A,
     phase: Phase,

@@ -1,9 +1,9 @@
-//! The number of each script, or why there is none.
+//! Gives each script its numbers, or says why that is impossible.
 
 ghost use Rattle.std.specs.Prelude.{◌≡◌, ◌≤◌, ◌<◌, IfOk, IfErr, IfSome, IfNone, None, length, map, string_bytes};
 ghost use Rattle.std.specs.List.{AllByRecursion};
 ghost use Rattle.rc_numbers.specs.Numbering.{AllBelow};
-ghost use Rattle.rc_links.specs.Faults.{IsAnyDeep, IsRound, IsTooDeep, Says};
+ghost use Rattle.rc_links.specs.Faults.{IsAnyDeep, IsRound, IsTooDeep, FaultSatisfies};
 ghost use Rattle.rc_links.specs.Plans.{AreLeast, IsPlan, IsRefused, IsShort, names_at, planned, planned_all};
 ghost use Rattle.rc_links.specs.Tables.{HasPlaces};
 
@@ -19,7 +19,7 @@ use std::alloc::Allocator;
 /// The greatest number of a link.
 const NUMBER_LIMIT: usize = 99;
 
-/// The names of the scripts at these places.
+/// Returns the names of the scripts at these positions.
 fn names_at<A: Allocator + Copy>(
     alloc: A,
     scripts: &[Script<A>],
@@ -36,7 +36,7 @@ fn names_at<A: Allocator + Copy>(
     Ok(names)
 }
 
-/// The least numbers of the scripts, or the fault of a cycle.
+/// Returns the least numbers of the scripts, or the fault of a cycle.
 fn numbered<A: Allocator + Copy>(
     alloc: A,
     phase: Phase,
@@ -45,7 +45,7 @@ fn numbered<A: Allocator + Copy>(
 ) -> Result<Vec<usize, A>, PlanFault<A>>
     requires { HasPlaces scripts.now table.now }
     ensures least { IfOk result (λ numbers. AreLeast phase scripts.now numbers.items) }
-    ensures round { IfErr result (Says (IsRound phase scripts.now)) }
+    ensures round { IfErr result (FaultSatisfies (IsRound phase scripts.now)) }
 {
     let edges = needs(alloc, phase, scripts, table)?;
     match ordered(alloc, scripts.len(), edges.as_slice())? {
@@ -54,7 +54,7 @@ fn numbered<A: Allocator + Copy>(
     }
 }
 
-/// A number as a link has it, where it is not too great.
+/// Returns a number in the form of a link, if it is not too great.
 fn link_number(number: usize) -> Option<u8>
     ensures some { IfSome result (λ given. (given ≡ number) × (number ≤ NUMBER_LIMIT)) }
     ensures deep { IfNone result (NUMBER_LIMIT < number) }
@@ -65,7 +65,7 @@ fn link_number(number: usize) -> Option<u8>
     Some(number as u8)
 }
 
-/// A script with these numbers.
+/// Returns a script with these numbers.
 fn planned<A: Allocator + Copy>(
     alloc: A,
     script: &Script<A>,
@@ -84,7 +84,7 @@ fn planned<A: Allocator + Copy>(
     })
 }
 
-/// A script with these numbers, where they are not too great.
+/// Returns a script with these numbers, if they are not too great.
 fn with_numbers<A: Allocator + Copy>(
     alloc: A,
     script: &Script<A>,
@@ -93,7 +93,7 @@ fn with_numbers<A: Allocator + Copy>(
 ) -> Result<Planned<A>, PlanFault<A>>
     ensures planned { IfOk result (λ s. s ≡ planned script.now start stop) }
     ensures short { IfOk result IsShort }
-    ensures deep { IfErr result (Says (IsTooDeep start stop)) }
+    ensures deep { IfErr result (FaultSatisfies (IsTooDeep start stop)) }
 {
     let (Some(start), Some(stop)) = (link_number(start), link_number(stop)) else {
         return Err(PlanFault::TooDeep);
@@ -101,7 +101,7 @@ fn with_numbers<A: Allocator + Copy>(
     Ok(planned(alloc, script, start, stop)?)
 }
 
-/// The scripts with these numbers, where they are not too great.
+/// Returns the scripts with these numbers, if they are not too great.
 fn planned_all<A: Allocator + Copy>(
     alloc: A,
     scripts: &[Script<A>],
@@ -113,7 +113,7 @@ fn planned_all<A: Allocator + Copy>(
     ensures planned { IfOk result (λ plan.
         plan.items ≡ planned_all scripts.now starts.now stops.now) }
     ensures short { IfOk result (λ plan. AllByRecursion IsShort plan.items) }
-    ensures deep { IfErr result (Says (IsAnyDeep starts.now stops.now)) }
+    ensures deep { IfErr result (FaultSatisfies (IsAnyDeep starts.now stops.now)) }
 {
     let mut plan = Vec::new(alloc);
     for position in 0..scripts.len() {
@@ -123,7 +123,7 @@ fn planned_all<A: Allocator + Copy>(
     Ok(plan)
 }
 
-/// Gives each script its least numbers, or says which check fails first.
+/// Gives each script its least numbers, or returns the first check that fails.
 pub fn plan<A: Allocator + Copy>(alloc: A, scripts: &[Script<A>]) -> Result<Plan<A>, PlanFault<A>>
     ensures planned { IfOk result (λ plan. IsPlan scripts.now plan) }
     ensures refused { IfErr result (λ fault. IsRefused scripts.now fault) }

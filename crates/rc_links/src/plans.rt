@@ -12,13 +12,13 @@ use std::marker::Model;
 pub(crate) struct Planned<A: Allocator> {
     /// The name of its file.
     pub(crate) name: String<A>,
-    /// The number by which it starts.
+    /// Its start number.
     pub(crate) start: u8,
-    /// The number by which it stops.
+    /// Its stop number.
     pub(crate) stop: u8,
-    /// The runlevels where it starts.
+    /// The runlevels in which it is started.
     pub(crate) starts: Vec<Level, A>,
-    /// The runlevels where it stops.
+    /// The runlevels in which it is stopped.
     pub(crate) stops: Vec<Level, A>,
 }
 
@@ -38,7 +38,7 @@ impl<A: Allocator> Model for Planned<A> {
 }
 
 impl<A: Allocator + Copy> Planned<A> {
-    /// The same script once more.
+    /// Copies the script.
     pub(crate) fn copy(&self, alloc: A) -> Result<Planned<A>, AllocError>
         ensures { IfOk result (λ copied. copied ≡ self.now) }
     {
@@ -52,10 +52,10 @@ impl<A: Allocator + Copy> Planned<A> {
     }
 }
 
-/// The least numbers of some scripts, and the runlevels where they start and stop.
+/// The least numbers of some scripts, and the runlevels in which they are started and stopped.
 #[derive(Drop)]
 pub struct Plan<A: Allocator = Global> {
-    /// In the order in which they were given.
+    /// The scripts, in the order in which they were given.
     pub(crate) scripts: Vec<Planned<A>, A>,
 }
 
@@ -69,14 +69,14 @@ impl<A: Allocator> Model for Plan<A> {
 }
 
 impl<A: Allocator> Plan<A> {
-    /// The number by which the script of this name starts, 1 to 99; none where the plan has no such script.
+    /// Returns the start number of the script with this name, 1 to 99, or `None` if the plan has no such script.
     pub fn start_number(&self, name: &str) -> Option<u8>
         ensures { result ≡ option_map (λ s. s.start) (planned_named name.now self.now) }
     {
         Some(self.script_named(name)?.start)
     }
 
-    /// The number by which the script of this name stops, 1 to 99; none where the plan has no such script.
+    /// Returns the stop number of the script with this name, 1 to 99, or `None` if the plan has no such script.
     pub fn stop_number(&self, name: &str) -> Option<u8>
         ensures { result ≡ option_map (λ s. s.stop) (planned_named name.now self.now) }
     {

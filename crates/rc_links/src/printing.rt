@@ -1,4 +1,4 @@
-//! The links of a plan, a runlevel's folder a line.
+//! The links of a plan, and the lines that list them.
 
 ghost use Rattle.std.specs.Prelude.{◌≡◌, ◌++◌, map, flat_map, [], ◌∷◌, IfOk, OnOk};
 ghost use Rattle.rc_links.specs.Links.{AddsLinks, has_level, in_byte_order, level_text, link_line, link_of, linked_name, links_at, plan_text, start_links, stop_links};
@@ -22,7 +22,7 @@ pub const LEVELS: [Level; 11] = [
     Level::S,
 ];
 
-/// A link: its letter, its number in two digits and the script's name.
+/// Returns the name of a link: its letter, its number in two digits and the script's name.
 fn link_of<A: Allocator>(
     alloc: A,
     letter: u8,
@@ -39,14 +39,14 @@ fn link_of<A: Allocator>(
     Ok(link)
 }
 
-/// The level is one of these.
+/// Reports whether the level is one of these.
 fn has_level(levels: &[Level], level: Level) -> bool
     ensures { result ≡ has_level level levels.now }
 {
     levels.contains(&level)
 }
 
-/// The links of the scripts that stop at a runlevel.
+/// Returns the links of the scripts that are stopped in a runlevel.
 fn stop_links<A: Allocator + Copy>(
     alloc: A,
     scripts: &[Planned<A>],
@@ -64,7 +64,7 @@ fn stop_links<A: Allocator + Copy>(
     Ok(links)
 }
 
-/// The links of the scripts that start at a runlevel.
+/// Returns the links of the scripts that are started in a runlevel.
 fn start_links<A: Allocator + Copy>(
     alloc: A,
     scripts: &[Planned<A>],
@@ -82,14 +82,14 @@ fn start_links<A: Allocator + Copy>(
     Ok(links)
 }
 
-/// The script's name in a link.
+/// Returns the script's name in the name of a link.
 pub fn linked_name(link: &[u8]) -> &[u8]
     ensures { result.now ≡ linked_name link.now }
 {
     link.get(3..).unwrap_or(&[])
 }
 
-/// Appends a link's line.
+/// Appends the line for a link.
 fn add_line<A: Allocator>(text: &mut Vec<u8, A>, level: Level, link: &[u8]) -> Result<(), Memory>
     ensures { OnOk result (text.new.items ≡ text.old.items ++ link_line level link.now) }
 {
@@ -103,7 +103,7 @@ fn add_line<A: Allocator>(text: &mut Vec<u8, A>, level: Level, link: &[u8]) -> R
     Ok(())
 }
 
-/// Puts links into byte order.
+/// Sorts links in byte order.
 fn sort_links<A: Allocator>(links: &mut Vec<Vec<u8, A>, A>)
     ensures { map (λ link. link.items) links.new.items
         ≡ in_byte_order (map (λ link. link.items) links.old.items) }
@@ -111,7 +111,7 @@ fn sort_links<A: Allocator>(links: &mut Vec<Vec<u8, A>, A>)
     links.sort_unstable();
 }
 
-/// Moves links to the end of others, in byte order.
+/// Sorts links in byte order and appends them to others.
 fn add_sorted<A: Allocator>(
     links: &mut Vec<Vec<u8, A>, A>,
     mut more: Vec<Vec<u8, A>, A>,
@@ -124,7 +124,7 @@ fn add_sorted<A: Allocator>(
     Ok(())
 }
 
-/// Appends the lines of links at a runlevel.
+/// Appends the lines for links in a runlevel.
 fn add_lines<A: Allocator>(
     text: &mut Vec<u8, A>,
     level: Level,
@@ -140,7 +140,7 @@ fn add_lines<A: Allocator>(
 }
 
 impl<A: Allocator + Copy> Plan<A> {
-    /// The links of a runlevel's folder: those that stop, then those that start, each set in byte order.
+    /// Returns the links in a runlevel's folder: those that stop, then those that start, each group in byte order.
     pub fn links_at(&self, alloc: A, level: Level) -> Result<Vec<Vec<u8, A>, A>, Memory>
         ensures { IfOk result (λ links.
             map (λ link. link.items) links.items ≡ links_at self.now level) }
@@ -157,7 +157,7 @@ impl<A: Allocator + Copy> Plan<A> {
         Ok(links)
     }
 
-    /// The names of the scripts, in the order in which they were given.
+    /// Returns the names of the scripts, in the order in which they were given.
     pub fn names(&self, alloc: A) -> Result<Vec<Vec<u8, A>, A>, Memory>
         ensures { IfOk result (λ names.
             map (λ name. name.items) names.items ≡ map (λ s. s.name) self.now) }
@@ -169,8 +169,8 @@ impl<A: Allocator + Copy> Plan<A> {
         Ok(names)
     }
 
-    /// The links of all runlevels, one a line: for each of 0 to 9 and S those that stop, then those that start, each
-    /// set in byte order.
+    /// Returns the links of all runlevels, one per line: for each of 0 to 9 and S those that stop, then those that
+    /// start, each group in byte order.
     pub fn print(&self, alloc: A) -> Result<Vec<u8, A>, Memory>
         ensures { IfOk result (λ text. text.items ≡ plan_text self.now) }
     {

@@ -2,11 +2,11 @@
 
 ghost use Rattle.std.specs.Prelude.{◌≡◌, string_bytes};
 
-use rc_header::Header;
+use lsb_header::Header;
 use std::alloc::{Allocator, Global};
 use std::marker::Model;
 
-/// An init script: its file's name and its header.
+/// An init script: the name of its file and its header.
 #[derive(Drop)]
 pub struct Script<A: Allocator = Global> {
     name: String<A>,
@@ -23,21 +23,21 @@ impl<A: Allocator> Model for Script<A> {
 }
 
 impl<A: Allocator> Script<A> {
-    /// A script of this name and header.
+    /// Creates a script with this name and header.
     pub fn new(name: String<A>, header: Header<A>) -> Script<A>
         ensures { result ≡ record { name = string_bytes name; header = header } }
     {
         Script { name, header }
     }
 
-    /// The name of its file.
+    /// Returns the name of its file.
     pub fn name(&self) -> &str
         ensures { result.now ≡ self.now.name }
     {
         self.name.as_str()
     }
 
-    /// Its header.
+    /// Returns its header.
     pub fn header(&self) -> &Header<A>
         ensures { result.now ≡ self.now.header }
     {

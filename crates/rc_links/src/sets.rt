@@ -1,4 +1,4 @@
-//! Names, and entries of folders, each found in one step.
+//! Sets of names, and of folders' entries, which are searched in constant time.
 
 ghost use Rattle.std.specs.Prelude.{◌≡◌, IfOk, OnOk};
 ghost use Rattle.rc_links.specs.Changes.{targets_of};
@@ -10,20 +10,20 @@ use init_words::Memory;
 use std::alloc::Allocator;
 use std::hash::{BuildHasherDefault, FoldHasher};
 
-/// Names.
+/// A set of names.
 pub(crate) type Names<'a, A> = IndexSet<&'a [u8], BuildHasherDefault<FoldHasher>, A>;
 
-/// Entries, each by its name and where it leads.
+/// A set of entries, each represented by its name and its target.
 pub(crate) type Entries<'a, A> = IndexSet<(&'a [u8], &'a [u8]), BuildHasherDefault<FoldHasher>, A>;
 
-/// The name is one of these.
+/// Reports whether the set has the name.
 pub(crate) fn is_among<A: Allocator>(names: &Names<'_, A>, name: &[u8]) -> bool
     ensures { result ≡ is_among names.now name.now }
 {
     names.contains(name)
 }
 
-/// The entry is one of these.
+/// Reports whether the set has the entry.
 pub(crate) fn is_entry_of<A: Allocator, B: Allocator>(
     entries: &Entries<'_, A>,
     entry: &FolderEntry<B>,
@@ -50,7 +50,7 @@ fn add_entry<'a, A: Allocator + Copy>(
     Ok(())
 }
 
-/// These names.
+/// Returns the set of these names.
 pub(crate) fn targets_in<A: Allocator + Copy>(
     alloc: A,
     targets: &[Vec<u8, A>],
@@ -64,7 +64,7 @@ pub(crate) fn targets_in<A: Allocator + Copy>(
     Ok(names)
 }
 
-/// The names of these entries.
+/// Returns the set of these entries' names.
 pub(crate) fn names_in<A: Allocator + Copy>(
     alloc: A,
     entries: &[FolderEntry<A>],
@@ -78,7 +78,7 @@ pub(crate) fn names_in<A: Allocator + Copy>(
     Ok(names)
 }
 
-/// These entries.
+/// Returns the set of these entries.
 pub(crate) fn entries_in<A: Allocator + Copy>(
     alloc: A,
     entries: &[FolderEntry<A>],

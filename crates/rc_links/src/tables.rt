@@ -1,10 +1,10 @@
-//! Which script provides which name, and which names nothing provides.
+//! Which script provides which name, and which names no script provides.
 
 ghost use Rattle.std.specs.Prelude.{◌≡◌, [], string_bytes, Some, find, map, None, IfErr, IfOk, OnOk};
 ghost use Rattle.std.specs.Option.{option_map};
-ghost use Rattle.rc_links.specs.Faults.{IsDouble, IsMissing, Says};
+ghost use Rattle.rc_links.specs.Faults.{IsDouble, IsMissing, FaultSatisfies};
 ghost use Rattle.rc_links.specs.Scripts.{double_from, is_system, missing_from};
-ghost use Rattle.rc_links.specs.Tables.{GivesPlace, GivesPlaces, HasNone, HasPlaces, is_known, is_unknown, known_again, position_in, unknown_of};
+ghost use Rattle.rc_links.specs.Tables.{AddsPlace, AddsPlaces, HasNone, HasPlaces, is_known, is_unknown, known_again, position_in, unknown_of};
 
 use crate::faults::PlanFault;
 use crate::scripts::Script;
@@ -13,35 +13,35 @@ use init_words::Memory;
 use std::alloc::Allocator;
 use std::hash::{BuildHasherDefault, FoldHasher};
 
-/// The places of names.
+/// A table of names and the positions of the scripts that provide them.
 pub(crate) type Providers<'a, A> = IndexMap<&'a [u8], usize, BuildHasherDefault<FoldHasher>, A>;
 
-/// The place of a name.
+/// Returns the position for a name.
 pub(crate) fn position_at<A: Allocator>(table: &Providers<'_, A>, name: &[u8]) -> Option<usize>
     ensures { result ≡ position_in table.now name.now }
 {
     table.get(name).copied()
 }
 
-/// Gives a name this place.
+/// Sets the position for a name.
 fn set_place<'a, A: Allocator + Clone>(
     table: &mut Providers<'a, A>,
     name: &'a [u8],
     position: usize,
 ) -> Result<(), Memory>
-    ensures { OnOk result (GivesPlace table.old table.new name.now position) }
+    ensures { OnOk result (AddsPlace table.old table.new name.now position) }
 {
     table.insert(name, position)?;
     Ok(())
 }
 
-/// Gives each name that a script provides its place.
+/// Sets the position for each name that a script provides.
 fn add_provided<'a, A: Allocator + Clone>(
     table: &mut Providers<'a, A>,
     script: &'a Script<A>,
     position: usize,
 ) -> Result<(), Memory>
-    ensures { OnOk result (GivesPlaces table.old table.new script.now.header.provides position) }
+    ensures { OnOk result (AddsPlaces table.old table.new script.now.header.provides position) }
 {
     for name in script.header().provides() {
         set_place(table, name.as_bytes(), position)?;
@@ -49,7 +49,7 @@ fn add_provided<'a, A: Allocator + Clone>(
     Ok(())
 }
 
-/// The first of the names that the table has.
+/// Returns the first of the names that is in the table.
 fn first_known<'s, A: Allocator, B: Allocator>(
     table: &Providers<'_, A>,
     names: &'s [String<B>],
@@ -65,7 +65,7 @@ fn first_known<'s, A: Allocator, B: Allocator>(
     None
 }
 
-/// The first of a script's provided names that is known, or else its own name if it is known as a script's.
+/// Returns the first of a script's provided names that is known, or otherwise its own name if another script has it.
 fn doubled<'s, A: Allocator>(
     script: &'s Script<A>,
     provided: &Providers<'_, A>,
@@ -82,7 +82,7 @@ fn doubled<'s, A: Allocator>(
     None
 }
 
-/// Gives a script's provided names and its own name this place, where none of them has one.
+/// Sets this position for a script's provided names and its own name, if none of them has one.
 fn add_script<'a, A: Allocator + Copy>(
     alloc: A,
     provided: &mut Providers<'a, A>,
@@ -92,10 +92,10 @@ fn add_script<'a, A: Allocator + Copy>(
 ) -> Result<(), PlanFault<A>>
     ensures single { OnOk result (known_again provided.old names.old script.now ≡ None) }
     ensures provided { OnOk result
-        (GivesPlaces provided.old provided.new script.now.header.provides position) }
-    ensures named { OnOk result (GivesPlace names.old names.new script.now.name position) }
+        (AddsPlaces provided.old provided.new script.now.header.provides position) }
+    ensures named { OnOk result (AddsPlace names.old names.new script.now.name position) }
     ensures double { IfErr result
-        (Says (IsDouble (known_again provided.old names.old script.now))) }
+        (FaultSatisfies (IsDouble (known_again provided.old names.old script.now))) }
 {
     if let Some(name) = doubled(script, provided, names) {
         return Err(double_told(alloc, name));
@@ -105,7 +105,7 @@ fn add_script<'a, A: Allocator + Copy>(
     Ok(())
 }
 
-/// Gives the names of each script the script's place.
+/// Sets the position of each script for its names.
 fn add_scripts<'a, A: Allocator + Copy>(
     alloc: A,
     provided: &mut Providers<'a, A>,
@@ -116,7 +116,7 @@ fn add_scripts<'a, A: Allocator + Copy>(
     requires names { HasNone names.old }
     ensures single { OnOk result (double_from [] scripts.now ≡ None) }
     ensures places { OnOk result (HasPlaces scripts.now provided.new) }
-    ensures double { IfErr result (Says (IsDouble (double_from [] scripts.now))) }
+    ensures double { IfErr result (FaultSatisfies (IsDouble (double_from [] scripts.now))) }
 {
     for position in 0..scripts.len() {
         add_script(alloc, provided, names, &scripts[position], position)?;
@@ -124,14 +124,15 @@ fn add_scripts<'a, A: Allocator + Copy>(
     Ok(())
 }
 
-/// The places of the names that scripts provide, none by two scripts; and no two scripts have one name.
+/// Returns the table of the names that scripts provide. Fails if two scripts provide the same name, or have the same
+/// name.
 pub(crate) fn table_of<A: Allocator + Copy>(
     alloc: A,
     scripts: &[Script<A>],
 ) -> Result<Providers<'_, A>, PlanFault<A>>
     ensures single { IfOk result (λ table. double_from [] scripts.now ≡ None) }
     ensures places { IfOk result (λ table. HasPlaces scripts.now table) }
-    ensures double { IfErr result (Says (IsDouble (double_from [] scripts.now))) }
+    ensures double { IfErr result (FaultSatisfies (IsDouble (double_from [] scripts.now))) }
 {
     let mut provided = IndexMap::new(alloc);
     let mut names = IndexMap::new(alloc);
@@ -139,9 +140,9 @@ pub(crate) fn table_of<A: Allocator + Copy>(
     Ok(provided)
 }
 
-/// The fault of a name that is provided twice.
+/// Returns the fault for a name that is provided twice.
 fn double_told<A: Allocator>(alloc: A, name: &str) -> PlanFault<A>
-    ensures { Says (IsDouble (Some name.now)) result }
+    ensures { FaultSatisfies (IsDouble (Some name.now)) result }
 {
     match String::from_str(alloc, name) {
         Ok(name) => PlanFault::DoubleProvide(name),
@@ -149,9 +150,9 @@ fn double_told<A: Allocator>(alloc: A, name: &str) -> PlanFault<A>
     }
 }
 
-/// The fault of a name that is missing.
+/// Returns the fault for a name that is missing.
 fn missing_told<A: Allocator>(alloc: A, name: &str) -> PlanFault<A>
-    ensures { Says (IsMissing (Some name.now)) result }
+    ensures { FaultSatisfies (IsMissing (Some name.now)) result }
 {
     match String::from_str(alloc, name) {
         Ok(name) => PlanFault::Missing(name),
@@ -159,7 +160,7 @@ fn missing_told<A: Allocator>(alloc: A, name: &str) -> PlanFault<A>
     }
 }
 
-/// A name of the system, which may be there without a script (LSB Core 5.0).
+/// Reports whether a name is one of the system, which needs no script (LSB Core 5.0).
 fn is_system(name: &[u8]) -> bool
     ensures { result ≡ is_system name.now }
 {
@@ -169,7 +170,7 @@ fn is_system(name: &[u8]) -> bool
     }
 }
 
-/// The first of the names that no script provides, those of the system apart.
+/// Returns the first of the names that no script provides, except those of the system.
 fn missing_in<'s, A: Allocator, B: Allocator>(
     table: &Providers<'_, A>,
     names: &'s [String<B>],
@@ -185,7 +186,7 @@ fn missing_in<'s, A: Allocator, B: Allocator>(
     None
 }
 
-/// The first name that a script requires and no script provides.
+/// Returns the first name that a script requires and no script provides.
 fn missing_of<'s, A: Allocator>(table: &Providers<'_, A>, script: &'s Script<A>) -> Option<&'s str>
     ensures { option_map (λ name. name.now) result ≡ unknown_of table.now script.now }
 {
@@ -196,7 +197,7 @@ fn missing_of<'s, A: Allocator>(table: &Providers<'_, A>, script: &'s Script<A>)
     missing_in(table, header.required_stop())
 }
 
-/// Refuses scripts that require a name which none of them provides.
+/// Fails if a script requires a name that none of the scripts provides.
 pub(crate) fn check_missing<A: Allocator + Copy>(
     alloc: A,
     scripts: &[Script<A>],
@@ -204,7 +205,8 @@ pub(crate) fn check_missing<A: Allocator + Copy>(
 ) -> Result<(), PlanFault<A>>
     requires { HasPlaces scripts.now table.now }
     ensures whole { OnOk result (missing_from scripts.now scripts.now ≡ None) }
-    ensures missing { IfErr result (Says (IsMissing (missing_from scripts.now scripts.now))) }
+    ensures missing { IfErr result
+        (FaultSatisfies (IsMissing (missing_from scripts.now scripts.now))) }
 {
     for script in scripts {
         if let Some(name) = missing_of(table, script) {

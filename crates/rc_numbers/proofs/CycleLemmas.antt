@@ -1,11 +1,12 @@
--- Walks among places, and the cycle that a long one holds.
+-- Lemmas on walks among places, and on the cycle in a long walk.
 use Rattle.rc_numbers.proofs.Words.{◌≡◌, ℕ, zero, suc, ◌+◌, ◌-◌, ◌<◌, ◌≤◌, Bool, true, false, cond, ◌==◌, ◌&&◌, List}
 use Rattle.rc_numbers.proofs.Words.{[], ◌∷◌, ◌++◌, length, get_or, take, drop, set, replicate, refl, sym, ap, ◌∙◌}
 use Rattle.rc_numbers.proofs.Words.{subst, arith, append-nil, inl, inr, and_parts, eqb-true, eq-eqb, true≢false}
-use Rattle.rc_numbers.proofs.Words.{AllBelow, Earliest, IsCycle, IsNumbering, IsRing, Needs, Walk, IsStuck, need_from}
+use Rattle.rc_numbers.proofs.Words.{AllBelow, Earliest, IsCycle, IsNumbering, IsClosedWalk, Needs, Walk, IsStuck}
+use Rattle.rc_numbers.proofs.Words.{need_from}
 use Rattle.rc_numbers.proofs.PassLemmas.{get_or-zeros}
 
--- each place of a path leads on to a place
+-- there is a walk from each place of a path to this place
 abbrev pub Trail : List (ℕ × ℕ) → List ℕ → ℕ → Type 0
 Trail edges [] at = Unit {0}
 Trail edges (x ∷ path) at = Walk edges x path at × Trail edges path at
@@ -21,9 +22,9 @@ Trail-push edges [] at next trail need = (need, tt)
 Trail-push edges (x ∷ path) at next trail need =
     (Walk-push edges x path at next trail.0 need, Trail-push edges path at next trail.1 need)
 
--- from a place of the path that is also where it leads: a ring
+-- a path that contains the place to which it leads has a ring
 pub Trail-ring : (edges : List (ℕ × ℕ)) (path : List ℕ) (at m : ℕ) → Trail edges path at → m < length path
-    → get_or path m 0 ≡ at → IsRing edges (drop m path)
+    → get_or path m 0 ≡ at → IsClosedWalk edges (drop m path)
 Trail-ring edges [] at m trail within is = absurd (omega arith)
 Trail-ring edges (x ∷ path) at zero trail within is = let P : ℕ → Type 0 = λ b. Walk edges x path b in
     subst P (sym is) trail.0
@@ -39,13 +40,13 @@ Walk-split : (edges : List (ℕ × ℕ)) (a : ℕ) (xs : List ℕ) (b : ℕ) (ys
 Walk-split edges a [] b ys c walk = walk
 Walk-split edges a (x ∷ xs) b ys c walk = let rest = Walk-split edges x xs b ys c walk.1 in ((walk.0, rest.0), rest.1)
 
--- no place of both parts is earlier
+-- a place that is least in two lists is least in both joined
 Earliest-append : (w : ℕ) (xs ys : List ℕ) → Earliest w xs → Earliest w ys → Earliest w (xs ++ ys)
 Earliest-append w [] ys first second = second
 Earliest-append w (x ∷ xs) ys first second = (first.0, Earliest-append w xs ys first.1 second)
 
--- a ring that begins elsewhere
-rotated : (edges : List (ℕ × ℕ)) (before : List ℕ) (w : ℕ) (ys : List ℕ) → IsRing edges (before ++ w ∷ ys)
+-- a ring that begins at another place
+rotated : (edges : List (ℕ × ℕ)) (before : List ℕ) (w : ℕ) (ys : List ℕ) → IsClosedWalk edges (before ++ w ∷ ys)
     → Walk edges w (ys ++ before) w
 rotated edges [] w ys ring = rw append-nil ring
 rotated edges (a ∷ xs) w ys ring = let parts = Walk-split edges a xs w ys a ring in
@@ -60,27 +61,27 @@ Earliest-parts w (b ∷ before) x ys all =
     let rest = Earliest-parts w before x ys (λ k within. all (suc k) (omega arith)) in
     ((all 0 (omega arith), rest.0), rest.1)
 
--- a list at one of its places
+-- a list is split at an index
 parts_at : (xs : List ℕ) (k : ℕ) → k < length xs
     → (drop k xs ≡ get_or xs k 0 ∷ drop (suc k) xs) × (xs ≡ take k xs ++ get_or xs k 0 ∷ drop (suc k) xs)
 parts_at [] k within = absurd (omega arith)
 parts_at (x ∷ xs) zero within = (refl, refl)
 parts_at (x ∷ xs) (suc k) within = let rest = parts_at xs k (omega arith) in (rest.0, ap (λ t. x ∷ t) rest.1)
 
--- a ring, turned to its earliest place, is a cycle
+-- a ring, rotated to its least place, is a cycle
 pub IsCycle-rotated : (edges : List (ℕ × ℕ)) (ring : List ℕ) (k : ℕ) → k < length ring → ((j : ℕ) → j < length ring
-    → get_or ring k 0 ≤ get_or ring j 0) → IsRing edges ring → IsCycle edges (drop k ring ++ take k ring)
+    → get_or ring k 0 ≤ get_or ring j 0) → IsClosedWalk edges ring → IsCycle edges (drop k ring ++ take k ring)
 IsCycle-rotated edges ring k within least is =
     let w = get_or ring k 0 in
     let before = take k ring in
     let after = drop (suc k) ring in
     let parts = parts_at ring k within in
-    let P : List ℕ → Type 0 = λ xs. IsRing edges xs in
+    let P : List ℕ → Type 0 = λ xs. IsClosedWalk edges xs in
     let Q : List ℕ → Type 0 = λ xs. (j : ℕ) → j < length xs → w ≤ get_or xs j 0 in
     let early = Earliest-parts w before w after (subst Q parts.1 least) in
     rw parts.0 (rotated edges before w after (subst P parts.1 is), Earliest-append w after before early.1 early.0)
 
--- where there is a cycle there is no numbering
+-- if there is a cycle, there is no numbering
 Walk-rises : (edges : List (ℕ × ℕ)) (number : ℕ → ℕ) → IsNumbering edges number → (a : ℕ) (xs : List ℕ) (b : ℕ)
     → Walk edges a xs b → number b < number a
 Walk-rises edges number is a [] b walk = is.rises a b walk
@@ -127,7 +128,7 @@ need_found all numbers a found b (e ∷ edges) within need none = elim need [
       (λ c d more. within c d (inr more)) later none
 ]
 
--- what a place without a number leads to
+-- the place to which a place without a number leads
 pub need-good : (count : ℕ) (edges : List (ℕ × ℕ)) (numbers : List ℕ) (a : ℕ) → IsStuck count edges numbers → a < count
     → get_or numbers a 0 ≡ 0 → Good edges numbers a (need_from numbers a 0 edges)
 need-good count edges numbers a stuck within none =
@@ -135,7 +136,7 @@ need-good count edges numbers a stuck within none =
     need_found edges numbers a 0 g.0 edges (λ c d need. need) g.1 g.2
 
 -- a ring has a place
-pub ring_some : (edges : List (ℕ × ℕ)) (ring : List ℕ) → IsRing edges ring → 0 < length ring
+pub ring_some : (edges : List (ℕ × ℕ)) (ring : List ℕ) → IsClosedWalk edges ring → 0 < length ring
 ring_some edges ring is = grind arith
 
 none_dropped : (m k : ℕ) → k < length (drop {A = ℕ} m []) → ⊥
@@ -146,7 +147,7 @@ none_taken : (m k : ℕ) → k < length (take {A = ℕ} m []) → ⊥
 none_taken zero k within = omega arith
 none_taken (suc m) k within = omega arith
 
--- parts of a list of places, and lists joined
+-- parts of a list of places below a bound, and such lists joined
 pub AllBelow-drop : (count : ℕ) (xs : List ℕ) (m : ℕ) → AllBelow count xs → AllBelow count (drop m xs)
 AllBelow-drop count [] m all = λ k within. absurd (none_dropped m k within)
 AllBelow-drop count (x ∷ xs) zero all = all
@@ -170,7 +171,7 @@ AllBelow-append count (x ∷ xs) ys first second = below_first count x (xs ++ ys
 pub AllBelow-one : (count x : ℕ) → x < count → AllBelow count (x ∷ [])
 AllBelow-one count x here = below_first count x [] here (λ k within. absurd (omega arith))
 
--- a mark tells where its place stands in the path
+-- a mark is the index of its place in the path, plus one
 abbrev pub Marked : List ℕ → List ℕ → Type 0
 Marked marks path = (v m : ℕ) → get_or marks v 0 ≡ suc m → (m < length path) × (get_or path m 0 ≡ v)
 
@@ -218,7 +219,7 @@ Marked-push marks path at n within counted old v m is =
 pub Marked-start : (n : ℕ) → Marked (replicate n 0) []
 Marked-start n v m is = absurd (let e = get_or-zeros n v in omega arith)
 
--- a place with a mark is in the path, where the mark says
+-- a place with a mark is in the path, at the index of the mark
 pub marked_at : (marks path : List ℕ) (at n : ℕ) → Marked marks path → get_or marks at 0 ≡ n → 0 < n
     → (n - 1 < length path) × (get_or path (n - 1) 0 ≡ at)
 marked_at marks path at zero marked is some = absurd (omega arith)

@@ -1,4 +1,4 @@
--- The passes that give numbers: what a height says of the needs, and how many places are left.
+-- Lemmas on the passes that give numbers: what a height says about the needs, and how many places remain.
 use Rattle.rc_numbers.proofs.Words.{◌≡◌, ◌⊎◌, ℕ, zero, suc, ◌+◌, ◌-◌, ◌<◌, ◌≤◌, Bool, true, false, cond, ◌==◌, ◌||◌}
 use Rattle.rc_numbers.proofs.Words.{max, List, [], ◌∷◌, length, get_or, drop, set, replicate, refl, sym, ap, ◌∙◌, subst}
 use Rattle.rc_numbers.proofs.Words.{arith, inl, inr, bytes_eq, false_from_ne_true, true≢false, eqb-true, eq-eqb}
@@ -6,7 +6,7 @@ use Rattle.rc_numbers.proofs.Words.{InRange, IsLeast, IsNumbering, Needs, AreHei
 use Rattle.rc_numbers.proofs.Words.{raised, settled, zeros}
 use Rattle.std.proofs.lemmas.Slice.Eq.{bytes_eq-Decides}
 
--- a number that is not 0
+-- a positive number is not 0
 pub not_zero : (n : ℕ) → 0 < n → (n == 0) ≡ false
 not_zero n some = false_from_ne_true (n == 0) (λ is. let e : n ≡ 0 = eqb-true n 0 is in omega arith)
 
@@ -17,7 +17,7 @@ positive (suc n) is = omega arith
 raised_some : (h n : ℕ) → 0 < h → 0 < n → raised h n ≡ max h (n + 1)
 raised_some h n high some = rw (not_zero h high, not_zero n some) refl
 
--- a raised height that is there
+-- a raised height that is not 0
 record IsRaised (h n : ℕ) : Type 0 where
   pub height : 0 < h
   pub number : 0 < n
@@ -43,7 +43,7 @@ raised_le_by h n bound false low less = omega arith
 raised_le : (h n bound : ℕ) → h ≤ bound → n < bound → raised h n ≤ bound
 raised_le h n bound low less = raised_le_by h n bound (h == 0 || n == 0) low less
 
--- a need of the place without a number
+-- the place needs one without a number
 abbrev pub Blocked : List ℕ → ℕ → List (ℕ × ℕ) → Type 0
 Blocked numbers a edges = (b : ℕ) × Needs edges a b × (get_or numbers b 0 ≡ 0)
 
@@ -109,7 +109,7 @@ least_by numbers a h e bound false here low need = low
 least_by numbers a h e bound true here low need =
     raised_le h (get_or numbers e.1 0) bound low (need (eqb-true e.0 a here))
 
--- a height is at or below what is above each number that is needed
+-- a height is at most any bound that is above each number that is needed
 pub height-least : (numbers : List ℕ) (a h : ℕ) (edges : List (ℕ × ℕ)) (bound : ℕ) → h ≤ bound
     → ((b : ℕ) → Needs edges a b → get_or numbers b 0 < bound) → height_from numbers a h edges ≤ bound
 height-least numbers a h [] bound low needs = low
@@ -118,7 +118,7 @@ height-least numbers a h (e ∷ edges) bound low needs =
     (least_by numbers a h e bound (e.0 == a) refl low (λ at. needs e.1 (inl (at, refl))))
     (λ b need. needs b (inr need))
 
--- the needs are among the places
+-- both places of a need are below the count
 pub Needs-range : (count : ℕ) (edges : List (ℕ × ℕ)) (a b : ℕ) → InRange count edges → Needs edges a b
     → (a < count) × (b < count)
 Needs-range count [] a b range need = absurd need
@@ -128,7 +128,7 @@ Needs-range count (e ∷ edges) a b range need = elim need [
   | inr later ↦ Needs-range count edges a b (λ k within. range (suc k) (omega arith)) later
 ]
 
--- a number that is given leaves one less without
+-- after a number is given, one place less has none
 pub zeros-set : (numbers : List ℕ) (a n : ℕ) → a < length numbers → get_or numbers a 0 ≡ 0 → 0 < n
     → zeros (set numbers a n) + 1 ≡ zeros numbers
 zeros-set (x ∷ numbers) (suc a) n within none some =
@@ -163,7 +163,7 @@ get_or-settled (x ∷ numbers) [] a same = absurd (omega arith)
 get_or-settled (x ∷ numbers) (h ∷ heights) zero same = refl
 get_or-settled (x ∷ numbers) (h ∷ heights) (suc a) same = get_or-settled numbers heights a (omega arith)
 
--- a pass leaves the numbers as they are, or fewer places without one
+-- a pass leaves the numbers unchanged, or fewer places without one
 abbrev pub Fewer : List ℕ → List ℕ → Type 0
 Fewer numbers next = (next ≡ numbers) ⊎ (zeros next < zeros numbers)
 
@@ -209,11 +209,11 @@ stuck_by : (numbers heights : List ℕ) (a : ℕ) → get_or numbers a 0 ≡ 0
     → settled numbers heights ≡ numbers → get_or heights a 0 ≡ 0
 stuck_by numbers heights a none at still = grind arith
 
--- at the start none has a number
+-- at the start no place has a number
 pub IsPartial-start : (count : ℕ) (edges : List (ℕ × ℕ)) → IsPartial count edges (replicate count 0)
 IsPartial-start count edges = grind (arith, length-zeros, get_or-zeros, zeros-replicate)
 
--- the number of a place after a pass: its own, or its height where it had none
+-- the number of a place after a pass: its own, or its height if it had none
 abbrev After : List ℕ → List ℕ → ℕ → Type 0
 After numbers heights a =
     ((0 < get_or numbers a 0) × (get_or (settled numbers heights) a 0 ≡ get_or numbers a 0))
@@ -263,7 +263,7 @@ module _ (count : ℕ) (edges : List (ℕ × ℕ)) (numbers heights : List ℕ) 
   IsPartial-next =
       grind (arith, length-settled, after, fewer_le, fewer, small_new, kept_number, are, height-above, least_new)
 
--- where a pass changes nothing, each place without a number needs one without
+-- if a pass changes nothing, each place without a number needs one without a number
 pub IsStuck-same : (count : ℕ) (edges : List (ℕ × ℕ)) (numbers heights : List ℕ) → length numbers ≡ count
     → length heights ≡ length numbers → AreHeights edges numbers heights → settled numbers heights ≡ numbers
     → IsStuck count edges numbers
@@ -272,7 +272,7 @@ IsStuck-same count edges numbers heights size same are still a within none =
     let flat : get_or heights a 0 ≡ 0 = stuck_by numbers heights a none at still in
     height-none numbers a 1 edges (omega arith) (sym (are a (omega (arith, size))) ∙ flat)
 
--- the places from one on
+-- the numbers and heights from an index on
 pub settled-drop : (numbers heights : List ℕ) (k : ℕ) → k < length numbers → length heights ≡ length numbers
     → settled (drop k numbers) (drop k heights) ≡ cond (get_or numbers k 0 == 0) (get_or heights k 0)
     (get_or numbers k 0) ∷ settled (drop (k + 1) numbers) (drop (k + 1) heights)
@@ -281,14 +281,14 @@ settled-drop (x ∷ numbers) (h ∷ heights) (suc k) within same =
     rw more (settled-drop numbers heights k (omega arith) (omega arith))
 settled-drop numbers heights k within same = grind arith
 
--- lists that are told to be one
+-- lists that compare equal are equal
 pub same_lists : (xs ys : List ℕ) → bytes_eq xs ys ≡ true → xs ≡ ys
 same_lists xs ys is = (bytes_eq-Decides xs ys).0 is
 
 pub same_self : (xs ys : List ℕ) → xs ≡ ys → bytes_eq xs ys ≡ true
 same_self xs ys e = (bytes_eq-Decides xs ys).1 e
 
--- where each place has a number, the numbers are the least numbering
+-- if each place has a number, the numbers are the least numbering
 pub IsLeast-whole : (count : ℕ) (edges : List (ℕ × ℕ)) (numbers : List ℕ) → InRange count edges
     → IsPartial count edges numbers → ((a : ℕ) → a < count → 0 < get_or numbers a 0) → IsLeast count edges numbers
 IsLeast-whole count edges numbers range p all = record {

@@ -1,22 +1,22 @@
--- Needs in another order, and the steps along which a search leads.
+-- Lemmas on sorted needs, and on the steps that a search follows.
 use Rattle.rc_numbers.proofs.Words.{◌≡◌, ℕ, zero, suc, ◌+◌, ◌-◌, ◌<◌, Bool, true, false, cond, ◌==◌, List, [], ◌∷◌}
 use Rattle.rc_numbers.proofs.Words.{◌++◌, Option, Some, None, is_some, length, get_or, take, drop, set, replicate, refl}
 use Rattle.rc_numbers.proofs.Words.{sym, ap, ◌∙◌, subst, arith, inl, inr, true≢false, eqb-true, eq-eqb, take_rest}
-use Rattle.rc_numbers.proofs.Words.{get_or-drop, AreSteps, InRange, IsRing, Needs, Walk}
+use Rattle.rc_numbers.proofs.Words.{get_or-drop, AreSteps, InRange, IsClosedWalk, Needs, Walk}
 use Rattle.std.specs.List.{All}
 use Rattle.std.specs.List.Sorted.{IsPermutation}
 use Rattle.std.proofs.lemmas.List.Sorted.{All-permutation}
 use Rattle.rc_numbers.proofs.PassLemmas.{Needs-range}
 use Rattle.rc_numbers.proofs.CycleLemmas.{Trail, Trail-push, Trail-ring}
 
--- each of the needs is one of them
+-- each edge with an index is a need
 pub need_at : (edges : List (ℕ × ℕ)) (k : ℕ) (d : ℕ × ℕ) → k < length edges
     → Needs edges (get_or edges k d).0 (get_or edges k d).1
 need_at [] k d within = absurd (omega arith)
 need_at (e ∷ edges) zero d within = inl (refl, refl)
 need_at (e ∷ edges) (suc k) d within = inr (need_at edges k d (omega arith))
 
--- each of these needs is one of the needs
+-- each of these edges is a need
 abbrev pub AreNeeds : List (ℕ × ℕ) → List (ℕ × ℕ) → Type 0
 AreNeeds edges needs = All (λ need. Needs edges need.0 need.1) needs
 
@@ -45,12 +45,12 @@ Walk-weaken edges needs a [] b are walk = Needs-weaken edges needs a b are walk
 Walk-weaken edges needs a (x ∷ xs) b are walk =
     (Needs-weaken edges needs a x are walk.0, Walk-weaken edges needs x xs b are walk.1)
 
-pub IsRing-weaken : (edges needs : List (ℕ × ℕ)) (ring : List ℕ) → AreNeeds edges needs → IsRing needs ring
-    → IsRing edges ring
-IsRing-weaken edges needs [] are is = is
-IsRing-weaken edges needs (a ∷ xs) are is = Walk-weaken edges needs a xs a are is
+pub IsClosedWalk-weaken : (edges needs : List (ℕ × ℕ)) (ring : List ℕ) → AreNeeds edges needs → IsClosedWalk needs ring
+    → IsClosedWalk edges ring
+IsClosedWalk-weaken edges needs [] are is = is
+IsClosedWalk-weaken edges needs (a ∷ xs) are is = Walk-weaken edges needs a xs a are is
 
--- no steps at the start
+-- there are no steps at the start
 none_there : (n a : ℕ) → ◌≡◌ {A = Option ℕ} (get_or (replicate n None) a None) None
 none_there zero a = refl
 none_there (suc n) zero = refl
@@ -90,12 +90,12 @@ met_by : (edges : List (ℕ × ℕ)) (steps : List (Option ℕ)) (a b : ℕ) (y 
 met_by edges steps a b true within need old v u is = old v u is
 met_by edges steps a b false within need old v u is = set_by edges steps a b v u (a == v) refl within need old is
 
--- a place is given a step where it has none
+-- a place is given a step if it has none
 pub AreSteps-met : (edges : List (ℕ × ℕ)) (steps : List (Option ℕ)) (a b : ℕ) → a < length steps → Needs edges a b
     → AreSteps edges steps → AreSteps edges (cond (is_some (get_or steps a None)) steps (set steps a (Some b)))
 AreSteps-met edges steps a b within need old = met_by edges steps a b (is_some (get_or steps a None)) within need old
 
--- the needs from one on
+-- the edges from an index on
 pub rest_at : (needs : List (ℕ × ℕ)) (first i : ℕ)
     → get_or (take (length needs - first) (drop first needs)) i (0, 0) ≡ get_or needs (first + i) (0, 0)
 rest_at needs first i = rw (take_rest, get_or-drop first needs i (0, 0)) refl
@@ -104,15 +104,16 @@ some_position : (path : List ℕ) (at : ℕ) → 0 < length (path ++ at ∷ [])
 some_position [] at = omega arith
 some_position (x ∷ path) at = omega arith
 
--- the first place of a path that grows
+-- the first place of a path that is extended
 pub first_kept : (path : List ℕ) (at next : ℕ)
     → get_or ((path ++ at ∷ []) ++ next ∷ []) 0 0 ≡ get_or (path ++ at ∷ []) 0 0
 first_kept [] at next = refl
 first_kept (x ∷ path) at next = refl
 
--- a path that leads to its own first place
+-- a path that leads back to its first place is a ring
 pub path_closed : (edges : List (ℕ × ℕ)) (path : List ℕ) (at next position : ℕ) → Trail edges path at
-    → Needs edges at next → get_or (path ++ at ∷ []) 0 0 ≡ position → next ≡ position → IsRing edges (path ++ at ∷ [])
+    → Needs edges at next → get_or (path ++ at ∷ []) 0 0 ≡ position → next ≡ position
+    → IsClosedWalk edges (path ++ at ∷ [])
 path_closed edges path at next position trail need first back =
     Trail-ring edges (path ++ at ∷ []) next 0 (Trail-push edges path at next trail need) (some_position path at)
     (first ∙ sym back)

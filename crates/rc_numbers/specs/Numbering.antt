@@ -1,7 +1,7 @@
--- Needs among places, their numberings and their cycles.
+-- Needs among places, their numberings and their cycles. A place is a natural number, and each edge is a need.
 use Rattle.std.specs.Prelude.{◌≡◌, ℕ, ◌<◌, ◌≤◌, List, [], ◌∷◌, get_or, length, ◌⊎◌, Option, Some, None}
 
--- the first of a pair needs the second
+-- the first place of some edge is `a` and its second is `b`: `a` needs `b`
 abbrev pub Needs : List (ℕ × ℕ) → ℕ → ℕ → Type 0
 Needs [] a b = ⊥
 Needs (edge ∷ edges) a b = ((edge.0 ≡ a) × (edge.1 ≡ b)) ⊎ Needs edges a b
@@ -11,50 +11,50 @@ pub record IsNumbering (edges : List (ℕ × ℕ)) (number : ℕ → ℕ) : Type
   pub some : (a : ℕ) → 1 ≤ number a
   pub rises : (a b : ℕ) → Needs edges a b → number b < number a
 
--- no numbering is there
+-- there is no numbering
 abbrev pub HasNoNumbering : List (ℕ × ℕ) → Type 0
 HasNoNumbering edges = (number : ℕ → ℕ) → IsNumbering edges number → ⊥
 
--- the numbers are at or below those of every numbering, at every place
+-- at every place the number is at most that of any numbering
 abbrev pub AtMostAny : List (ℕ × ℕ) → List ℕ → Type 0
 AtMostAny edges numbers =
     (number : ℕ → ℕ) → IsNumbering edges number → (a : ℕ) → get_or numbers a 0 ≤ number a
 
--- a numbering of the places below the count, at or below every numbering at every place
+-- a numbering of the places below the count whose number at every place is at most that of any numbering
 pub record IsLeast (count : ℕ) (edges : List (ℕ × ℕ)) (numbers : List ℕ) : Type 0 where
   pub some : (a : ℕ) → a < count → 1 ≤ get_or numbers a 0
   pub rises : (a b : ℕ) → Needs edges a b → get_or numbers b 0 < get_or numbers a 0
   pub least : AtMostAny edges numbers
 
--- from a place through others to a place, each needing the next
+-- a walk from one place through others to a last one, each needing the next
 abbrev pub Walk : List (ℕ × ℕ) → ℕ → List ℕ → ℕ → Type 0
 Walk edges a [] b = Needs edges a b
 Walk edges a (x ∷ xs) b = Needs edges a x × Walk edges x xs b
 
--- each needs the next and the last the first
-abbrev pub IsRing : List (ℕ × ℕ) → List ℕ → Type 0
-IsRing edges [] = ⊥
-IsRing edges (a ∷ xs) = Walk edges a xs a
+-- each place of the list needs the next one, and the last needs the first
+abbrev pub IsClosedWalk : List (ℕ × ℕ) → List ℕ → Type 0
+IsClosedWalk edges [] = ⊥
+IsClosedWalk edges (a ∷ xs) = Walk edges a xs a
 
--- no place of the list stands before this one
+-- no place of the list is less than this one
 abbrev pub Earliest : ℕ → List ℕ → Type 0
 Earliest a [] = Unit {0}
 Earliest a (x ∷ xs) = (a ≤ x) × Earliest a xs
 
--- each needs the next and the last the first, which is the earliest
+-- a ring whose first place is the least one
 abbrev pub IsCycle : List (ℕ × ℕ) → List ℕ → Type 0
 IsCycle edges [] = ⊥
 IsCycle edges (a ∷ xs) = Walk edges a xs a × Earliest a xs
 
--- a place with a step needs the place to which it leads
+-- a place with a step needs the place to which the step leads
 abbrev pub AreSteps : List (ℕ × ℕ) → List (Option ℕ) → Type 0
 AreSteps edges steps = (a b : ℕ) → get_or steps a None ≡ Some b → Needs edges a b
 
--- the places of the needs are below this
+-- both places of each edge are below this number
 abbrev pub InRange : ℕ → List (ℕ × ℕ) → Type 0
 InRange count edges =
     (k : ℕ) → k < length edges → ((get_or edges k (0, 0)).0 < count) × ((get_or edges k (0, 0)).1 < count)
 
--- each of the places is below this
+-- each of the places is below this number
 abbrev pub AllBelow : ℕ → List ℕ → Type 0
 AllBelow count places = (k : ℕ) → k < length places → get_or places k 0 < count

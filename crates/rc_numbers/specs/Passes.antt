@@ -1,46 +1,46 @@
--- How numbers are given, pass by pass: 0 is no number.
+-- How numbers are given, pass by pass. 0 means no number.
 use Rattle.std.specs.Prelude.{◌≡◌, ℕ, ◌+◌, ◌<◌, ◌≤◌, ◌==◌, ◌||◌, ◌&&◌, max, if◌then◌else◌, List, [], ◌∷◌, get_or}
 use Rattle.std.specs.Prelude.{length}
 use Rattle.rc_numbers.specs.Numbering.{Needs, AtMostAny}
 
--- a height after one more need of this number: none where the need has none
+-- a height after one more need with this number: 0 if there was no height or the needed place has no number
 abbrev pub raised : ℕ → ℕ → ℕ
 raised height number = if height == 0 || number == 0 then 0 else max height (number + 1)
 
--- a height after the needs of the place among these
+-- a height after those of the edges that are needs of the place
 abbrev pub height_from : List ℕ → ℕ → ℕ → List (ℕ × ℕ) → ℕ
 height_from numbers a height [] = height
 height_from numbers a height (edge ∷ edges) =
     height_from numbers a (if edge.0 == a then raised height (get_or numbers edge.1 0) else height) edges
 
--- a need of the place without a number, the last of these
+-- the last of these edges' needs of the place that has no number
 abbrev pub need_from : List ℕ → ℕ → ℕ → List (ℕ × ℕ) → ℕ
 need_from numbers a found [] = found
 need_from numbers a found (edge ∷ edges) =
     need_from numbers a (if edge.0 == a && get_or numbers edge.1 0 == 0 then edge.1 else found) edges
 
--- the heights of the places, one more than the greatest number that each needs
+-- the heights of the places: one more than the greatest number that each needs, or 0
 abbrev pub AreHeights : List (ℕ × ℕ) → List ℕ → List ℕ → Type 0
 AreHeights edges numbers heights =
     (a : ℕ) → a < length numbers → get_or heights a 0 ≡ height_from numbers a 1 edges
 
--- for each place the last of its needs that has no number
+-- for each place, the last of its needs that has no number
 abbrev pub AreBlockers : List (ℕ × ℕ) → List ℕ → List ℕ → Type 0
 AreBlockers edges numbers found =
     (a : ℕ) → a < length numbers → get_or found a 0 ≡ need_from numbers a 0 edges
 
--- the numbers, with a height for each place that had no number
+-- the numbers, with the height for each place that had no number
 abbrev pub settled : List ℕ → List ℕ → List ℕ
 settled [] heights = []
 settled (x ∷ numbers) [] = x ∷ numbers
 settled (x ∷ numbers) (h ∷ heights) = (if x == 0 then h else x) ∷ settled numbers heights
 
--- how many have no number
+-- how many places have no number
 abbrev pub zeros : List ℕ → ℕ
 zeros [] = 0
 zeros (x ∷ xs) = (if x == 0 then 1 else 0) + zeros xs
 
--- the numbers given so far: least, each above those that are needed
+-- the numbers given so far: at most those of any numbering, and each above those that its place needs
 pub record IsPartial (count : ℕ) (edges : List (ℕ × ℕ)) (numbers : List ℕ) : Type 0 where
   pub size : length numbers ≡ count
   pub small : (a : ℕ) → get_or numbers a 0 + zeros numbers ≤ count
@@ -48,7 +48,7 @@ pub record IsPartial (count : ℕ) (edges : List (ℕ × ℕ)) (numbers : List �
       → (0 < get_or numbers b 0) × (get_or numbers b 0 < get_or numbers a 0)
   pub least : AtMostAny edges numbers
 
--- a place without a number needs one without a number
+-- each place without a number needs another one without a number
 abbrev pub IsStuck : ℕ → List (ℕ × ℕ) → List ℕ → Type 0
 IsStuck count edges numbers =
     (a : ℕ) → a < count → get_or numbers a 0 ≡ 0 → (b : ℕ) × Needs edges a b × (get_or numbers b 0 ≡ 0)

@@ -1,13 +1,13 @@
-//! The way of a cycle among needs, told name by name.
+//! Finds a cycle of needs.
 
 ghost use Rattle.std.specs.Prelude.{◌≡◌, ◌<◌, ◌≤◌, ◌++◌, ℕ, List, [], ◌∷◌, Some, None, is_some, if◌then◌else◌, length, get_or, set, drop, take, IfOk, OnOk, IfSome, IsPermutation};
-ghost use Rattle.rc_numbers.specs.Numbering.{AllBelow, AreSteps, InRange, IsCycle, IsRing};
+ghost use Rattle.rc_numbers.specs.Numbering.{AllBelow, AreSteps, InRange, IsCycle, IsClosedWalk};
 ghost use Rattle.rc_numbers.specs.Passes.{AreBlockers, IsStuck};
 
 use init_words::Memory;
 use std::alloc::Allocator;
 
-/// For each place without a number one that it needs and that has none either.
+/// Returns, for each place without a number, a place that it needs and that has no number either.
 fn blockers<A: Allocator>(
     alloc: A,
     edges: &[(usize, usize)],
@@ -26,7 +26,7 @@ fn blockers<A: Allocator>(
     Ok(found)
 }
 
-/// The places of a path from this index on.
+/// Returns the places of a path from this index on.
 fn suffix<A: Allocator>(alloc: A, path: &[usize], start: usize) -> Result<Vec<usize, A>, Memory>
     requires { start ≤ length path.now }
     ensures { IfOk result (λ suffix. suffix.items ≡ drop start path.now) }
@@ -34,7 +34,7 @@ fn suffix<A: Allocator>(alloc: A, path: &[usize], start: usize) -> Result<Vec<us
     Ok(Vec::from_slice(alloc, &path[start..])?)
 }
 
-/// The places of a ring, from this index on and round.
+/// Returns the places of a ring, beginning at this index.
 fn rotated<A: Allocator>(alloc: A, ring: &[usize], start: usize) -> Result<Vec<usize, A>, Memory>
     requires { start ≤ length ring.now }
     ensures { IfOk result (λ rotated. rotated.items ≡ drop start ring.now ++ take start ring.now) }
@@ -44,7 +44,8 @@ fn rotated<A: Allocator>(alloc: A, ring: &[usize], start: usize) -> Result<Vec<u
     Ok(rotated)
 }
 
-/// The places from this one on, each needing the next, until one is needed that was there before: the ring from there.
+/// Walks from a place to one that it needs, and so on, until a place is reached for the second time. Returns the ring
+/// from there on.
 fn ring<A: Allocator + Copy>(
     alloc: A,
     edges: &[(usize, usize)],
@@ -55,7 +56,7 @@ fn ring<A: Allocator + Copy>(
     requires stuck { IsStuck (length numbers.now) edges.now numbers.now }
     requires first { first < length numbers.now }
     requires none { get_or numbers.now first 0 ≡ 0 }
-    ensures ring { IfOk result (λ ring. IsRing edges.now ring.items) }
+    ensures ring { IfOk result (λ ring. IsClosedWalk edges.now ring.items) }
     ensures below { IfOk result (λ ring. AllBelow (length numbers.now) ring.items) }
 {
     let next = blockers(alloc, edges, numbers)?;
@@ -70,7 +71,7 @@ fn ring<A: Allocator + Copy>(
     suffix(alloc, path.as_slice(), marks[at] - 1)
 }
 
-/// The needs, in the order of the places that are needed.
+/// Returns the needs, sorted by the place that is needed.
 fn by_need<A: Allocator>(
     alloc: A,
     edges: &[(usize, usize)],
@@ -82,7 +83,7 @@ fn by_need<A: Allocator>(
     Ok(needs)
 }
 
-/// Notes that a place needs another, where it is met for the first time.
+/// Records that a place needs another one, if it is met for the first time.
 fn join_paths<A: Allocator>(
     steps: &mut [Option<usize>],
     met: &mut Vec<usize, A>,
@@ -105,7 +106,7 @@ fn join_paths<A: Allocator>(
     Ok(())
 }
 
-/// Meets each place that needs this one, of needs in the order of the places that are needed.
+/// Meets each place that needs this one. The needs are sorted by the place that is needed.
 fn meet_all<A: Allocator>(
     needs: &[(usize, usize)],
     steps: &mut [Option<usize>],
@@ -126,8 +127,8 @@ fn meet_all<A: Allocator>(
     Ok(())
 }
 
-/// For the places that need this one, by themselves or through others, the next place on a shortest way to it, as far
-/// as a search goes that ends when it is back.
+/// Returns, for the places that need this one directly or indirectly, the next place on a shortest path to it. The
+/// search ends when it is back at this place.
 fn steps_to<A: Allocator + Copy>(
     alloc: A,
     needs: &[(usize, usize)],
@@ -152,7 +153,7 @@ fn steps_to<A: Allocator + Copy>(
     Ok(steps)
 }
 
-/// The places from this one on along the steps, if they come back to it.
+/// Returns the places from this one on along the steps, if they lead back to it.
 fn ring_along<A: Allocator>(
     alloc: A,
     steps: &[Option<usize>],
@@ -161,7 +162,8 @@ fn ring_along<A: Allocator>(
     requires position { position < length steps.now }
     requires range { (a b : ℕ) → get_or steps.now a None ≡ Some b → b < length steps.now }
     ensures ring { IfOk result (λ found. IfSome found
-        (λ ring. (edges : List (ℕ × ℕ)) → AreSteps edges steps.now → IsRing edges ring.items)) }
+        (λ ring. (edges : List (ℕ × ℕ)) → AreSteps edges steps.now
+        → IsClosedWalk edges ring.items)) }
     ensures below { IfOk result (λ found.
         IfSome found (λ ring. AllBelow (length steps.now) ring.items)) }
 {
@@ -182,7 +184,7 @@ fn ring_along<A: Allocator>(
     Ok(None)
 }
 
-/// A shortest ring through a place, if there is one.
+/// Returns a shortest ring through a place, if there is one.
 fn ring_through<A: Allocator + Copy>(
     alloc: A,
     needs: &[(usize, usize)],
@@ -191,21 +193,21 @@ fn ring_through<A: Allocator + Copy>(
 ) -> Result<Option<Vec<usize, A>>, Memory>
     requires range { InRange count needs.now }
     requires position { position < count }
-    ensures ring { IfOk result (λ found. IfSome found (λ ring. IsRing needs.now ring.items)) }
+    ensures ring { IfOk result (λ found. IfSome found (λ ring. IsClosedWalk needs.now ring.items)) }
     ensures below { IfOk result (λ found. IfSome found (λ ring. AllBelow count ring.items)) }
 {
     let steps = steps_to(alloc, needs, count, position)?;
     ring_along(alloc, steps.as_slice(), position)
 }
 
-/// A shortest ring through the earliest place that is on one.
+/// Returns a shortest ring through the earliest place that is on one.
 fn earliest_ring<A: Allocator + Copy>(
     alloc: A,
     edges: &[(usize, usize)],
     numbers: &[usize],
 ) -> Result<Option<Vec<usize, A>>, Memory>
     requires { InRange (length numbers.now) edges.now }
-    ensures ring { IfOk result (λ found. IfSome found (λ ring. IsRing edges.now ring.items)) }
+    ensures ring { IfOk result (λ found. IfSome found (λ ring. IsClosedWalk edges.now ring.items)) }
     ensures below { IfOk result (λ found.
         IfSome found (λ ring. AllBelow (length numbers.now) ring.items)) }
 {
@@ -220,8 +222,8 @@ fn earliest_ring<A: Allocator + Copy>(
     Ok(None)
 }
 
-/// A shortest ring through the earliest place that is on one, or, where none is found, the one to which this place
-/// leads.
+/// Returns a shortest ring through the earliest place that is on one, or, if none is found, the ring to which this
+/// place leads.
 fn named_cycle<A: Allocator + Copy>(
     alloc: A,
     edges: &[(usize, usize)],
@@ -232,7 +234,7 @@ fn named_cycle<A: Allocator + Copy>(
     requires stuck { IsStuck (length numbers.now) edges.now numbers.now }
     requires first { first < length numbers.now }
     requires none { get_or numbers.now first 0 ≡ 0 }
-    ensures ring { IfOk result (λ ring. IsRing edges.now ring.items) }
+    ensures ring { IfOk result (λ ring. IsClosedWalk edges.now ring.items) }
     ensures below { IfOk result (λ ring. AllBelow (length numbers.now) ring.items) }
 {
     match earliest_ring(alloc, edges, numbers)? {
@@ -241,7 +243,7 @@ fn named_cycle<A: Allocator + Copy>(
     }
 }
 
-/// The index of the least of some numbers.
+/// Returns the index of the least number.
 fn least_at(places: &[usize]) -> usize
     requires { 0 < length places.now }
     ensures within { result < length places.now }
@@ -257,7 +259,7 @@ fn least_at(places: &[usize]) -> usize
     best
 }
 
-/// A cycle: a shortest through the earliest place that is on one.
+/// Returns a cycle: a shortest ring through the earliest place that is on one.
 pub(crate) fn cycle<A: Allocator + Copy>(
     alloc: A,
     edges: &[(usize, usize)],

@@ -1,5 +1,5 @@
-//! Least numbers of places of which some need others, or the cycle of needs that rules numbers out: a place's number is
-//! 1, or one more than the greatest number of those that it needs.
+//! Numbers places, some of which need others: a place's number is 1, or one more than the greatest number of the places
+//! that it needs. If that is impossible, it returns a cycle of needs.
 #![tactic(auto)]
 
 mod cycles;

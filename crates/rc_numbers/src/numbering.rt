@@ -1,4 +1,4 @@
-//! Places in the order of their numbers.
+//! The least numbers of places, or a cycle.
 
 ghost use Rattle.std.specs.Prelude.{◌≡◌, ◌<◌, ℕ, IfOk, IfErr, IfSome, IfNone, length, get_or};
 ghost use Rattle.rc_numbers.specs.Numbering.{AllBelow, HasNoNumbering, InRange, IsCycle, IsLeast};
@@ -8,7 +8,7 @@ use crate::passes::numbers;
 use init_words::Memory;
 use std::alloc::Allocator;
 
-/// The first place without a number.
+/// Returns the first place without a number.
 fn first_without(numbers: &[usize]) -> Option<usize>
     ensures some { IfSome result (λ position.
         (position < length numbers.now) × (get_or numbers.now position 0 ≡ 0)) }
@@ -23,8 +23,8 @@ fn first_without(numbers: &[usize]) -> Option<usize>
     None
 }
 
-/// The least numbers of the places below the count, each 1 or more, or, where there is no numbering at all, a cycle
-/// that begins with its earliest place. The first of a pair needs the second.
+/// Returns the least numbers of the places below `count`, each 1 or more. If there is no numbering, returns a cycle
+/// that begins with its earliest place. In each pair of `edges` the first place needs the second.
 pub fn ordered<A: Allocator + Copy>(
     alloc: A,
     count: usize,

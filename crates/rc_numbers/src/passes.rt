@@ -1,4 +1,4 @@
-//! The least numbers that meet all needs, found by passes.
+//! Computes the least numbers that satisfy all needs, in passes.
 
 ghost use Rattle.std.specs.Prelude.{◌≡◌, ◌+◌, ◌<◌, ◌≤◌, ℕ, true, false, if◌then◌else◌, ◌==◌, length, get_or, IfOk};
 ghost use Rattle.rc_numbers.specs.Numbering.{InRange};
@@ -7,7 +7,7 @@ ghost use Rattle.rc_numbers.specs.Passes.{AreHeights, IsPartial, IsStuck, raised
 use init_words::Memory;
 use std::alloc::Allocator;
 
-/// A height after one more need of this number: none where the need has none.
+/// Returns a height after one more need with this number: 0, no height, if the needed place has no number.
 fn raised(height: usize, number: usize) -> usize
     requires { number + 1 < 18446744073709551616 }
     ensures { result ≡ raised height number }
@@ -19,7 +19,8 @@ fn raised(height: usize, number: usize) -> usize
     }
 }
 
-/// For each place one more than the greatest number that it needs, or 0 where one that it needs has no number.
+/// Returns, for each place, one more than the greatest number that it needs, or 0 if a place that it needs has no
+/// number.
 fn heights<A: Allocator>(
     alloc: A,
     edges: &[(usize, usize)],
@@ -37,14 +38,14 @@ fn heights<A: Allocator>(
     Ok(heights)
 }
 
-/// A number, or the height where there is none.
+/// Returns a number, or the height if there is no number.
 fn settled_at(number: usize, height: usize) -> usize
     ensures { result ≡ (if number == 0 then height else number) }
 {
     if number == 0 { height } else { number }
 }
 
-/// The numbers, with a height for each place that had no number.
+/// Returns the numbers, with the height for each place that had no number.
 fn settled<A: Allocator>(
     alloc: A,
     numbers: &[usize],
@@ -60,8 +61,8 @@ fn settled<A: Allocator>(
     Ok(next)
 }
 
-/// The least numbers of the places, and 0 for those that can have none: in each pass every place whose needs all have a
-/// number is given its own, until a pass gives none.
+/// Returns the least numbers of the places, and 0 for those that can't have one. Each pass numbers every place whose
+/// needs all have numbers, until a pass numbers none.
 pub(crate) fn numbers<A: Allocator + Copy>(
     alloc: A,
     count: usize,

@@ -1,5 +1,5 @@
-//! `rclinks FILE..` prints the links of the runlevels' folders for init scripts, by the least numbers that their
-//! headers allow (LSB Core 5.0), or makes them in a directory.
+//! `rclinks FILE..`: prints the links in the runlevels' folders for init scripts, with the least numbers that their
+//! headers allow (LSB Core 5.0), or creates them in a directory.
 #![tactic(auto)]
 
 use program_io::{Reports, StandardFiles, report_unread_words, words};
@@ -9,10 +9,11 @@ use std::fs::{read_dir, read_link};
 use std::io;
 use std::process::ExitCode;
 
-/// Where the facility files are, from the folder of the program's on.
+/// The folder of the facility files, relative to the program's folder.
 const FACILITIES: &str = "share/initd/facilities";
 
-/// The facility files that are installed with the program, in byte order of their names: none where it isn't installed.
+/// Returns the paths of the facility files that are installed with the program, in byte order of their names. There are
+/// none if it is not installed.
 fn facilities(rt: &HostRuntime, alloc: Global) -> io::Result<Vec<String>> {
     let mut files = Vec::new(alloc);
     let program = read_link(rt, "/proc/self/exe")?;

@@ -1,9 +1,9 @@
--- What was done of an answer is what the line asks for.
+-- Carrying out an answer is what the command line asks for.
 use Rattle.rclinks_command.proofs.Words.{◌≡◌, ◌⊎◌, inl, inr, ℕ, Bool, true, false, List, [], Option, None}
 use Rattle.rclinks_command.proofs.Words.{Some, Result, Ok, Err, IfErr, IfOk, ap, subst, ◌∙◌}
 use Rattle.rclinks_command.proofs.Words.{KnownTexts, Line, ScriptText, PlannedText, KnownFolders, KnownScripts}
 use Rattle.std.specs.Io.KnownBytes.{Appends}
-use Rattle.program_io.specs.Reports.{HasReported, ReportList}
+use Rattle.program_io.specs.Reports.{AppendsReport, ReportList}
 use Rattle.program_io.specs.Writing.{AppendsPrefix}
 use Rattle.rclinks_command.specs.Answers.{Did, DidPart, IsRefusal, IsWork}
 use Rattle.rclinks_command.specs.Command.{Does, DoesBy, DoesPart, PartBy, PlanOf, ScriptsOf, TakenBy, TellsRefused}
@@ -15,7 +15,7 @@ use Rattle.rclinks_command.specs.declared.answer.Work.TheVariants.{Change, Print
 use Rattle.rclinks_command.specs.declared.report.Refusal.{Refusal}
 use Rattle.rclinks_command.proofs.WritingLemmas.{in_folders, written}
 
--- what is so of scripts has what follows from it
+-- a property of the scripts implies another one that follows from it
 pub scripts_of : (text_at : KnownTexts) (skips last : Bool) (paths : List (List ℕ)) (P Q : List ScriptText → Type 0)
     → ((scripts : List ScriptText) → P scripts → Q scripts) → ScriptsOf text_at skips last paths P
     → ScriptsOf text_at skips last paths Q
@@ -23,7 +23,7 @@ scripts_of text_at false last paths P Q follows (scripts, are, holds) = (scripts
 scripts_of text_at true last paths P Q follows (read, rest, faults, reads, left, holds) =
     (read, rest, faults, reads, left, follows rest holds)
 
--- the same of a plan of theirs
+-- the same for a property of their plan
 pub plan_of : (text_at : KnownTexts) (line : Line) (P Q : List PlannedText → Type 0)
     → ((plan : List PlannedText) → P plan → Q plan) → PlanOf text_at line P → PlanOf text_at line Q
 plan_of text_at line P Q follows =
@@ -75,10 +75,10 @@ pub refused : (P : Type 0) (work : Result Work Refusal) → IfErr work (λ why. 
 refused P (Ok work) reason is = absurd is
 refused P (Err why) reason is = reason is
 
--- the report tells it
+-- the report contains the reason
 pub told : (text_at : KnownTexts) (line : Line) (scripts : KnownScripts) (before : KnownFolders)
     (old new : ReportList) (report : List ℕ)
-    → HasReported old new report
+    → AppendsReport old new report
     → ReportsRefused text_at line.last line.files [] report ⊎ PlanOf text_at line (TakenBy line.dir line scripts before)
     → TellsRefused text_at line scripts before old new
 told text_at line scripts before old new report wrote why = elim why [
@@ -86,7 +86,7 @@ told text_at line scripts before old new report wrote why = elim why [
   | inr taken ↦ inr taken
 ]
 
--- the line with the files that are read
+-- the command line with the files that are read
 pub same_line : (asked said : Line) (facilities paths : List (List ℕ)) → said ≡ record asked { files = paths }
     → paths ≡ (line_with facilities asked).files → said ≡ line_with facilities asked
 same_line asked said facilities paths is are = is ∙ ap (λ fs. record asked { files = fs }) are

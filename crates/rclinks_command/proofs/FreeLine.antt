@@ -1,4 +1,4 @@
--- The command line uses no more of clap than what is known of it.
+-- The command line uses only the features of clap that are specified.
 use Rattle.rclinks_command.proofs.Words.{◌≡◌, refl, true, is_simple_and_free, command_line}
 use Rattle.clap.proofs.OnLiterals.{clap_on_literals}
 use Rattle.command_words.specs.CommandLines.{bare_line, line_of}

@@ -1,4 +1,4 @@
--- The last part of a path.
+-- Lemmas on the last part of a path.
 use Rattle.rclinks_command.proofs.Words.{◌≡◌, ◌≢◌, inl, inr, ℕ, suc, ◌<◌, true, false, sym, ap, ◌∙◌, List, [], ◌∷◌}
 use Rattle.rclinks_command.proofs.Words.{◌++◌, length, drop, take, get_or, refl, arith, Some, None, list_any, or_right}
 use Rattle.rclinks_command.proofs.Words.{take-append-drop, is_slash, last_part}
@@ -18,7 +18,7 @@ last_part-whole : (path : List ℕ) → list_any is_slash path ≡ false → las
 last_part-whole [] none = refl
 last_part-whole (b ∷ path) none = rw none refl
 
--- the last part stands behind a slash that has none behind it
+-- the last part is the text after a slash that is followed by no other
 last_part-after : (front path : List ℕ) → list_any is_slash path ≡ false → last_part (front ++ 47 ∷ path) ≡ path
 last_part-after [] path none = last_part-whole path none
 last_part-after (b ∷ front) path none = rw (or_right (is_slash b) _ (slash front)) (last_part-after front path none)

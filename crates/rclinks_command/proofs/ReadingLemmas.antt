@@ -1,4 +1,4 @@
--- What the paths of scripts give.
+-- Lemmas on reading the scripts at paths.
 use Rattle.rclinks_command.proofs.Words.{◌≡◌, ◌⊎◌, inl, inr, ℕ, suc, Bool, true, List, [], ◌∷◌, ◌++◌, length, slice_get}
 use Rattle.rclinks_command.proofs.Words.{unwrap_or, None, Some, refl, ap, sym, subst, ◌∙◌, append_assoc, arith, map}
 use Rattle.rclinks_command.proofs.Words.{get_or, take, ◌+◌, ◌<◌, both_ways, map-append, KnownTexts, ScriptText}
@@ -12,7 +12,7 @@ use Rattle.std.proofs.lemmas.Option.{none-some}
 pub nil_is_no_cons : {X : Type 0} (x : X) (xs : List X) → [] ≡ x ∷ xs → ⊥
 nil_is_no_cons x xs is = let lengths : 0 ≡ suc (length xs) = ap length is in absurd (omega (arith, lengths))
 
--- where no file has a fault, all paths give scripts
+-- if no file has a fault, all paths yield scripts
 pub all_scripts : (text_at : KnownTexts) (paths : List (List ℕ)) (scripts : List ScriptText)
     → Reads text_at paths scripts [] → AreScripts text_at paths scripts
 all_scripts text_at [] scripts read = subst (λ ss. AreScripts text_at [] ss) (sym read.0) tt
@@ -22,7 +22,7 @@ all_scripts text_at (path ∷ paths) scripts read = elim read [
   | inr bad ↦ absurd (nil_is_no_cons bad.0 bad.1 bad.2)
 ]
 
--- where no file has a fault, or all paths are read whatever comes, all were read
+-- if no file has a fault, or the run continues after faults, all paths were read
 pub all_read : (keeps_going : Bool) (text_at : KnownTexts) (paths : List (List ℕ)) (scripts : List ScriptText)
     (faults : List FileFault)
     → ReadsTo keeps_going text_at paths scripts faults → (keeps_going ≡ true) ⊎ (faults ≡ [])
@@ -33,7 +33,7 @@ all_read keeps_going text_at paths scripts faults reads whole = elim reads.4 [
   | inr part ↦ absurd (elim whole [ inl on ↦ both_ways keeps_going part.0 on | inr none ↦ part.1 none ])
 ]
 
--- the first fault is that of the first path that gives no script
+-- the first fault is that of the first file that is not a script
 pub first_fault : (text_at : KnownTexts) (paths : List (List ℕ)) (scripts : List ScriptText) (found : FileFault)
     (faults : List FileFault)
     → Reads text_at paths scripts (found ∷ faults)
@@ -53,7 +53,7 @@ first_fault text_at (path ∷ paths) scripts found faults read = elim read [
   )
 ]
 
--- one more path gives a script, or a fault
+-- one more path yields a script, or a fault
 push_script : (text_at : KnownTexts) (paths : List (List ℕ)) (scripts : List ScriptText) (faults : List FileFault)
     (path : List ℕ) (s : ScriptText)
     → Reads text_at paths scripts faults → IsScriptAt text_at path s
@@ -96,7 +96,7 @@ reads_push text_at paths path old new before after read one = elim one [
   | inr bad ↦ rw (bad.2, bad.3) (push_fault text_at paths old before path bad.0 read bad.1)
 ]
 
--- the next word's path gives a script, or a fault
+-- the next path yields a script, or a fault
 pub reads_next : (text_at : KnownTexts) (words : List (Bor (List ℕ))) (n : ℕ) (d : Bor (List ℕ))
     (old new : List ScriptText) (before after : List FileFault)
     → n < length words → Reads text_at (map (λ w. w.now) (take n words)) old before
@@ -108,7 +108,7 @@ reads_next text_at words n d old new before after within read one =
     subst (λ ps. Reads text_at ps new after) (sym next)
     (reads_push text_at (map (λ w. w.now) (take n words)) (get_or words n d).now old new before after read one)
 
--- the first fault refuses a run for its file
+-- a run is refused for the file with the first fault
 pub refused_first : (text_at : KnownTexts) (paths read later : List (List ℕ)) (scripts : List ScriptText)
     (faults more : List FileFault) (found : FileFault)
     → paths ≡ read ++ later → Reads text_at read scripts faults → faults ≡ found ∷ more → file_status found ≡ 1
@@ -125,12 +125,12 @@ refused_first text_at paths read later scripts faults more found is reads first 
       status,
     )
 
--- no fault is the first
+-- if there is no first fault, there is none
 pub none_first : (faults : List FileFault) → None ≡ slice_get faults 0 → faults ≡ []
 none_first [] is = refl
 none_first (found ∷ faults) is = absurd (none-some found is)
 
--- this fault is the first
+-- this fault is the first one
 pub some_first : (faults : List FileFault) (found : FileFault) → Some found ≡ slice_get faults 0
     → (more : List FileFault) × (faults ≡ found ∷ more)
 some_first [] found is = absurd (none-some found (sym is))

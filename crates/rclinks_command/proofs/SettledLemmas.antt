@@ -1,4 +1,4 @@
--- Changes, one after the other, that make a plan's folders hold its links.
+-- The changes, one after another, make a plan's folders hold its links.
 use Rattle.rclinks_command.proofs.Words.{◌≡◌, ℕ, Bool, true, false, not, ◌&&◌, ◌||◌, cond, List, [], ◌∷◌, ◌++◌, map}
 use Rattle.rclinks_command.proofs.Words.{flat_map, Some, refl, sym, ap, ◌∙◌, subst, arith, AllByRecursion, filter}
 use Rattle.rclinks_command.proofs.Words.{list_any, bytes_eq, true≢false, and_left, or_left, or_right, ChangeText}
@@ -19,7 +19,7 @@ use Rattle.rc_links.proofs.LinkLemmas.{same_bytes}
 use Rattle.rc_links.proofs.MendingLemmas.{all_among, behind_more, elsewhere, entry_itself, has, made, none_of_folder}
 use Rattle.rc_links.proofs.MendingLemmas.{none_of_folders, not_stale, one_entry}
 
--- changes, and then others
+-- changes followed by others
 pub changed_by-append : (dir : List ℕ) (a b : List ChangeText) (other : List ℕ) (level : Level) (es : List EntryText)
     → changed_by dir (a ++ b) other level es ≡ changed_by dir b other level (changed_by dir a other level es)
 changed_by-append dir a b other level es = by (bytes_eq dir other)
@@ -36,7 +36,7 @@ filter_twice p q r xs is = filter_both p q xs ∙ sym (filter_agree r (λ x. q x
 nor : (a b : Bool) → not (a || b) ≡ (not a && not b)
 nor a b = grind arith
 
--- links that are taken away
+-- links that are removed
 removed : (k : Level) (xs es : List EntryText)
     → held_behind (map (removal k) xs) k es ≡ filter (λ e. not (list_any (λ x. same_entry x e) xs)) es
 removed k [] es = filter_whole es
@@ -51,12 +51,12 @@ removed k (x ∷ xs) es =
     (λ e. not (same_entry x e || list_any (λ y. same_entry y e) xs)) es
     (λ e. nor (same_entry x e) (list_any (λ y. same_entry y e) xs))
 
--- those that pass a test have the entry where it passes and is among them
+-- filtered entries include an entry if it passes the test and was included
 any_kept : (p : EntryText → Bool) (e : EntryText) (es : List EntryText)
     → list_any (λ y. same_entry y e) (filter p es) ≡ (p e && list_any (λ y. same_entry y e) es)
 any_kept p e es = any-filter_same (λ y. same_entry y e) p (p e) (λ y is. ap p (one_entry y e is)) es
 
--- of entries that are among others, those that fail the test or aren't among them are those that fail it
+-- of entries that are all in a list, those that pass the test and are in the list are those that pass the test
 fails : (p : EntryText → Bool) (es all : List EntryText)
     → ((e : EntryText) → list_any (λ y. same_entry y e) es ≡ true → list_any (λ y. same_entry y e) all ≡ true)
     → filter (λ e. not (p e && list_any (λ y. same_entry y e) all)) es ≡ filter (λ e. not (p e)) es
@@ -66,7 +66,7 @@ fails p (x ∷ es) all among =
     let rest = fails p es all (λ e is. among e (or_right (same_entry x e) (list_any (λ y. same_entry y e) es) is)) in
     grind (arith, here, rest)
 
--- what is taken away are those that pass a test
+-- the entries that are removed are those that pass the test
 removed_by : (k : Level) (p : EntryText → Bool) (es : List EntryText)
     → held_behind (map (removal k) (filter p es)) k es ≡ filter (λ e. not (p e)) es
 removed_by k p es =
@@ -78,7 +78,7 @@ removed_by k p es =
 parted : (stale named : Bool) → not stale ≡ (not (stale && named) && not (stale && not named))
 parted stale named = grind arith
 
--- what all pass is left as it is
+-- if all elements pass the test, filtering changes nothing
 filter_all : {X : Type 0} (p : X → Bool) (xs : List X) → AllByRecursion (λ x. p x ≡ true) xs → filter p xs ≡ xs
 filter_all p [] all = refl
 filter_all p (x ∷ xs) all =
@@ -96,7 +96,7 @@ all_stay targets planned es (e ∷ links) all =
       all_stay targets planned es links all.1,
     )
 
--- what is left over goes behind the links that were made, and what was in the way is gone
+-- left-over links are removed after the new ones were created, and those in the way are gone
 left_over_goes : (targets : List (List ℕ)) (planned es : List EntryText)
     → filter (λ e. not (list_any (λ x. same_entry x e) (filter (is_left_over targets planned) es)))
     (filter (λ e. not (is_in_way targets planned e)) es ++ filter (is_missing es) planned) ≡ settled targets planned es
@@ -133,7 +133,7 @@ own_folder k targets planned es =
     ∙ removed k (filter (is_left_over targets planned) es) (kept ++ links)
     ∙ left_over_goes targets planned es
 
--- each level stands once
+-- no level occurs twice
 abbrev once : List Level → Type 0
 once [] = Unit {0}
 once (k ∷ levels) = (list_any (λ l. same_level l k) levels ≡ false) × once levels
@@ -143,7 +143,7 @@ has_level_of : (level : Level) (folders : List FolderText) → list_any (λ l. s
 has_level_of level [] = refl
 has_level_of level (f ∷ folders) = ap (λ b. same_level f.level level || b) (has_level_of level folders)
 
--- the changes of folders settle the one that is known to hold this
+-- the changes of all folders settle the one that is known to hold these entries
 settles_by : (known : KnownFolders) (dir : List ℕ) (level : Level) (plan : List PlannedText) (targets : List (List ℕ))
     (folders : List FolderText) (es : List EntryText)
     → AllByRecursion (IsFolder known dir plan) folders → once (map (λ (f : FolderText). f.level) folders)
@@ -189,7 +189,7 @@ every_level S = refl
 all_once : once all_levels
 all_once = (refl, (refl, (refl, (refl, (refl, (refl, (refl, (refl, (refl, (refl, (refl, tt)))))))))))
 
--- the changes that all folders of a directory need settle them, and no other
+-- the changes that all folders of a directory need settle them, and no others
 pub settles : (known : KnownFolders) (dir other : List ℕ) (level : Level) (plan : List PlannedText)
     (targets : List (List ℕ)) (folders : List FolderText) (es : List EntryText)
     → AreFolders known dir plan folders → known other level ≡ Some es

@@ -1,4 +1,4 @@
--- Scripts that are left out one after another.
+-- Lemmas on scripts that are left out one after another.
 use Rattle.rclinks_command.proofs.Words.{◌≡◌, ℕ, ◌+◌, List, ◌∷◌, ◌++◌, take, drop, IsRefused, ScriptText, IsFaultAt}
 use Rattle.rclinks_command.proofs.Words.{LeavesSome}
 use Rattle.std.specs.declared.alloc.Global.{Global}

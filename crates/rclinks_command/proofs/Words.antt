@@ -1,4 +1,4 @@
--- The words of the proofs of this crate.
+-- Names that all proofs of this crate import.
 pub use Rattle.std.proofs.Common.{◌≡◌, refl, true, ◌≢◌, inl, inr, ℕ, suc, ◌+◌, ◌<◌, Bool, false, ◌&&◌, sym, List, []}
 pub use Rattle.std.proofs.Common.{◌∷◌, length, drop, get_or, arith, ◌⊎◌, ◌++◌, slice_get, unwrap_or, None, Some, ap}
 pub use Rattle.std.proofs.Common.{◌==◌}
@@ -18,7 +18,7 @@ pub use Rattle.rc_links.specs.ScriptText.{ScriptText}
 pub use Rattle.rclinks_command.specs.Reading.{Reads, ReadsOne, ReadsTo, has_faults}
 pub use Rattle.rclinks_command.specs.declared.files.FileFault.{FileFault}
 pub use Rattle.rclinks_command.specs.Reports.{ReportsFile, ReportsPlan, ReportsWhy, TellsFiles, TellsLines, TellsOne}
-pub use Rattle.rclinks_command.specs.Reports.{Warns, ReportsRefused}
+pub use Rattle.rclinks_command.specs.Reports.{ReportsWarning, ReportsRefused}
 pub use Rattle.rclinks_command.specs.Folders.{KnownFolders, KnownScripts, changed_by, changed_in, Becomes}
 pub use Rattle.rc_links.specs.ChangeText.{ChangeText}
 pub use Rattle.rc_links.specs.Changes.{changes_of, is_in_way, is_left_over, is_missing, is_stale, making, removal}
@@ -26,7 +26,8 @@ pub use Rattle.rc_links.specs.Changes.{settled, targets_of, is_taken}
 pub use Rattle.rc_links.specs.EntryText.{EntryText}
 pub use Rattle.rc_links.specs.PlannedText.{PlannedText}
 pub use Rattle.rclinks_command.specs.Writing.{AreFolders, IsFolder, all_levels, changes_in, planned_at, settled_in}
-pub use Rattle.rclinks_command.specs.Writing.{InFolders, IsTaken, IsWritten, Wants, gone_at, link_entry, target_of}
+pub use Rattle.rclinks_command.specs.Writing.{InFolders, IsTaken, IsWritten, NeededChanges, gone_at, link_entry}
+pub use Rattle.rclinks_command.specs.Writing.{target_of}
 pub use Rattle.rclinks_command.specs.Writing.{targets_in, has_taken, changes_text}
 pub use Rattle.rc_links.specs.Plans.{IsRefused, IsPlan}
 pub use Rattle.rclinks_command.specs.Skipping.{IsFaultAt, LeavesSome}

@@ -1,14 +1,14 @@
--- Changes, one more on, and the folders behind all of them.
+-- Lemmas on making one more change, and on the folders after all of them.
 use Rattle.rclinks_command.proofs.Words.{◌≡◌, ℕ, Bool, true, false, ◌+◌, ◌<◌, List, [], ◌∷◌, ◌++◌, length, get_or, drop}
 use Rattle.rclinks_command.proofs.Words.{take, map, Some, sym, ap, ◌∙◌, append_assoc, cut_at, ChangeText, PlannedText}
 use Rattle.rclinks_command.proofs.Words.{Becomes, KnownFolders, KnownScripts, changed_by, changed_in, InFolders}
-use Rattle.rclinks_command.proofs.Words.{IsWritten, Wants}
+use Rattle.rclinks_command.proofs.Words.{IsWritten, NeededChanges}
 use Rattle.rclinks_command.proofs.Words.{◌==◌, filter, list_any, not, refl}
 use Rattle.std.proofs.Math.Dec.{eqb-suc-zero}
 use Rattle.std.proofs.lemmas.List.{length-map}
 use Rattle.rclinks_command.proofs.SettledLemmas.{changed_by-append, settles}
 
--- what one more of a list gives by two steps, and those after it
+-- one more element of a list that is mapped twice, and those after it
 pub mapped-next : {X Y Z : Type 0} (f : Y → Z) (h : X → Y) (all : List X) (position : ℕ) (x : X) (z : Z)
     (old new whole : List Z) → position < length all → x ≡ get_or all position x
     → z ≡ f (h x) → new ≡ old ++ z ∷ [] → old ++ map f (map h (drop position all)) ≡ whole
@@ -27,7 +27,7 @@ any_kept p (y ∷ ys) = by (p y) refl (any_kept p ys)
     by true at rest = rw at (ap not (eqb-suc-zero (length (filter p ys))))
     by false at rest = rw at rest
 
--- those that pass a test are there, where one passes it
+-- there are elements that pass a test if some element passes it
 pub any_of_those : {X Y : Type 0} (p : Y → Bool) (f : X → Y) (xs : List X) (ys : List Y)
     → map f xs ≡ filter p ys → not (length xs == 0) ≡ list_any p ys
 any_of_those p f xs ys are =
@@ -43,17 +43,17 @@ changed-next old before after dir changes position c within at so_far one = λ o
     ∙ ap Some (sym (ap (λ cs. changed_by dir cs other level es) (cut_at changes position c within at).1
     ∙ changed_by-append dir (take position changes) (c ∷ []) other level es))
 
--- what is so of a plan in folders has what follows from it
+-- a property of a plan in folders implies another one that follows from it
 pub in_folders : (keeps : Bool) (known : KnownFolders) (dir : List ℕ) (plan : List PlannedText)
     (P Q : List PlannedText → Type 0)
     → ((p : List PlannedText) → P p → Q p) → InFolders keeps known dir plan P → InFolders keeps known dir plan Q
 in_folders false known dir plan P Q follows holds = follows plan holds
 in_folders true known dir plan P Q follows (folders, are, holds) = (folders, are, follows _ holds)
 
--- all changes that a plan's folders want were made
+-- all changes that a plan's folders need were made
 pub written : (known after : KnownFolders) (scripts : KnownScripts) (prunes : Bool) (dir : List ℕ)
     (plan : List PlannedText) (changes : List ChangeText)
-    → Wants known scripts prunes dir plan changes → Becomes known after (changed_by dir changes)
+    → NeededChanges known scripts prunes dir plan changes → Becomes known after (changed_by dir changes)
     → IsWritten known scripts prunes dir plan after
 written known after scripts prunes dir plan changes wanted made = (
   changes,

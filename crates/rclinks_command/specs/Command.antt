@@ -1,10 +1,10 @@
--- Runs of rclinks over the paths of init scripts.
+-- Runs of rclinks on the paths of init scripts.
 use Rattle.std.specs.Prelude.{◌≡◌, ◌⊎◌, ℕ, Bool, true, false, not, ◌||◌, ◌&&◌, List, [], ◌∷◌, ◌++◌, Option, Some, None}
 use Rattle.std.specs.Prelude.{codes, option_map, unwrap_or}
 use Rattle.std.specs.Option.{is_some}
 use Rattle.std.specs.Io.KnownBytes.{Appends}
 use Rattle.std.specs.declared.alloc.Global.{Global}
-use Rattle.program_io.specs.Reports.{HasReported, ReportList}
+use Rattle.program_io.specs.Reports.{AppendsReport, ReportList}
 use Rattle.program_io.specs.Writing.{AppendsPrefix}
 use Rattle.program_io.specs.Known.{KnownTexts}
 use Rattle.rc_links.specs.AllLast.{with_all}
@@ -26,7 +26,7 @@ use Rattle.rclinks_command.specs.Writing.{InFolders, IsTaken, IsWritten, IsWritt
 use Rattle.rclinks_command.specs.declared.command.TheConstants.{OPTIONS}
 use Rattle.rclinks_command.specs.declared.files.FileFault.{FileFault}
 
--- 4 for lack of memory, 1 for another fault of the plan
+-- the exit status for a fault of the plan: 4 if memory ran out, otherwise 1
 abbrev pub plan_status : {A : Type 0} → PlanFault A → ℕ
 plan_status (plan_fault.DoubleProvide name) = 1
 plan_status (plan_fault.Missing name) = 1
@@ -34,20 +34,20 @@ plan_status (plan_fault.Cycle names) = 1
 plan_status plan_fault.TooDeep = 1
 plan_status plan_fault.Memory = 4
 
--- the scripts have no plan, and why
+-- the scripts have no plan, for a reason other than lack of memory
 abbrev pub HasNoPlan : List ScriptText → Type 0
 HasNoPlan scripts = (found : PlanFault Global) × IsRefused scripts found × (plan_status found ≡ 1)
 
--- the first of the files that gives no script is refused for its name or its header
+-- the first of the files that is not a script is rejected for its name or its header
 abbrev pub HasRefused : KnownTexts → List (List ℕ) → Type 0
 HasRefused text_at paths = (before later : List (List ℕ)) × (path : List ℕ) × (paths ≡ before ++ path ∷ later)
     × ((scripts : List ScriptText) × AreScripts text_at before scripts)
     × (found : FileFault) × IsNoScriptAt text_at path found × (file_status found ≡ 1)
 
--- what words ask for: that all faults are told, that scripts which can't be read or planned are left out, that those
--- which name `$all` come last, that changes of folders are printed and not made, that no facility file is read that is
--- not among the files, that the runlevels of links that are there are kept, that links are taken away whose script is
--- gone, the directory of the folders that are written, and the paths of the files
+-- a parsed command line: report all faults (--all); leave out scripts that can't be read or planned (--skip); put those
+-- that name `$all` last (--all-last); print changes instead of making them (-n); read no facility files
+-- (--no-facilities); keep the runlevels of existing links (--keep); remove links whose script is gone (--prune); the
+-- directory of the folders that are written (--write); and the paths of the files
 pub record Line : Type 0 where
   pub all : Bool
   pub skips : Bool
@@ -59,14 +59,14 @@ pub record Line : Type 0 where
   pub dir : Option (List ℕ)
   pub files : List (List ℕ)
 
--- a fault doesn't end the run
+-- the run continues after a fault
 abbrev pub keeps_going : Line → Bool
 keeps_going line = line.skips || line.all
 
 abbrev pub command_line : App
 command_line = line_of (codes "rclinks") (written OPTIONS.now)
 
--- what the rows of a command line ask for
+-- the command line in the rows of the table
 abbrev pub asked_by : List Row → Line
 asked_by rows = record {
   all = is_set (codes "--all") rows;
@@ -80,28 +80,29 @@ asked_by rows = record {
   files = unwrap_or (all_of (codes "FILE") rows) [];
 }
 
--- what words ask for; where the command line has a fault in them, nothing
+-- the command line for the arguments of the program; none if it is rejected
 abbrev pub rclinks_read_of : List (List ℕ) → Option Line
 rclinks_read_of words = option_map asked_by (given_by command_line words)
 
--- words ask for something that has this
-abbrev pub Says : List (List ℕ) → (Line → Type 0) → Type 0
-Says words P = (line : Line) × (rclinks_read_of words ≡ Some line) × P line
+-- the arguments are a command line for which the property holds
+abbrev pub ParsedArgumentsSatisfy : List (List ℕ) → (Line → Type 0) → Type 0
+ParsedArgumentsSatisfy words P = (line : Line) × (rclinks_read_of words ≡ Some line) × P line
 
--- The same with these facility files in front of the files, where links are made, or their changes printed.
+-- the command line with the facility files before its files, if links are created or their changes are printed
 abbrev pub line_with : List (List ℕ) → Line → Line
 line_with facilities line =
     record line { files = files_with facilities (is_some line.dir && not line.bare) line.files }
 
--- scripts that have this are those of all of the files; or those of the files that give one, without some of them, each
--- left out since there was no plan with it; both with the facility `$all` where what names it comes last
+-- The property holds of the scripts that are planned. Without --skip these are the scripts of all files. With --skip
+-- they are those of the files that are scripts, without some of them, each left out because there was no plan with it.
+-- In both cases the facility `$all` is added if those that name it come last.
 abbrev pub ScriptsOf : KnownTexts → (skips last : Bool) → List (List ℕ) → (List ScriptText → Type 0) → Type 0
 ScriptsOf text_at false last paths P =
     (scripts : List ScriptText) × AreScripts text_at paths scripts × P (with_all last scripts)
 ScriptsOf text_at true last paths P = (read rest : List ScriptText) × (faults : List FileFault)
     × Reads text_at paths read faults × LeavesSome (with_all last read) rest × P rest
 
--- a plan of such scripts has this
+-- the property holds of a plan of these scripts
 abbrev pub PlanOf : KnownTexts → Line → (List PlannedText → Type 0) → Type 0
 PlanOf text_at line P =
     ScriptsOf text_at line.skips line.last line.files
@@ -115,7 +116,7 @@ abbrev pub writes_by : Option Line → Bool
 writes_by None = false
 writes_by (Some line) = writes line
 
--- what is done in the folders of a directory: the changes by which they hold a plan's links are printed, or made
+-- what is done in the folders of a directory: the changes after which they hold a plan's links are printed or made
 abbrev pub DoesIn : Bool → Bool → KnownScripts → KnownFolders → List ℕ → KnownFolders → Option (List ℕ)
     → Option (List ℕ)
     → List PlannedText → Type 0
@@ -123,19 +124,20 @@ DoesIn true prunes scripts before dir after old new plan =
     (text : List ℕ) × Previews before scripts prunes dir plan text × Appends old new text
 DoesIn false prunes scripts before dir after old new plan = IsWritten before scripts prunes dir plan after
 
--- what is done by a plan: its links are printed, or the folders of a directory are to hold them
+-- what is done for a plan: its links are printed, or the folders of a directory are changed to hold them
 abbrev pub DoesBy : Option (List ℕ) → Line → KnownScripts → KnownFolders → KnownFolders → Option (List ℕ)
     → Option (List ℕ) → List PlannedText → Type 0
 DoesBy None line scripts before after old new plan = Appends old new (plan_text plan)
 DoesBy (Some dir) line scripts before after old new plan =
     InFolders line.keeps before dir plan (DoesIn line.dry line.prunes scripts before dir after old new)
 
+-- what a run does: the scripts of its files have a plan, which is carried out
 abbrev pub Does : KnownTexts → Line → KnownScripts → KnownFolders → KnownFolders → Option (List ℕ) → Option (List ℕ)
     → Type 0
 Does text_at line scripts before after old new =
     PlanOf text_at line (DoesBy line.dir line scripts before after old new)
 
--- as far as it came: a prefix of the text, or the first of the changes
+-- the part of the changes that was printed or made: a prefix of their text, or the first of them
 abbrev pub PartIn : Bool → Bool → KnownScripts → KnownFolders → List ℕ → KnownFolders → Option (List ℕ)
     → Option (List ℕ)
     → List PlannedText → Type 0
@@ -143,34 +145,36 @@ PartIn true prunes scripts before dir after old new plan =
     (text : List ℕ) × Previews before scripts prunes dir plan text × AppendsPrefix old new text
 PartIn false prunes scripts before dir after old new plan = IsWrittenPart before scripts prunes dir plan after
 
+-- the part that was done for a plan: a prefix of its text, or that part of the changes
 abbrev pub PartBy : Option (List ℕ) → Line → KnownScripts → KnownFolders → KnownFolders → Option (List ℕ)
     → Option (List ℕ) → List PlannedText → Type 0
 PartBy None line scripts before after old new plan = AppendsPrefix old new (plan_text plan)
 PartBy (Some dir) line scripts before after old new plan =
     InFolders line.keeps before dir plan (PartIn line.dry line.prunes scripts before dir after old new)
 
+-- the part that a run does: the scripts of its files have a plan, of which this part is carried out
 abbrev pub DoesPart : KnownTexts → Line → KnownScripts → KnownFolders → KnownFolders → Option (List ℕ)
     → Option (List ℕ) → Type 0
 DoesPart text_at line scripts before after old new =
     PlanOf text_at line (PartBy line.dir line scripts before after old new)
 
--- a name that the plan needs in the folders of a directory is taken
+-- a name that the plan needs in the folders of a directory is occupied
 abbrev pub TakenBy : Option (List ℕ) → Line → KnownScripts → KnownFolders → List PlannedText → Type 0
 TakenBy None line scripts before plan = ⊥
 TakenBy (Some dir) line scripts before plan =
     InFolders line.keeps before dir plan (IsTaken before scripts line.prunes dir)
 
--- why a run over these files is refused: a file is, or the scripts have no plan
+-- why a run on these files is refused: a file is rejected, or the scripts have no plan
 abbrev pub IsRefusedFor : KnownTexts → (skips last : Bool) → List (List ℕ) → Type 0
 IsRefusedFor text_at skips last paths = HasRefused text_at paths ⊎ ScriptsOf text_at skips last paths HasNoPlan
 
--- why a run on these files is refused: it is refused for them, or a name is taken
+-- why a run is refused: because of its files, or because a name is occupied
 abbrev pub IsRefusedBy : KnownTexts → Line → KnownScripts → KnownFolders → Type 0
 IsRefusedBy text_at line scripts before =
     IsRefusedFor text_at line.skips line.last line.files ⊎ PlanOf text_at line (TakenBy line.dir line scripts before)
 
--- a run that is refused for a file or the plan is reported; or a name is taken
+-- a refusal for a file or the plan is reported; or a name is occupied
 abbrev pub TellsRefused : KnownTexts → Line → KnownScripts → KnownFolders → ReportList → ReportList → Type 0
 TellsRefused text_at line scripts before old new =
-    ((report : List ℕ) × ReportsRefused text_at line.last line.files [] report × HasReported old new report)
+    ((report : List ℕ) × ReportsRefused text_at line.last line.files [] report × AppendsReport old new report)
     ⊎ PlanOf text_at line (TakenBy line.dir line scripts before)

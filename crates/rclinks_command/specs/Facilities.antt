@@ -4,10 +4,10 @@ use Rattle.std.specs.List.{filter, list_any}
 use Rattle.std.specs.Str.{bytes_eq}
 use Rattle.rclinks_command.specs.Files.{last_part}
 
--- none of the files has the name of the facility's
+-- none of the files has the name of the facility file
 abbrev pub is_unnamed : List (List ℕ) → List ℕ → Bool
 is_unnamed files facility = not (list_any (λ file. bytes_eq (last_part file) (last_part facility)) files)
 
--- the facility files whose name none of the files has, where they are taken, and the files
+-- the files, and before them, if they are used, the facility files with a name that none of the files has
 abbrev pub files_with : List (List ℕ) → Bool → List (List ℕ) → List (List ℕ)
 files_with facilities takes files = if takes then filter (is_unnamed files) facilities ++ files else files

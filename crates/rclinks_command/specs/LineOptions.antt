@@ -1,4 +1,4 @@
--- What the words of a command line say.
+-- A parsed command line, as lists.
 use Rattle.std.specs.Prelude.{map}
 use Rattle.std.specs.Option.{option_map}
 use Rattle.rclinks_command.specs.Command as command

@@ -1,17 +1,17 @@
--- The scripts of paths, some of which may give none.
+-- The scripts at paths, some of which may not be scripts.
 use Rattle.std.specs.Prelude.{◌≡◌, ◌≢◌, ◌⊎◌, ℕ, Bool, true, false, List, [], ◌∷◌, ◌++◌}
 use Rattle.program_io.specs.Known.{KnownTexts}
 use Rattle.rc_links.specs.ScriptText.{ScriptText}
 use Rattle.rclinks_command.specs.Files.{IsNoScriptAt, IsScriptAt}
 use Rattle.rclinks_command.specs.declared.files.FileFault.{FileFault}
 
--- the script of a path was added, or the fault of its file
+-- the script at a path was added, or the fault of its file
 abbrev pub ReadsOne : KnownTexts → List ℕ → List ScriptText → List ScriptText → List FileFault → List FileFault → Type 0
 ReadsOne text_at path old new before after =
     ((s : ScriptText) × IsScriptAt text_at path s × (new ≡ old ++ s ∷ []) × (after ≡ before))
     ⊎ ((found : FileFault) × IsNoScriptAt text_at path found × (new ≡ old) × (after ≡ before ++ found ∷ []))
 
--- each path gives a script, or a fault of its file, in order
+-- each path yields a script or the fault of its file, in order
 abbrev pub Reads : KnownTexts → List (List ℕ) → List ScriptText → List FileFault → Type 0
 Reads text_at [] scripts faults = (scripts ≡ []) × (faults ≡ [])
 Reads text_at (path ∷ paths) scripts faults =
@@ -20,12 +20,13 @@ Reads text_at (path ∷ paths) scripts faults =
     ⊎ ((found : FileFault) × (more : List FileFault) × (faults ≡ found ∷ more) × IsNoScriptAt text_at path found
     × Reads text_at paths scripts more)
 
--- there are some
+-- there are faults
 abbrev pub has_faults : List FileFault → Bool
 has_faults [] = false
 has_faults (found ∷ faults) = true
 
--- the same of all paths; or, where it doesn't go on behind a fault, of those up to the first one
+-- each path yields a script or a fault; or, if the run does not continue after a fault, each path up to the first fault
+-- does
 abbrev pub ReadsTo : Bool → KnownTexts → List (List ℕ) → List ScriptText → List FileFault → Type 0
 ReadsTo keeps_going text_at paths scripts faults = (read later : List (List ℕ)) × (paths ≡ read ++ later)
     × Reads text_at read scripts faults × ((later ≡ []) ⊎ (keeps_going ≡ false) × (faults ≢ []))

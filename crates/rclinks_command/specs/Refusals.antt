@@ -3,7 +3,7 @@ use Rattle.std.specs.Prelude.{ℕ}
 use Rattle.rclinks_command.specs.declared.report.Refusal.{Refusal}
 use Rattle.rclinks_command.specs.declared.report.Refusal.TheVariants.{Failed, Memory, Refused}
 
--- 1 where it is refused, 4 where something can't be read and for lack of memory
+-- the exit status: 1 if something is rejected, 4 if something can't be read or memory ran out
 abbrev pub refusal_status : Refusal → ℕ
 refusal_status Refused = 1
 refusal_status Failed = 4

@@ -1,4 +1,4 @@
--- What rclinks makes of the folders of a directory by a plan.
+-- How rclinks changes the folders of a directory for a plan.
 use Rattle.std.specs.Prelude.{◌≡◌, ℕ, Bool, true, false, if◌then◌else◌, List, [], ◌∷◌, ◌++◌, map, flat_map, take, codes}
 use Rattle.std.specs.Prelude.{Some}
 use Rattle.std.specs.List.{AllByRecursion, filter, list_any}
@@ -22,23 +22,23 @@ use Rattle.rclinks_command.specs.Folders.{Becomes, KnownFolders, KnownScripts, c
 abbrev pub all_levels : List Level
 all_levels = L0 ∷ L1 ∷ L2 ∷ L3 ∷ L4 ∷ L5 ∷ L6 ∷ L7 ∷ L8 ∷ L9 ∷ S ∷ []
 
--- where the link of a script leads
+-- the target of the link to a script
 abbrev pub target_of : List ℕ → List ℕ
 target_of name = codes "../init.d/" ++ name
 
--- where the links of a plan's scripts lead
+-- the targets of the links to a plan's scripts
 abbrev pub targets_in : List PlannedText → List (List ℕ)
 targets_in plan = map target_of (map (λ (s : PlannedText). s.name) plan)
 
--- a link, as it stands in a folder
+-- a link as an entry of a folder
 abbrev pub link_entry : List ℕ → EntryText
 link_entry link = entry_of link (target_of (linked_name link))
 
--- the plan's links in a runlevel's folder, as they stand there
+-- the plan's links as entries of a runlevel's folder
 abbrev pub planned_at : List PlannedText → Level → List EntryText
 planned_at plan level = map link_entry (links_at plan level)
 
--- the folder of a runlevel in a directory, with the plan's links, and with what it holds where that is known
+-- the folder of a runlevel in a directory, with the plan's links, and with the entries that it holds if these are known
 pub record IsFolder (known : KnownFolders) (dir : List ℕ) (plan : List PlannedText) (f : FolderText) : Type 0 where
   pub planned : f.planned ≡ planned_at plan f.level
   pub held : (es : List EntryText) → known dir f.level ≡ Some es → f.held ≡ es
@@ -49,37 +49,37 @@ pub record AreFolders (known : KnownFolders) (dir : List ℕ) (plan : List Plann
   pub each : AllByRecursion (IsFolder known dir plan) folders
   pub levels : map (λ (f : FolderText). f.level) folders ≡ all_levels
 
--- a name that the plan needs in one of the folders is taken
+-- a name that the plan needs in one of the folders is occupied
 abbrev pub has_taken : List (List ℕ) → List FolderText → Bool
 has_taken targets folders = list_any (λ (f : FolderText). list_any (is_taken targets f.planned) f.held) folders
 
--- where the links of a folder lead whose script is none of these entries
+-- the targets of the links in a folder that point to an init script which is none of these entries
 abbrev pub gone_at : List EntryText → FolderText → List (List ℕ)
 gone_at scripts f = map (λ (e : EntryText). e.leads) (filter (is_gone scripts) f.held)
 
--- Where the links lead that are settled: to the scripts of the plan; and, where links are taken away whose script is
--- gone, to those scripts.
+-- The targets of the links that are settled: the scripts of the plan; and, with --prune, the scripts that are gone.
 abbrev pub AreTargets : Bool → KnownScripts → List ℕ → List PlannedText → List FolderText → List (List ℕ) → Type 0
 AreTargets false known dir plan folders targets = targets ≡ targets_in plan
 AreTargets true known dir plan folders targets = (scripts : List EntryText)
     × ((es : List EntryText) → known dir ≡ Some es → scripts ≡ es)
     × (targets ≡ targets_in plan ++ flat_map (gone_at scripts) folders)
 
--- the changes that the folders need, where links that lead there are settled
+-- the changes that the folders need, if the links with these targets are settled
 abbrev pub changes_in : List (List ℕ) → List FolderText → List ChangeText
 changes_in targets folders = flat_map (changes_of targets) folders
 
--- the folders of the directory hold just the plan's links, of all numbered links that lead to these places, and what
--- they held besides; all other folders hold what they held
+-- of all numbered links with these targets, the folders of the directory hold exactly the plan's, besides their other
+-- entries; all other folders are unchanged
 abbrev pub settled_in : List ℕ → List (List ℕ) → List PlannedText → List ℕ → Level → List EntryText → List EntryText
 settled_in dir targets plan other level es =
     if bytes_eq dir other then settled targets (planned_at plan level) es else es
 
--- a change, as it is printed
+-- the word for a change
 abbrev pub act_word : LinkAction → List ℕ
 act_word Remove = codes "remove"
 act_word Make = codes "make"
 
+-- the line that is printed for a change
 abbrev pub change_line : ChangeText → List ℕ
 change_line c =
     act_word c.act ++ codes " rc" ++ level_code c.level ∷ codes ".d/" ++ c.entry.name ++ codes " "
@@ -88,14 +88,14 @@ change_line c =
 abbrev pub changes_text : List ChangeText → List ℕ
 changes_text changes = flat_map change_line changes
 
--- a name that the plan needs in the directory's folders is taken
+-- a name that the plan needs in the directory's folders is occupied
 abbrev pub IsTaken : KnownFolders → KnownScripts → Bool → List ℕ → List PlannedText → Type 0
 IsTaken known scripts prunes dir plan = (folders : List FolderText) × (targets : List (List ℕ))
     × AreFolders known dir plan folders × AreTargets prunes scripts dir plan folders targets
     × (has_taken targets folders ≡ true)
 
--- no such name is taken, and these are the changes that the folders need
-pub record Wants (known : KnownFolders) (scripts : KnownScripts) (prunes : Bool) (dir : List ℕ)
+-- no such name is occupied, and these are the changes that the folders need
+pub record NeededChanges (known : KnownFolders) (scripts : KnownScripts) (prunes : Bool) (dir : List ℕ)
     (plan : List PlannedText)
     (changes : List ChangeText) : Type 0 where
   pub folders : List FolderText
@@ -108,21 +108,21 @@ pub record Wants (known : KnownFolders) (scripts : KnownScripts) (prunes : Bool)
 -- the text of the changes that the folders need
 abbrev pub Previews : KnownFolders → KnownScripts → Bool → List ℕ → List PlannedText → List ℕ → Type 0
 Previews known scripts prunes dir plan text =
-    (changes : List ChangeText) × Wants known scripts prunes dir plan changes × (text ≡ changes_text changes)
+    (changes : List ChangeText) × NeededChanges known scripts prunes dir plan changes × (text ≡ changes_text changes)
 
--- no name was taken, and behind the run the folders of the directory hold the plan's links
+-- no name was occupied, and after the run the folders of the directory hold the plan's links
 abbrev pub IsWritten : KnownFolders → KnownScripts → Bool → List ℕ → List PlannedText → KnownFolders → Type 0
 IsWritten known scripts prunes dir plan after =
-    (changes : List ChangeText) × (wanted : Wants known scripts prunes dir plan changes)
+    (changes : List ChangeText) × (wanted : NeededChanges known scripts prunes dir plan changes)
     × Becomes known after (settled_in dir wanted.targets plan)
 
 -- the first of the changes were made
 abbrev pub IsWrittenPart : KnownFolders → KnownScripts → Bool → List ℕ → List PlannedText → KnownFolders → Type 0
 IsWrittenPart known scripts prunes dir plan after =
-    (changes : List ChangeText) × (count : ℕ) × Wants known scripts prunes dir plan changes
+    (changes : List ChangeText) × (count : ℕ) × NeededChanges known scripts prunes dir plan changes
     × Becomes known after (changed_by dir (take count changes))
 
--- a plan in the folders of a directory has this, as it is, or with the runlevels of the links that are there
+-- the property holds of the plan; with --keep, of the plan with the runlevels of the existing links
 abbrev pub InFolders : Bool → KnownFolders → List ℕ → List PlannedText → (List PlannedText → Type 0) → Type 0
 InFolders false known dir plan P = P plan
 InFolders true known dir plan P =

@@ -1,8 +1,9 @@
-//! What a command line asks for, as a value, and then its work: what is told, and what is printed or changed.
+//! Computes what a command line asks for as a value, and then carries it out: the report, and what is printed or
+//! changed.
 
 ghost use Rattle.std.specs.Prelude.{◌≡◌, ◌⊎◌, ℕ, false, [], map, take, IfErr, IfOk, OnOk};
 ghost use Rattle.std.specs.Io.KnownBytes.{Appends};
-ghost use Rattle.program_io.specs.Reports.{HasReported, HasSpoken};
+ghost use Rattle.program_io.specs.Reports.{AppendsReport, LastReportNonempty};
 ghost use Rattle.program_io.specs.Writing.{AppendsPrefix};
 ghost use Rattle.rc_links.specs.AllLast.{with_all};
 ghost use Rattle.rc_links.specs.Plans.{IsPlan};
@@ -33,20 +34,20 @@ use std::io::Write;
 /// What a run does.
 #[derive(Drop)]
 pub(crate) enum Work<'w> {
-    /// It prints a text.
+    /// Prints a text.
     Print(Vec<u8>),
-    /// It makes changes in the folders of a directory.
+    /// Makes changes in the folders of a directory.
     Change(&'w str, Vec<LinkChange>),
 }
 
-/// What is told first, and what is done then.
+/// What is reported first, and what is done then.
 #[derive(Drop)]
 pub(crate) struct Answer<'w> {
     report: Vec<u8>,
     work: Result<Work<'w>, Refusal>,
 }
 
-/// The plan of the scripts. The first fault is told, or all where that is asked for.
+/// Returns the plan of the scripts. Reports the first fault, or all of them if `all` is set.
 fn plan_all(alloc: Global, all: bool, reading: &mut Reading) -> Result<Plan, Refusal>
     ensures planned { IfOk result (IsPlan reading.old.scripts.items) }
     ensures refused { IfErr result (λ refusal. refusal_status refusal ≡ REFUSED
@@ -68,7 +69,7 @@ fn plan_all(alloc: Global, all: bool, reading: &mut Reading) -> Result<Plan, Ref
     }
 }
 
-/// Puts the facility `$all` in front of the scripts where those that name it come last.
+/// Inserts the facility `$all` before the scripts if those that name it are to come last.
 fn add_last(alloc: Global, last: bool, reading: &mut Reading) -> Result<(), Memory>
     ensures scripts { OnOk result
         (reading.new.scripts.items ≡ with_all last reading.old.scripts.items) }
@@ -81,7 +82,7 @@ fn add_last(alloc: Global, last: bool, reading: &mut Reading) -> Result<(), Memo
     Ok(())
 }
 
-/// The plan of the files' scripts.
+/// Returns the plan of the files' scripts.
 fn plan_of<'w, T: Texts>(
     texts: &T,
     alloc: Global,
@@ -123,7 +124,7 @@ fn plan_of<'w, T: Texts>(
     }
 }
 
-/// What is done by a plan.
+/// Returns what is done for a plan.
 fn work_of<'w, F: LinkFolders>(
     folders: &F,
     alloc: Global,
@@ -151,7 +152,7 @@ fn work_of<'w, F: LinkFolders>(
     Ok(Work::Change(dir, changes))
 }
 
-/// What a line asks for. It reads files and folders, and changes nothing.
+/// Returns the answer to a command line. Reads files and folders, and changes nothing.
 pub(crate) fn answer_of<'w, T: Texts, F: LinkFolders>(
     texts: &T,
     folders: &F,
@@ -187,12 +188,12 @@ pub(crate) fn answer_of<'w, T: Texts, F: LinkFolders>(
     }
 }
 
-/// Prints a text, and gives the exit status.
+/// Prints a text, and returns the exit status.
 fn print<W: Write, E: Reporter>(text: &[u8], out: &mut W, err: &mut E) -> u8
     ensures statuses { (result ≡ DONE) ⊎ (result ≡ DEVICE_FAULT) }
     ensures done { result ≡ DONE → Appends (W.contents out.old) (W.contents out.new) text.now }
     ensures part { AppendsPrefix (W.contents out.old) (W.contents out.new) text.now }
-    ensures spoken { result ≡ DEVICE_FAULT → HasSpoken (E.reports err.new) }
+    ensures spoken { result ≡ DEVICE_FAULT → LastReportNonempty (E.reports err.new) }
 {
     if write_text(out, text).is_err() || out.flush().is_err() {
         return report_fault("rclinks", "cannot write", err);
@@ -200,7 +201,7 @@ fn print<W: Write, E: Reporter>(text: &[u8], out: &mut W, err: &mut E) -> u8
     DONE
 }
 
-/// Makes an answer's changes, and gives the exit status.
+/// Makes the changes of an answer, and returns the exit status.
 fn change<F: LinkFolders, E: Reporter>(
     folders: &mut F,
     alloc: Global,
@@ -213,7 +214,7 @@ fn change<F: LinkFolders, E: Reporter>(
         → Becomes (F.held folders.old) (F.held folders.new) (changed_by dir.now changes.now) }
     ensures part { (count : ℕ) × Becomes (F.held folders.old) (F.held folders.new)
         (changed_by dir.now (take count changes.now)) }
-    ensures spoken { result ≡ DEVICE_FAULT → HasSpoken (E.reports err.new) }
+    ensures spoken { result ≡ DEVICE_FAULT → LastReportNonempty (E.reports err.new) }
 {
     match make_changes(folders, alloc, dir, changes) {
         Ok(()) => DONE,
@@ -221,10 +222,10 @@ fn change<F: LinkFolders, E: Reporter>(
     }
 }
 
-/// Reports lines that tell a fault, or that there was no memory to make them, and gives the status.
+/// Reports lines about a fault, or that there was no memory for them, and returns the exit status.
 fn report_lines<E: Reporter>(lines: &[u8], err: &mut E) -> u8
     ensures status { result ≡ DEVICE_FAULT }
-    ensures spoken { HasSpoken (E.reports err.new) }
+    ensures spoken { LastReportNonempty (E.reports err.new) }
 {
     if lines.is_empty() {
         return report_no_memory("rclinks", err);
@@ -233,7 +234,7 @@ fn report_lines<E: Reporter>(lines: &[u8], err: &mut E) -> u8
     DEVICE_FAULT
 }
 
-/// Writes the report of an answer, then does its work, and gives the exit status.
+/// Writes the report of an answer, carries it out, and returns the exit status.
 pub(crate) fn write<F: LinkFolders, W: Write, E: Reporter>(
     folders: &mut F,
     alloc: Global,
@@ -245,14 +246,14 @@ pub(crate) fn write<F: LinkFolders, W: Write, E: Reporter>(
     ensures done { result ≡ DONE → Did answer.now.work (F.held folders.old) (F.held folders.new)
         (W.contents out.old) (W.contents out.new) }
     ensures refused { result ≡ REFUSED → IsRefusal answer.now.work
-        × HasReported (E.reports err.old) (E.reports err.new) answer.now.report.items
+        × AppendsReport (E.reports err.old) (E.reports err.new) answer.now.report.items
         × (out.new ≡ out.old) × (folders.new ≡ folders.old) }
     ensures kept { makes answer.now.work ≡ false → folders.new ≡ folders.old }
     ensures silent { prints answer.now.work ≡ false → out.new ≡ out.old }
     ensures part { (out.new ≡ out.old) × (folders.new ≡ folders.old)
         ⊎ DidPart answer.now.work (F.held folders.old) (F.held folders.new)
         (W.contents out.old) (W.contents out.new) }
-    ensures spoken { result ≡ DEVICE_FAULT → HasSpoken (E.reports err.new) }
+    ensures spoken { result ≡ DEVICE_FAULT → LastReportNonempty (E.reports err.new) }
 {
     err.report(answer.report.as_slice());
     match &answer.work {

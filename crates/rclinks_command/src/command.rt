@@ -1,13 +1,13 @@
-//! The command line of rclinks, and what it prints.
+//! The command line of rclinks, and its output.
 
 ghost use Rattle.std.specs.Prelude.{◌≡◌, ◌⊎◌, true, false, codes, map, string_bytes, IfOk, None};
 ghost use Rattle.clap.specs.Words.{found_of, rows_of};
 ghost use Rattle.command_words.specs.CommandLines.{asks_version};
 ghost use Rattle.command_words.specs.Faults.{ReportsUsage};
 ghost use Rattle.command_words.specs.VersionLine.{PrintsVersion};
-ghost use Rattle.program_io.specs.Reports.{HasSpoken};
+ghost use Rattle.program_io.specs.Reports.{LastReportNonempty};
 ghost use Rattle.rclinks_command.specs.LineOptions.{line_options};
-ghost use Rattle.rclinks_command.specs.Command.{keeps_going, Does, DoesPart, IsRefusedBy, Says, TellsRefused, asked_by, line_with, rclinks_read_of, writes_by};
+ghost use Rattle.rclinks_command.specs.Command.{keeps_going, Does, DoesPart, IsRefusedBy, ParsedArgumentsSatisfy, TellsRefused, asked_by, line_with, rclinks_read_of, writes_by};
 
 use crate::answer::{answer_of, write};
 use crate::facilities::files_with;
@@ -22,31 +22,30 @@ use program_io::{DEVICE_FAULT, DONE, REFUSED, Reporter, Texts, report_no_memory}
 use std::alloc::Global;
 use std::io::Write;
 
-/// What is told where help is asked for.
+/// The usage, printed when help is requested.
 pub const USAGE: &str = "usage: rclinks [--all] [--skip] [--all-last] [--write DIR [-n] [--keep]
                [--prune] [--no-facilities]] FILE..
        rclinks --version
-  --all        tell all faults, and not the first alone
-  --skip       leave out the scripts that can't be read or planned, and plan the
+  --all        report all faults, not only the first
+  --skip       skip the scripts that cannot be read or planned, and plan the
                others
-  --all-last   put what needs $all behind all others, and stop what names it
-               before them
-  --write DIR  make the links in DIR, in rc0.d to rc9.d and rcS.d, and take away
-               the scripts' other numbered links; the facility files that are
-               installed are read in front of the scripts
+  --all-last   start what needs $all after everything else, and stop what names
+               it first
+  --write DIR  create the links in DIR, in rc0.d to rc9.d and rcS.d, and remove
+               the scripts' other numbered links; the installed facility files
+               are read before the scripts
   -n           print what --write would do, and change nothing
-  --keep       leave a script that has links in DIR in their runlevels, and only
-               number it
-  --prune      take away numbered links to ../init.d/NAME where DIR/init.d has
-               no NAME
+  --keep       leave a script that has links in DIR in its runlevels, and only
+               renumber it
+  --prune      remove numbered links to ../init.d/NAME if DIR/init.d has no NAME
   --no-facilities
                read no facility file that is not among the files
 ";
 
-/// What is told of words that are no command line, behind a line that says why.
+/// The usage for rejected arguments, which follows a line with the reason.
 pub const SHORT_USAGE: &str = "usage: rclinks [OPTION].. FILE.. | --help\n";
 
-/// The options and the words of a command line.
+/// The options and the positional arguments of the command line.
 const OPTIONS: &[Row] = &[
     ("--all", "", ""),
     ("--skip", "", ""),
@@ -59,7 +58,7 @@ const OPTIONS: &[Row] = &[
     ("FILE", "..", ""),
 ];
 
-/// What is asked for, over these files.
+/// Returns the parsed command line for these files.
 fn line_of<'f, 'w>(matches: &ArgMatches<'w>, files: &'f [&'w str]) -> Line<'f, 'w>
     ensures { line_options result ≡ record (asked_by (rows_of (found_of matches.now)))
         { files = map (λ file. file.now) files.entry.now } }
@@ -77,7 +76,7 @@ fn line_of<'f, 'w>(matches: &ArgMatches<'w>, files: &'f [&'w str]) -> Line<'f, '
     }
 }
 
-/// The files that are read, with the facility files in front where those are taken.
+/// Returns the files that are read, with the facility files before them if these are used.
 fn files_of<'w>(
     alloc: Global,
     facilities: &'w [String],
@@ -94,18 +93,26 @@ fn files_of<'w>(
     }
 }
 
-/// Runs rclinks on its words, options and the paths of init scripts, and gives its exit status: 0 where their links
-/// were printed on `out`, or the version, where the one word is `--version`; 1 where the words are no command line,
-/// where a script's name or header or the plan is refused, or where a name of a link is taken; 4 where a file can't be
-/// read, a folder can't be listed or changed, the output fails or memory runs out. The first fault ends the run, and is
-/// told on `err`; with `--all` all faults are told there, and the status is that of the first. With `--skip` a script
-/// that can't be read or planned is left out. With `--all-last` a script that names `$all` comes last. With `--write
-/// DIR` the links are not printed but made in the folders of a directory, and numbered links of the scripts that the
-/// plan doesn't have are taken away; with `-n` besides what would be changed is printed, and nothing is changed. With
-/// `--keep` besides a script that has numbered links there stays in their runlevels, and with `--prune` those are taken
-/// away whose script `init.d` of the directory hasn't. With `--write`, and without `--no-facilities`, the facility
-/// files are read in front of the scripts, but for those whose name a script has. What is odd in a header is told on
-/// `err` too, whatever the status.
+/// Runs rclinks with its arguments, options and the paths of init scripts, and returns its exit status.
+///
+/// - 0: the links were printed to `out` or created, or the changes or the version were printed.
+/// - 1: the arguments are rejected, a script's name or header is rejected, the scripts have no plan, or the name of a
+///   link is occupied.
+/// - 4: a file can't be read, a folder can't be listed or changed, the output fails, or memory runs out.
+///
+/// The first fault ends the run and is reported on `err`. Warnings about headers are reported there too, whatever the
+/// status. The options change this:
+///
+/// - `--all`: reports all faults; the status is that of the first.
+/// - `--skip`: leaves out scripts that can't be read or planned.
+/// - `--all-last`: puts scripts that name `$all` last.
+/// - `--write DIR`: creates the links in the folders of a directory instead of printing them, and removes numbered
+///   links to the scripts that are not in the plan. The facility files are read before the scripts, except those with
+///   the name of a script.
+/// - `--write DIR -n`: prints these changes, and makes none.
+/// - `--write DIR --keep`: keeps the runlevels of a script that has numbered links there.
+/// - `--write DIR --prune`: also removes numbered links to scripts that `init.d` of the directory does not have.
+/// - `--write DIR --no-facilities`: does not read the facility files.
 #[tactic(auto, using(crate::proofs::FreeLine::is_free_line))]
 pub fn run_words<'w, T: Texts, F: LinkFolders, W: Write, E: Reporter>(
     texts: &T,
@@ -123,33 +130,37 @@ pub fn run_words<'w, T: Texts, F: LinkFolders, W: Write, E: Reporter>(
         SHORT_USAGE.now (E.reports err.old) (E.reports err.new) }
     ensures version { asks_version (map string_bytes words.now) ≡ true
         → PrintsVersion (codes "rclinks") result (W.contents out.old) (W.contents out.new) }
-    // The links of all of the files, or of those that are not left out, were printed or made, or the changes printed.
+    // The links for all files, or for those that are not left out, were printed or created, or the changes were
+    // printed.
     ensures done { asks_version (map string_bytes words.now) ≡ false → result ≡ DONE →
-        Says (map string_bytes words.now) (λ line. Does (T.text_at texts.now)
+        ParsedArgumentsSatisfy (map string_bytes words.now) (λ line. Does (T.text_at texts.now)
         (line_with (map string_bytes facilities.now) line) (F.scripts_in folders.old)
         (F.held folders.old) (F.held folders.new) (W.contents out.old) (W.contents out.new)) }
-    // The words are no command line, a file was refused, the scripts have no plan, or a name of a link is taken.
+    // The arguments are rejected, a file was rejected, the scripts have no plan, or the name of a link is occupied.
     ensures refused { result ≡ REFUSED → (rclinks_read_of (map string_bytes words.now) ≡ None)
-        ⊎ Says (map string_bytes words.now) (λ line. IsRefusedBy (T.text_at texts.now)
+        ⊎ ParsedArgumentsSatisfy (map string_bytes words.now)
+        (λ line. IsRefusedBy (T.text_at texts.now)
         (line_with (map string_bytes facilities.now) line) (F.scripts_in folders.old)
         (F.held folders.old)) }
-    // Without --all and --skip warnings are told, then a file's path or the plan's first fault, unless a name is taken.
+    // Without --all and --skip, warnings are reported, then a file's path or the plan's first fault, unless a name is
+    // occupied.
     ensures told { asks_version (map string_bytes words.now) ≡ false → result ≡ REFUSED
         → (rclinks_read_of (map string_bytes words.now) ≡ None)
-        ⊎ Says (map string_bytes words.now) (λ line. keeps_going line ≡ false
+        ⊎ ParsedArgumentsSatisfy (map string_bytes words.now) (λ line. keeps_going line ≡ false
         → TellsRefused (T.text_at texts.now) (line_with (map string_bytes facilities.now) line)
         (F.scripts_in folders.old) (F.held folders.old) (E.reports err.old) (E.reports err.new)) }
-    ensures spoken { result ≡ DEVICE_FAULT → HasSpoken (E.reports err.new) }
+    ensures spoken { result ≡ DEVICE_FAULT → LastReportNonempty (E.reports err.new) }
     ensures quiet { result ≡ REFUSED → (out.new ≡ out.old) × (folders.new ≡ folders.old) }
-    // Nothing is changed but by `--write` without `-n`, and then nothing is printed.
+    // Only `--write` without `-n` changes anything, and then nothing is printed.
     ensures kept { writes_by (rclinks_read_of (map string_bytes words.now)) ≡ false
         → folders.new ≡ folders.old }
     ensures silent { asks_version (map string_bytes words.now) ≡ false
         → writes_by (rclinks_read_of (map string_bytes words.now)) ≡ true → out.new ≡ out.old }
-    // Nothing was written, or a prefix of the text, which may be the whole, or the first of the changes were made.
+    // Nothing was written, or a prefix of the text, possibly all of it, or the first changes were made.
     ensures part { asks_version (map string_bytes words.now) ≡ false
         → (out.new ≡ out.old) × (folders.new ≡ folders.old)
-        ⊎ Says (map string_bytes words.now) (λ line. DoesPart (T.text_at texts.now)
+        ⊎ ParsedArgumentsSatisfy (map string_bytes words.now)
+        (λ line. DoesPart (T.text_at texts.now)
         (line_with (map string_bytes facilities.now) line) (F.scripts_in folders.old)
         (F.held folders.old) (F.held folders.new) (W.contents out.old) (W.contents out.new)) }
 {

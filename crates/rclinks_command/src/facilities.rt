@@ -8,7 +8,7 @@ use crate::files::last_part;
 use init_words::Memory;
 use std::alloc::Global;
 
-/// None of the files has the name of the facility's.
+/// Reports whether none of the files has the name of the facility file.
 fn is_unnamed(files: &[&str], facility: &str) -> bool
     ensures { result ≡ is_unnamed (map (λ file. file.now) files.now) facility.now }
 {
@@ -20,7 +20,7 @@ fn is_unnamed(files: &[&str], facility: &str) -> bool
     true
 }
 
-/// Adds the facility files whose name none of the files has.
+/// Adds the facility files with a name that none of the files has.
 fn add_facilities<'w>(
     files: &[&str],
     facilities: &'w [String],
@@ -39,7 +39,7 @@ fn add_facilities<'w>(
     Ok(())
 }
 
-/// The files, with the facility files in front whose name none of them has, where those are taken.
+/// Returns the files, and before them, if `takes` is set, the facility files with a name that none of the files has.
 pub(crate) fn files_with<'w>(
     alloc: Global,
     facilities: &'w [String],

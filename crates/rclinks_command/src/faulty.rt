@@ -1,7 +1,7 @@
-//! Which scripts have a fault that leaves them out of a plan.
+//! Finds the scripts whose fault excludes them from a plan.
 //!
-//! Tested by `tools/pages.d/rclinks-lines`, with `--skip` and `--all`. Each function is its definition in
-//! `specs/Skipping` and may be written otherwise; what a fault says is told by `telling`.
+//! It is tested by `tools/pages.d/rclinks-lines`, with `--skip` and `--all`. The contract of each function is its
+//! definition in `specs/Skipping`, so that its body can be changed freely. The messages about a fault are in `telling`.
 
 ghost use Rattle.std.specs.Prelude.{◌≡◌, ◌<◌, ◌||◌, ◌&&◌, true, IfSome, length};
 ghost use Rattle.rc_links.specs.Scripts.{has_name, has_script};
@@ -9,7 +9,7 @@ ghost use Rattle.rclinks_command.specs.Skipping.{IsFaultAt, is_at_fault, is_doub
 
 use rc_links::{PlanFault, Script, has_name};
 
-/// One of the scripts provides the name.
+/// Reports whether one of the scripts provides the name.
 pub(crate) fn is_provided(scripts: &[Script], name: &str) -> bool
     ensures { result ≡ is_provided scripts.now name.now }
 {
@@ -18,14 +18,14 @@ pub(crate) fn is_provided(scripts: &[Script], name: &str) -> bool
         .any(|script| has_name(name, script.header().provides()))
 }
 
-/// One of the scripts has the name.
+/// Reports whether one of the scripts has the name.
 fn has_script(scripts: &[Script], name: &str) -> bool
     ensures { result ≡ has_script scripts.now name.now }
 {
     scripts.iter().any(|script| script.name() == name)
 }
 
-/// The script provides a name as one before it does, or has the name of one before it.
+/// Reports whether the script provides a name that an earlier one provides, or has the name of an earlier one.
 fn is_doubled(before: &[Script], name: &str, script: &Script) -> bool
     ensures { result ≡ is_doubled before.now name.now script.now }
 {
@@ -33,7 +33,7 @@ fn is_doubled(before: &[Script], name: &str, script: &Script) -> bool
         || (script.name() == name && has_script(before, name))
 }
 
-/// The script requires the name.
+/// Reports whether the script requires the name.
 fn is_required(name: &str, script: &Script) -> bool
     ensures { result ≡ (has_name name.now script.now.header.required_start
         || has_name name.now script.now.header.required_stop) }
@@ -42,7 +42,7 @@ fn is_required(name: &str, script: &Script) -> bool
     has_name(name, header.required_start()) || has_name(name, header.required_stop())
 }
 
-/// The script, which stands behind these, is one that a fault of the plan is about.
+/// Reports whether a fault of the plan is about the script, which comes after these.
 fn is_at_fault(before: &[Script], fault: &PlanFault, script: &Script) -> bool
     ensures { result ≡ is_at_fault before.now fault.now script.now }
 {
@@ -54,8 +54,8 @@ fn is_at_fault(before: &[Script], fault: &PlanFault, script: &Script) -> bool
     }
 }
 
-/// The place of a script that a fault of the plan is about: the first, and of a cycle the last. None where there is no
-/// such script.
+/// Returns the position of a script that a fault of the plan is about: the first one, or for a cycle the last. Returns
+/// `None` if there is no such script.
 pub(crate) fn place_of(scripts: &[Script], fault: &PlanFault) -> Option<usize>
     ensures within { IfSome result (λ position. position < length scripts.now) }
     ensures fault { IfSome result (IsFaultAt scripts.now fault.now) }

@@ -1,33 +1,33 @@
-//! The scripts and facility files that paths lead to.
+//! The scripts and facility files at paths.
 
 ghost use Rattle.std.specs.Prelude.{◌≡◌, true, false, None, Err, IfOk, IfErr, IfSome, OnOk, codes};
-ghost use Rattle.rc_header.specs.Headers.{frame_fault};
+ghost use Rattle.lsb_header.specs.Headers.{frame_fault};
 ghost use Rattle.rc_links.specs.Names.{is_name};
 ghost use Rattle.rclinks_command.specs.Files.{IsNoScript, IsNotRead, IsScriptAt, IsScriptOf, file_status, last_part, refusal_of};
 ghost use Rattle.rclinks_command.specs.Refusals.{refusal_status};
-ghost use Rattle.rclinks_command.specs.Reports.{ReportsWhy, TellsWhy, Warns};
+ghost use Rattle.rclinks_command.specs.Reports.{ReportsWhy, ReportsReason, ReportsWarning};
 
 use crate::remarks::{behind_end, odd_lines};
 use crate::report::{Refusal, add_warnings, add_why};
 use init_words::Memory;
+use lsb_header::{HeaderFault, second_keyword_line};
 use program_io::{DEVICE_FAULT, REFUSED, Reason, Texts};
-use rc_header::{HeaderFault, second_keyword_line};
 use rc_links::{Script, is_name};
 use std::alloc::{AllocError, Global};
 use std::io::{ErrorKind, Write};
 use std::{fmt, io};
 use thiserror::Error;
 
-/// Why a file gives no script.
+/// Why a file is not a script.
 #[derive(Clone, Copy, Debug, Error)]
 pub enum FileFault {
     /// It can't be read.
     #[error("{reason}", reason = Reason(.0))]
     Unread(io::Error),
-    /// Its name is none that a link may have.
-    #[error("the name of a script has bytes of A-Z a-z 0-9 . _ - alone")]
+    /// Its name is not allowed in a link.
+    #[error("the name of a script may contain only A-Z a-z 0-9 . _ -")]
     Name,
-    /// Its header is refused; with the number of the line that the fault is about, where the fault itself has none.
+    /// Its header is rejected. The number is that of the line with the fault, if the fault itself does not contain it.
     #[error("{line}{0}", line = LineWords(*.1))]
     Header(HeaderFault, Option<usize>),
     /// Out of memory.
@@ -35,7 +35,7 @@ pub enum FileFault {
     Memory,
 }
 
-/// The number of a line, in front of what is wrong with it.
+/// The number of a line, before the message about it.
 #[derive(Clone, Copy)]
 struct LineWords(Option<usize>);
 
@@ -60,7 +60,7 @@ impl From<Memory> for FileFault {
 }
 
 impl FileFault {
-    /// The exit status.
+    /// Returns the exit status.
     pub fn status(&self) -> u8
         ensures { result ≡ file_status self.now }
     {
@@ -71,7 +71,7 @@ impl FileFault {
     }
 }
 
-/// The refusal of a run for such a fault.
+/// Returns the refusal of a run with such a fault.
 pub(crate) fn refusal_for(fault: &FileFault) -> Refusal
     ensures { refusal_status result ≡ file_status fault.now }
 {
@@ -81,7 +81,7 @@ pub(crate) fn refusal_for(fault: &FileFault) -> Refusal
     }
 }
 
-/// The text after the last `/` of a path, or the whole path where it has none.
+/// Returns the text after the last `/` of a path, or the whole path if it has none.
 pub(crate) fn last_part(path: &str) -> &str
     ensures { result.now ≡ last_part path.now }
 {
@@ -91,7 +91,7 @@ pub(crate) fn last_part(path: &str) -> &str
     }
 }
 
-/// The fault of a file with this text, whose header has this one.
+/// Returns the fault of a file with this text, whose header has this fault.
 fn refusal_of(text: &[u8], fault: HeaderFault) -> FileFault
     ensures { result ≡ refusal_of text.now fault }
 {
@@ -102,12 +102,13 @@ fn refusal_of(text: &[u8], fault: HeaderFault) -> FileFault
     }
 }
 
-/// The script of a file with this name and text, or the first fault: a name that no link may have, and then what is
-/// wrong with the header.
+/// Returns the script of a file with this name and text, or the first fault: a name that is not allowed in a link, or
+/// otherwise the fault of the header.
 pub fn script_in(alloc: Global, name: &str, text: &[u8]) -> Result<Script, FileFault>
     ensures script { IfOk result (IsScriptOf name.now text.now) }
     ensures fault { IfErr result (IsNoScript name.now text.now) }
-    // A name that no link may have, and a header without its first or its last line, take no memory to refuse.
+    // If the name is not allowed in a link, or the first or the last line of the header is missing, no memory is needed
+    // to report that.
     ensures named { is_name name.now ≡ false → result ≡ Err FileFault.Name }
     ensures frame { is_name name.now ≡ true → IfSome (frame_fault text.now) (λ fault.
         result ≡ Err (refusal_of text.now fault)) }
@@ -115,7 +116,7 @@ pub fn script_in(alloc: Global, name: &str, text: &[u8]) -> Result<Script, FileF
     if !is_name(name.as_bytes()) {
         return Err(FileFault::Name);
     }
-    match rc_header::read(alloc, text) {
+    match lsb_header::read(alloc, text) {
         Ok(header) => match String::from_str(alloc, name) {
             Ok(name) => Ok(Script::new(name, header)),
             Err(AllocError) => Err(FileFault::Memory),
@@ -124,24 +125,24 @@ pub fn script_in(alloc: Global, name: &str, text: &[u8]) -> Result<Script, FileF
     }
 }
 
-/// The reason why a file of this text gives no script, the line of the file that it is about, and what to write in its
-/// place; and that it is left out, where it is.
+/// Returns the message why a file with this text is not a script, the line of the file that it is about, and what to
+/// write instead; and that the file is left out, if it is.
 fn reason_lines(alloc: Global, path: &str, text: &[u8], fault: &FileFault, skips: bool) -> Vec<u8> {
     let mut more = Vec::new(alloc);
     let _ = match behind_end(text, fault) {
         Some((number, after)) => writeln!(
             more,
-            "{path}: line {number}: \"{after}\" stands behind \"### END INIT INFO\", which ends no header then"
+            "{path}: line {number}: \"{after}\" follows \"### END INIT INFO\", so that line does not end the header"
         ),
         None => writeln!(more, "{path}: {fault}"),
     };
     if skips {
-        let _ = writeln!(more, "{path}: left out");
+        let _ = writeln!(more, "{path}: skipped");
     }
     more
 }
 
-/// The word in front of the path of a file that gives no script.
+/// Returns the words before the path of a file that is not a script.
 fn word_of(fault: &FileFault) -> &'static str
     ensures { file_status fault.now ≡ 1 → result.now ≡ codes "bad header: " }
 {
@@ -151,7 +152,7 @@ fn word_of(fault: &FileFault) -> &'static str
     }
 }
 
-/// Tells why a file of this text gives no script: a line that is always the same, and the reason.
+/// Reports why a file with this text is not a script: a line that is always the same, and the reason.
 fn add_refusal(
     alloc: Global,
     path: &str,
@@ -161,7 +162,7 @@ fn add_refusal(
     report: &mut Vec<u8>,
 ) -> Result<(), Memory>
     ensures { OnOk result (file_status fault.now ≡ 1
-        → TellsWhy (codes "bad header: ") path.now report.old.items report.new.items) }
+        → ReportsReason (codes "bad header: ") path.now report.old.items report.new.items) }
 {
     if let FileFault::Memory = fault {
         return Ok(());
@@ -170,7 +171,7 @@ fn add_refusal(
     add_why(report, word_of(fault), path, more.as_slice())
 }
 
-/// Reads the script of a path. What is odd in the lines of its header is told, and why it gives none.
+/// Reads the script at a path. Reports warnings about the lines of its header, and why it is not a script.
 pub(crate) fn script_of<T: Texts>(
     texts: &T,
     alloc: Global,
@@ -180,7 +181,7 @@ pub(crate) fn script_of<T: Texts>(
 ) -> Result<Script, FileFault>
     ensures script { IfOk result (IsScriptAt (T.text_at texts.now) path.now) }
     ensures fault { IfErr result (IsNotRead (T.text_at texts.now) path.now) }
-    ensures warned { OnOk result (Warns report.old.items report.new.items) }
+    ensures warned { OnOk result (ReportsWarning report.old.items report.new.items) }
     ensures told { IfErr result (λ fault. file_status fault ≡ 1
         → ReportsWhy (codes "bad header: ") path.now report.old.items report.new.items) }
 {

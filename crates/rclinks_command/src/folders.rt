@@ -1,4 +1,4 @@
-//! The folders of the runlevels, where their links are listed and changed.
+//! The folders of the runlevels, whose links are listed and changed.
 
 ghost use Rattle.std.specs.Prelude.{◌≡◌, ◌++◌, ◌∷◌, [], List, Option, IfOk, IfSome, OnOk, OnErr, codes, string_bytes};
 ghost use Rattle.rclinks_command.specs.Asked.{Asks, LinkCall, MakeFolder, MakeLink, RemoveFile, calls_for, folder_path};
@@ -14,55 +14,55 @@ use std::path::Path;
 use std::rt::Files;
 use std::{fs, io};
 
-/// What lists and changes the folders of the runlevels in a directory, `rc0.d` to `rc9.d` and `rcS.d`.
+/// Lists and changes the folders of the runlevels in a directory, `rc0.d` to `rc9.d` and `rcS.d`.
 ///
-/// A contract sees of it what a folder holds, where it is known. It may be known of no folder.
+/// Its contracts refer to what a folder holds, if it is known. It may be known for no folder.
 pub trait LinkFolders {
-    /// The entries of a runlevel's folder in a directory; None where they aren't known.
+    /// The entries of a runlevel's folder in a directory, or `None` if they are not known.
     ghost held: { Self → KnownFolders };
 
-    /// What `init.d` in a directory holds; None where that isn't known.
+    /// The entries of `init.d` in a directory, or `None` if they are not known.
     ghost scripts_in: { Self → KnownScripts };
 
-    /// The entries of a runlevel's folder in a directory. A folder that isn't there has none.
+    /// Returns the entries of a runlevel's folder in a directory. A folder that does not exist has none.
     fn entries(&self, alloc: Global, dir: &str, level: Level) -> io::Result<Vec<FolderEntry>>
         ensures { IfOk result (λ found.
             IfSome (held self.now dir.now level) (λ known. found.items ≡ known)) };
 
-    /// The entries of `init.d` in a directory.
+    /// Returns the entries of `init.d` in a directory.
     fn scripts(&self, alloc: Global, dir: &str) -> io::Result<Vec<FolderEntry>>
         ensures { IfOk result (λ found.
             IfSome (scripts_in self.now dir.now) (λ known. found.items ≡ known)) };
 
-    /// Changes a runlevel's folder in a directory. One that isn't there is made with its first link. Where the change
-    /// is refused, the folders hold what they held.
+    /// Changes a runlevel's folder in a directory. A folder that does not exist is created with its first link. If the
+    /// change fails, the folders hold the same entries as before.
     fn change(&mut self, alloc: Global, dir: &str, change: &LinkChange) -> io::Result<()>
         ensures done { OnOk result
             (Becomes (held self.old) (held self.new) (changed_in dir.now change.now)) }
         ensures refused { OnErr result (Stays (held self.old) (held self.new)) };
 }
 
-/// What asks the system for the changes of its files, each by one call.
+/// Makes the system calls that change files, one for each function.
 ///
-/// A contract sees of it what was asked.
+/// Its contracts refer to the calls that were made.
 pub trait LinkCalls {
-    /// What was asked, the newest first; None where that isn't told.
+    /// The calls that were made, the newest first, or `None` if that is not known.
     ghost asked: { Self → Option (List LinkCall) };
 
-    /// Takes the file at a path away.
+    /// Removes the file at a path.
     fn remove(&mut self, path: &str) -> io::Result<()>
         ensures { Asks (asked self.old) (asked self.new) (RemoveFile path.now ∷ []) };
 
-    /// Makes a folder at a path.
+    /// Creates a folder at a path.
     fn make_folder(&mut self, path: &str) -> io::Result<()>
         ensures { Asks (asked self.old) (asked self.new) (MakeFolder path.now ∷ []) };
 
-    /// Makes a symbolic link at a path, which leads to a place.
+    /// Creates a symbolic link at a path, which points to `position`.
     fn make_link(&mut self, position: &str, path: &str) -> io::Result<()>
         ensures { Asks (asked self.old) (asked self.new) (MakeLink position.now path.now ∷ []) };
 }
 
-/// The operating system, which tells nothing of what was asked.
+/// The operating system, whose calls are not known.
 impl<R: Files> LinkCalls for R {
     ghost use Rattle.std.specs.Prelude.{None};
 
@@ -81,7 +81,7 @@ impl<R: Files> LinkCalls for R {
     }
 }
 
-/// The folders of the operating system, and what asks it for their changes. Nothing is known of what they hold.
+/// The folders of the operating system, and what makes the calls that change them. Their entries are not known.
 #[derive(Drop)]
 pub struct SystemFolders<R, C> {
     rt: R,
@@ -89,7 +89,7 @@ pub struct SystemFolders<R, C> {
 }
 
 impl<R: Files + Alloc + Clone + Drop, C: LinkCalls> SystemFolders<R, C> {
-    /// The folders that are read by the one, and changed by the other.
+    /// Creates folders that are read with `rt` and changed with `calls`.
     pub fn new(rt: R, calls: C) -> SystemFolders<R, C>
         ensures { result.calls ≡ calls }
     {
@@ -118,7 +118,7 @@ impl<R: Files + Alloc + Clone + Drop, C: LinkCalls> LinkFolders for SystemFolder
         entries_at(&self.rt, alloc, path.as_str())
     }
 
-    /// It asks for what the change takes, in order, and for nothing else.
+    /// Makes the calls for the change, in order, and no others.
     fn change(&mut self, alloc: Global, dir: &str, change: &LinkChange) -> io::Result<()>
         ensures { OnOk result (Asks (C.asked self.old.calls) (C.asked self.new.calls)
             (calls_for dir.now change.now)) }
@@ -137,7 +137,7 @@ impl<R: Files + Alloc + Clone + Drop, C: LinkCalls> LinkFolders for SystemFolder
     }
 }
 
-/// The entries of a folder.
+/// Returns the entries of a folder.
 fn entries_at<R: Files + Alloc + Clone + Drop>(
     rt: &R,
     alloc: Global,
@@ -150,7 +150,7 @@ fn entries_at<R: Files + Alloc + Clone + Drop>(
     Ok(found)
 }
 
-/// The path of a runlevel's folder.
+/// Returns the path of a runlevel's folder.
 fn folder_path(alloc: Global, dir: &str, level: Level) -> Result<String, AllocError>
     ensures { IfOk result (λ path. string_bytes path ≡ folder_path dir.now level) }
 {
@@ -158,14 +158,14 @@ fn folder_path(alloc: Global, dir: &str, level: Level) -> Result<String, AllocEr
     format!(in alloc; "{dir}/rc{code}.d")
 }
 
-/// The path of a name in a folder.
+/// Returns the path of a name in a folder.
 fn path_in(alloc: Global, folder: &str, name: &str) -> Result<String, AllocError>
     ensures { IfOk result (λ path. string_bytes path ≡ folder.now ++ (codes "/" ++ name.now)) }
 {
     format!(in alloc; "{folder}/{name}")
 }
 
-/// A name or a place as text.
+/// Returns a name or a target as text.
 fn text_of(bytes: &[u8]) -> io::Result<&str>
     ensures { IfOk result (λ text. text.now ≡ bytes.now) }
 {
@@ -175,7 +175,7 @@ fn text_of(bytes: &[u8]) -> io::Result<&str>
     }
 }
 
-/// Nothing stands at the path.
+/// Reports whether there is nothing at the path.
 fn is_absent<R: Files>(rt: &R, path: &str) -> bool {
     match fs::symlink_metadata(rt, path) {
         Ok(_) => false,
@@ -183,7 +183,7 @@ fn is_absent<R: Files>(rt: &R, path: &str) -> bool {
     }
 }
 
-/// Makes a folder where there is none.
+/// Creates a folder if it does not exist.
 fn make_missing<C: LinkCalls>(calls: &mut C, folder: &str) -> io::Result<()>
     ensures { Asks (C.asked calls.old) (C.asked calls.new) (MakeFolder folder.now ∷ []) }
 {
@@ -193,7 +193,7 @@ fn make_missing<C: LinkCalls>(calls: &mut C, folder: &str) -> io::Result<()>
     }
 }
 
-/// Adds an entry of a folder. One whose name is not UTF-8 is passed over, since no link of a plan has such a name.
+/// Adds an entry of a folder. A name that is not UTF-8 is skipped, because no link of a plan has such a name.
 fn add_entry<R: Files + Alloc + Drop, A: Allocator>(
     rt: &R,
     alloc: Global,
@@ -216,7 +216,7 @@ fn add_entry<R: Files + Alloc + Drop, A: Allocator>(
     Ok(())
 }
 
-/// Where a symbolic link leads; to no byte where that is not UTF-8, since no link of a plan leads there.
+/// Returns the target of a symbolic link. It is empty if it is not UTF-8, because no link of a plan has such a target.
 fn place_of<R: Files + Alloc>(rt: &R, alloc: Global, path: Path<'_>) -> io::Result<Vec<u8>> {
     match read_link(rt, path) {
         Ok(position) => Ok(Vec::from_slice(alloc, position.as_path().as_str().as_bytes())?),

@@ -1,5 +1,5 @@
-//! What rclinks does: it reads the files of init scripts, tells what is wrong with them, and prints the links of the
-//! runlevels' folders by the least numbers that their headers allow (LSB Core 5.0).
+//! The command line of `rclinks`: reads init scripts, reports what is wrong with them, and prints or creates the links
+//! in the runlevels' folders, with the least numbers that the scripts' headers allow (LSB Core 5.0).
 #![tactic(auto)]
 
 mod answer;

@@ -1,25 +1,25 @@
-//! What the words of a command line ask for.
+//! A parsed command line.
 
 ghost use Rattle.std.specs.Prelude.{◌≡◌};
 ghost use Rattle.rclinks_command.specs.Command.{keeps_going};
 ghost use Rattle.rclinks_command.specs.LineOptions.{line_options};
 
-/// What words ask for.
+/// A parsed command line.
 #[derive(Clone, Copy)]
 pub(crate) struct Line<'f, 'w> {
-    /// All faults are told, and not the first alone.
+    /// Report all faults, not only the first one.
     pub(crate) all: bool,
-    /// A script that can't be read or planned is left out.
+    /// Leave out scripts that can't be read or planned.
     pub(crate) skips: bool,
-    /// A script that names `$all` comes last.
+    /// Put scripts that name `$all` last.
     pub(crate) last: bool,
-    /// Changes of folders are printed, and not made.
+    /// Print the changes of folders instead of making them.
     pub(crate) dry: bool,
-    /// No facility file is read that is not among the files.
+    /// Do not read facility files other than the given files.
     pub(crate) bare: bool,
-    /// A script that has links keeps their runlevels.
+    /// Keep the runlevels of scripts that have links.
     pub(crate) keeps: bool,
-    /// Links whose script is gone are taken away.
+    /// Remove links whose script is gone.
     pub(crate) prunes: bool,
     /// The directory of the folders that are written.
     pub(crate) dir: Option<&'w str>,
@@ -28,7 +28,7 @@ pub(crate) struct Line<'f, 'w> {
 }
 
 impl<'f, 'w> Line<'f, 'w> {
-    /// A fault doesn't end the run.
+    /// Reports whether the run continues after a fault.
     pub(crate) fn keeps_going(&self) -> bool
         ensures { result ≡ keeps_going (line_options self.now) }
     {

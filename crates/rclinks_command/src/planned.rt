@@ -15,14 +15,14 @@ use std::alloc::Global;
 use std::io;
 use std::io::Write;
 
-/// Why it isn't known what the folders of a directory hold.
+/// Why the contents of a directory's folders are not known.
 #[derive(Drop)]
 pub(crate) enum FoldersFault {
     /// The folder of a runlevel can't be listed.
     Level(Level, io::Error),
     /// The folder of the scripts can't be listed.
     Scripts(io::Error),
-    /// Memory runs out.
+    /// Out of memory.
     Memory,
 }
 
@@ -32,7 +32,7 @@ impl From<Memory> for FoldersFault {
     }
 }
 
-/// Tells such a fault, but for lack of memory, and gives the refusal.
+/// Reports such a fault, unless memory ran out, and returns the refusal.
 pub(crate) fn refuse_unlisted(dir: &str, fault: &FoldersFault, report: &mut Vec<u8>) -> Refusal
     ensures { refusal_status result ≡ 4 }
 {
@@ -54,7 +54,7 @@ pub(crate) fn refuse_unlisted(dir: &str, fault: &FoldersFault, report: &mut Vec<
     Refusal::Failed
 }
 
-/// Where the link of a script leads.
+/// Returns the target of the link to a script.
 fn target_of(alloc: Global, name: &[u8]) -> Result<Vec<u8>, Memory>
     ensures { IfOk result (λ target. target.items ≡ target_of name.now) }
 {
@@ -64,7 +64,7 @@ fn target_of(alloc: Global, name: &[u8]) -> Result<Vec<u8>, Memory>
     Ok(target)
 }
 
-/// A link, as it stands in a folder.
+/// Returns a link as an entry of a folder.
 fn link_entry(alloc: Global, link: &[u8]) -> Result<FolderEntry, Memory>
     ensures { IfOk result (λ entry. entry ≡ link_entry link.now) }
 {
@@ -72,7 +72,7 @@ fn link_entry(alloc: Global, link: &[u8]) -> Result<FolderEntry, Memory>
     Ok(FolderEntry::new(name, target_of(alloc, linked_name(link))?))
 }
 
-/// The plan's links in a runlevel's folder.
+/// Returns the plan's links in a runlevel's folder.
 fn planned_at(alloc: Global, plan: &Plan, level: Level) -> Result<Vec<FolderEntry>, Memory>
     ensures { IfOk result (λ planned. planned.items ≡ planned_at plan.now level) }
 {
@@ -84,7 +84,7 @@ fn planned_at(alloc: Global, plan: &Plan, level: Level) -> Result<Vec<FolderEntr
     Ok(planned)
 }
 
-/// Where the links of a plan's scripts lead.
+/// Returns the targets of the links to a plan's scripts.
 fn targets_in(alloc: Global, plan: &Plan) -> Result<Vec<Vec<u8>>, Memory>
     ensures { IfOk result (λ targets. targets_of targets.items ≡ targets_in plan.now) }
 {
@@ -96,7 +96,7 @@ fn targets_in(alloc: Global, plan: &Plan) -> Result<Vec<Vec<u8>>, Memory>
     Ok(targets)
 }
 
-/// The folder of a runlevel.
+/// Returns the folder of a runlevel.
 fn folder_at<F: LinkFolders>(
     folders: &F,
     alloc: Global,
@@ -114,7 +114,7 @@ fn folder_at<F: LinkFolders>(
     }
 }
 
-/// The folders of all runlevels, with the plan's links and what they hold.
+/// Returns the folders of all runlevels, with the plan's links and the entries that they hold.
 pub(crate) fn folders_in<F: LinkFolders>(
     folders: &F,
     alloc: Global,
@@ -134,7 +134,7 @@ pub(crate) fn folders_in<F: LinkFolders>(
     Ok(found)
 }
 
-/// The plan; where it keeps runlevels, with those of the links that the folders of a directory hold.
+/// Returns the plan. If runlevels are kept, they are those of the links that the folders of a directory hold.
 pub(crate) fn kept_in<F: LinkFolders>(
     folders: &F,
     alloc: Global,
@@ -152,7 +152,7 @@ pub(crate) fn kept_in<F: LinkFolders>(
     Ok(plan.kept(alloc, read.as_slice())?)
 }
 
-/// Adds where the links of a folder lead whose script is none of those that are there.
+/// Adds the targets of the links in a folder whose script is none of these.
 fn add_gone_at(
     alloc: Global,
     scripts: &[FolderEntry],
@@ -168,7 +168,7 @@ fn add_gone_at(
     Ok(())
 }
 
-/// The same of all folders.
+/// Adds the targets of such links in all folders.
 fn add_gone_in(
     alloc: Global,
     scripts: &[FolderEntry],
@@ -184,8 +184,8 @@ fn add_gone_in(
     Ok(())
 }
 
-/// Where the links lead that are settled in the folders of a directory: to the scripts of the plan; and where links are
-/// pruned, to scripts that are gone.
+/// Returns the targets of the links that are settled in the folders of a directory: the scripts of the plan, and if
+/// links are pruned, the scripts that are gone.
 pub(crate) fn targets_for<F: LinkFolders>(
     folders: &F,
     alloc: Global,
@@ -210,7 +210,7 @@ pub(crate) fn targets_for<F: LinkFolders>(
     }
 }
 
-/// Tells the entries of a folder by which a name of the plan is taken, and whether there is one.
+/// Reports the entries of a folder that occupy a name of the plan. Returns whether there are any.
 fn tell_taken_at(
     alloc: Global,
     dir: &str,
@@ -227,13 +227,13 @@ fn tell_taken_at(
         let name = std::str::from_utf8(entry.name()).unwrap_or("?");
         let _ = writeln!(
             report,
-            "rclinks: {dir}/rc{code}.d/{name}: it is no link to a planned script, and the plan needs the name: move it away; nothing was changed"
+            "rclinks: {dir}/rc{code}.d/{name}: not a link to a planned script, but the plan needs this name; nothing was changed: move it away"
         );
     }
     Ok(!found.as_slice().is_empty())
 }
 
-/// Tells the entries by which a name of the plan is taken, and whether there is one.
+/// Reports the entries that occupy a name of the plan. Returns whether there are any.
 pub(crate) fn tell_taken(
     alloc: Global,
     dir: &str,

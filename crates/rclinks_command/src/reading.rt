@@ -1,4 +1,4 @@
-//! All files of a command line, read; what can't be read is told.
+//! Reads all files of a command line, and reports those that can't be read.
 
 ghost use Rattle.std.specs.Prelude.{◌≡◌, ◌&&◌, [], false, not, map, IfOk, OnOk};
 ghost use Rattle.rclinks_command.specs.Command.{keeps_going};
@@ -15,27 +15,27 @@ use program_io::Texts;
 use rc_links::Script;
 use std::alloc::Global;
 
-/// The scripts that files gave, and what is told of the files and the scripts.
+/// The scripts in the files, and the report about the files and the scripts.
 #[derive(Drop)]
 pub(crate) struct Reading<'w> {
-    /// The scripts, but for those that are left out.
+    /// The scripts, except those that are left out.
     pub(crate) scripts: Vec<Script>,
     /// The path of each script.
     pub(crate) paths: Vec<&'w str>,
-    /// The scripts that are left out, since there is no plan with them.
+    /// The scripts that are left out because there is no plan with them.
     pub(crate) outs: Vec<Script>,
-    /// What is told.
+    /// The report.
     pub(crate) report: Vec<u8>,
 }
 
 impl<'w> Reading<'w> {
-    /// The path of the script at a place.
+    /// Returns the path of the script at a position.
     pub(crate) fn path_at(&self, position: usize) -> &'w str {
         self.paths.as_slice().get(position).copied().unwrap_or("")
     }
 }
 
-/// Reads the script of a path; a file that gives none is told.
+/// Reads the script at a path. Reports a file that is not a script.
 fn read_one<'w, T: Texts>(
     texts: &T,
     alloc: Global,
@@ -62,15 +62,15 @@ fn read_one<'w, T: Texts>(
     Ok(())
 }
 
-/// The files behind a fault are not read.
+/// Reports whether the files after a fault are not read.
 fn is_over(keeps_going: bool, faults: &[FileFault]) -> bool
     ensures { result ≡ (not keeps_going && has_faults faults.now) }
 {
     !keeps_going && matches!(faults, [_, ..])
 }
 
-/// Reads the scripts of a line's files, in order, and gives the faults of the files that give none, which are told.
-/// Where it doesn't go on, nothing is read behind the first.
+/// Reads the scripts of a command line's files, in order, reports the files that are not scripts, and returns their
+/// faults. Unless the run continues after a fault, nothing is read after the first one.
 pub(crate) fn read_files<'w, T: Texts>(
     texts: &T,
     alloc: Global,

@@ -1,14 +1,14 @@
-//! Warnings: what stands in a header and counts for nothing. Each is a line without the words in front of it.
+//! Warnings about text in a header that has no effect. Each is a line without its first words.
 
 use crate::files::FileFault;
 use init_words::Level;
-use rc_header::{Header, HeaderFault, Keyword, block_line, find_header, known_of};
+use lsb_header::{Header, HeaderFault, Keyword, block_line, find_header, known_of};
 use std::alloc::Global;
 use std::io::Write;
 use std::str;
 use text_lines::next_word;
 
-/// What is odd in the lines of a file's header, whether or not it can be read.
+/// Returns the warnings about the lines of a file's header, whether or not the header can be read.
 pub(crate) fn odd_lines(alloc: Global, path: &str, text: &[u8]) -> Vec<u8> {
     let mut odd = Vec::new(alloc);
     let Some((begin, body)) = find_header(text) else {
@@ -24,7 +24,7 @@ pub(crate) fn odd_lines(alloc: Global, path: &str, text: &[u8]) -> Vec<u8> {
     odd
 }
 
-/// What stands behind the words of the line by which a header that has this fault would end, and that line's number.
+/// Returns the text after the words of the line that would end a header with this fault, and the number of that line.
 pub(crate) fn behind_end<'t>(text: &'t [u8], fault: &FileFault) -> Option<(usize, &'t str)> {
     let last = match fault {
         FileFault::Header(HeaderFault::NoEnd, _) => usize::MAX,
@@ -46,12 +46,12 @@ pub(crate) fn behind_end<'t>(text: &'t [u8], fault: &FileFault) -> Option<(usize
     None
 }
 
-/// Tells what is odd in a line of a header.
+/// Adds the warnings about a line of a header.
 fn tell_odd_line(path: &str, number: usize, line: &[u8], odd: &mut Vec<u8>) {
     if let [b'#', b'\t', ..] = line {
         let _ = writeln!(
             odd,
-            "{path}: line {number}: a tab behind \"#\": it is no keyword's line"
+            "{path}: line {number}: a tab follows \"#\", so it is not a keyword line"
         );
     }
     if let [.., b'\r'] = line {
@@ -62,7 +62,7 @@ fn tell_odd_line(path: &str, number: usize, line: &[u8], odd: &mut Vec<u8>) {
     }
 }
 
-/// Tells the words that are no runlevels of the system.
+/// Adds the words that are not runlevels of the system.
 fn tell_odd_levels(path: &str, number: usize, levels: &[u8], odd: &mut Vec<u8>) {
     let mut rest = levels;
     while let Some((word, more)) = next_word(rest) {
@@ -74,16 +74,16 @@ fn tell_odd_levels(path: &str, number: usize, levels: &[u8], odd: &mut Vec<u8>) 
     }
 }
 
-/// Why a word is no runlevel of the system; None where it is one.
+/// Returns why a word is not a runlevel of the system, or `None` if it is one.
 fn odd_level(word: &[u8]) -> Option<&'static str> {
     match word {
         [b'7'..=b'9'] => Some("above the runlevels 0 to 6"),
         [code] if Level::read(*code).is_some() => None,
-        _ => Some("no runlevel"),
+        _ => Some("not a runlevel"),
     }
 }
 
-/// The runlevels that stand in both lists of a header that was read.
+/// Returns the runlevels that are in both lists of a header.
 pub(crate) fn odd_header(alloc: Global, path: &str, header: &Header) -> Vec<u8> {
     let mut odd = Vec::new(alloc);
     for level in header.default_start() {
@@ -91,7 +91,7 @@ pub(crate) fn odd_header(alloc: Global, path: &str, header: &Header) -> Vec<u8> 
             let code = char::from(level.code());
             let _ = writeln!(
                 odd,
-                "{path}: runlevel {code} stands in Default-Start and Default-Stop"
+                "{path}: runlevel {code} is in both Default-Start and Default-Stop"
             );
         }
     }

@@ -1,9 +1,9 @@
-//! The report of a run, a text of lines: warnings, and why the run is refused.
+//! The report of a run, which consists of lines: warnings, and why the run is refused.
 //!
-//! Tested by `tools/pages.d/rclinks`. What a line says behind its word is made by `remarks` and `telling`.
+//! It is tested by `tools/pages.d/rclinks`. The text after the first word of a line comes from `remarks` and `telling`.
 
 ghost use Rattle.std.specs.Prelude.{◌≡◌, ◌++◌, OnOk};
-ghost use Rattle.rclinks_command.specs.Reports.{TellsLines, TellsWhy, Warns, line_of};
+ghost use Rattle.rclinks_command.specs.Reports.{TellsLines, ReportsReason, ReportsWarning, line_of};
 
 use init_words::Memory;
 use text_lines::next_line;
@@ -11,9 +11,9 @@ use text_lines::next_line;
 /// Why a run does nothing.
 #[derive(Clone, Copy)]
 pub(crate) enum Refusal {
-    /// A file, the scripts or a name of a link are refused, of which the report says why.
+    /// A file, the scripts or the name of a link are rejected. The report says why.
     Refused,
-    /// A file can't be read, or a folder can't be listed, of which the report says why.
+    /// A file can't be read, or a folder can't be listed. The report says why.
     Failed,
     /// Out of memory.
     Memory,
@@ -30,7 +30,7 @@ impl From<Memory> for Refusal {
     }
 }
 
-/// Adds a line of the program: a word, and what stands behind it.
+/// Adds a line with the program's name, a word, and the text after it.
 fn add_line(report: &mut Vec<u8>, word: &str, rest: &[u8]) -> Result<(), Memory>
     ensures { OnOk result (report.new.items ≡ report.old.items ++ line_of word.now rest.now) }
 {
@@ -41,7 +41,7 @@ fn add_line(report: &mut Vec<u8>, word: &str, rest: &[u8]) -> Result<(), Memory>
     Ok(())
 }
 
-/// Adds each of these lines behind a word.
+/// Adds each of these lines with a word before it.
 pub(crate) fn add_lines(report: &mut Vec<u8>, word: &str, lines: &[u8]) -> Result<(), Memory>
     ensures { OnOk result (TellsLines word.now report.old.items report.new.items) }
 {
@@ -55,12 +55,12 @@ pub(crate) fn add_lines(report: &mut Vec<u8>, word: &str, lines: &[u8]) -> Resul
 
 /// Adds these lines as warnings.
 pub(crate) fn add_warnings(report: &mut Vec<u8>, odd: &[u8]) -> Result<(), Memory>
-    ensures { OnOk result (Warns report.old.items report.new.items) }
+    ensures { OnOk result (ReportsWarning report.old.items report.new.items) }
 {
     add_lines(report, "warning: ", odd)
 }
 
-/// Adds why a run is refused, in a line, and behind it the lines that say more.
+/// Adds the line that says why a run is refused, and the lines that give details.
 pub(crate) fn add_why(
     report: &mut Vec<u8>,
     word: &str,
@@ -68,7 +68,7 @@ pub(crate) fn add_why(
     more: &[u8],
 ) -> Result<(), Memory>
     ensures { OnOk result
-        (TellsWhy word.now rest.now report.old.items report.new.items) }
+        (ReportsReason word.now rest.now report.old.items report.new.items) }
 {
     add_line(report, word, rest.as_bytes())?;
     add_lines(report, "", more)

@@ -1,12 +1,12 @@
-//! The plan of what is left where faulty scripts are left out, one after the other: since that is asked for (`--skip`),
-//! or to tell all faults of scripts of which nothing is made (`--all`).
+//! Plans scripts without the faulty ones, which are left out one after another: for `--skip`, or to report all faults
+//! of scripts whose plan is not used (`--all`).
 
 ghost use Rattle.std.specs.Prelude.{◌≡◌, ◌<◌, ◌+◌, ◌++◌, [], IfOk, IfErr, OnOk, length, take, drop};
 ghost use Rattle.rc_links.specs.FaultTexts.{fault_text};
 ghost use Rattle.rc_links.specs.Plans.{IsPlan};
 ghost use Rattle.rclinks_command.specs.Command.{HasNoPlan, plan_status};
 ghost use Rattle.rclinks_command.specs.Refusals.{refusal_status};
-ghost use Rattle.rclinks_command.specs.Reports.{TellsWhy};
+ghost use Rattle.rclinks_command.specs.Reports.{ReportsReason};
 ghost use Rattle.rclinks_command.specs.Skipping.{LeavesSome};
 
 use crate::faulty::{is_provided, place_of};
@@ -19,7 +19,7 @@ use rc_links::{Plan, PlanFault, plan};
 use std::alloc::Global;
 use std::io::Write;
 
-/// The refusal of a run for a fault of the plan.
+/// Returns the refusal of a run for a fault of the plan.
 pub(crate) fn refusal_of(fault: &PlanFault) -> Refusal
     ensures { refusal_status result ≡ plan_status fault.now }
 {
@@ -29,13 +29,13 @@ pub(crate) fn refusal_of(fault: &PlanFault) -> Refusal
     }
 }
 
-/// Tells the fault of scripts of which none is left out, and who is at fault.
+/// Reports the fault of scripts of which none is left out, and the scripts that cause it.
 pub(crate) fn add_first(
     alloc: Global,
     fault: &PlanFault,
     reading: &mut Reading,
 ) -> Result<(), Memory>
-    ensures { OnOk result (TellsWhy [] (fault_text fault.now) reading.old.report.items
+    ensures { OnOk result (ReportsReason [] (fault_text fault.now) reading.old.report.items
         reading.new.report.items) }
 {
     let why = format!(in alloc; "{fault}")?;
@@ -46,9 +46,9 @@ pub(crate) fn add_first(
     add_why(&mut reading.report, "", why.as_str(), more.as_slice())
 }
 
-/// Tells a fault of scripts that have no plan, and who is at fault with whom: the script at the place, which is left out
-/// next. Where nothing is made of the rest (`skips` is false), a name that is missing only since the script that provides
-/// it was left out is no fault to tell.
+/// Reports a fault of scripts that have no plan, and the scripts that cause it: the one at the position, which is left
+/// out next, and the others. If the plan of the rest is not used (`skips` is false), a name that is missing only
+/// because the script that provides it was left out is not reported.
 fn tell_fault(
     alloc: Global,
     fault: &PlanFault,
@@ -69,12 +69,12 @@ fn tell_fault(
     let _ = writeln!(reading.report, "rclinks: {fault}");
     add_lines(&mut reading.report, "", more.as_slice())?;
     if skips {
-        let _ = writeln!(reading.report, "rclinks: {path}: left out");
+        let _ = writeln!(reading.report, "rclinks: {path}: skipped");
     }
     Ok(())
 }
 
-/// Takes the script at a place out, with its path, and keeps it among those that are left out.
+/// Removes the script at a position, with its path, and adds it to those that are left out.
 fn leave_out(reading: &mut Reading, position: usize) -> Result<(), Memory>
     requires { position < length reading.old.scripts.items }
     ensures { reading.new.scripts.items
@@ -88,8 +88,8 @@ fn leave_out(reading: &mut Reading, position: usize) -> Result<(), Memory>
     Ok(())
 }
 
-/// Plans the scripts; where they have no plan, a script at fault is left out and told, and so on until the others have
-/// one. Where none is at fault, the fault is told, and there is no plan.
+/// Plans the scripts. While they have no plan, a script that causes the fault is reported and left out. If no script
+/// causes it, the fault is reported, and there is no plan.
 pub(crate) fn plan_rest(alloc: Global, skips: bool, reading: &mut Reading) -> Result<Plan, Refusal>
     ensures planned { IfOk result (IsPlan reading.new.scripts.items) }
     ensures refused { IfErr result (λ refusal. refusal_status refusal ≡ REFUSED

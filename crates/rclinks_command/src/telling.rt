@@ -1,17 +1,17 @@
-//! Who needs what: the faults of a plan, told with names and paths.
+//! The messages about the faults of a plan, with names and paths: which script needs which.
 
 use crate::faulty::is_provided;
 use crate::reading::Reading;
-use rc_header::Header;
+use lsb_header::Header;
 use rc_links::{PlanFault, Script, has_name};
 use std::alloc::Global;
 use std::io::Write;
 
-/// A keyword, and the name after it by which a script needs another.
+/// A keyword, and the name after it by which a script needs another one.
 type Naming<'s> = (&'static str, &'s str);
 
-/// What is told of a fault of scripts that have no plan, behind the line that says it: who is at fault with whom, the
-/// script at the place; of the names that it misses the first alone, or all.
+/// Returns the lines that follow the message about a fault of scripts that have no plan: which scripts cause it
+/// together with the one at the position. Of the missing names they give the first one or all.
 pub(crate) fn who_lines(
     alloc: Global,
     fault: &PlanFault,
@@ -37,16 +37,16 @@ pub(crate) fn who_lines(
     more
 }
 
-/// The same where none of the scripts can be left out.
+/// Returns these lines if none of the scripts can be left out.
 pub(crate) fn last_lines(alloc: Global, fault: &PlanFault) -> Vec<u8> {
     let mut more = Vec::new(alloc);
     if let PlanFault::TooDeep = fault {
-        let _ = writeln!(more, "more than 99 scripts need each the next");
+        let _ = writeln!(more, "more than 99 scripts each need the next");
     }
     more
 }
 
-/// Tells the two files of a name that both provide, or have.
+/// Adds the two files that provide the same name or have the same name.
 fn tell_double(name: &str, reading: &Reading, position: usize, more: &mut Vec<u8>) {
     let scripts = reading.scripts.as_slice();
     let path = reading.path_at(position);
@@ -68,7 +68,7 @@ fn tell_double(name: &str, reading: &Reading, position: usize, more: &mut Vec<u8
     }
 }
 
-/// Tells the names that a script requires and that no script provides, each once, or only the one.
+/// Adds the names that a script requires and no script provides, each once, or only the given one.
 fn tell_missing(
     script: &Script,
     path: &str,
@@ -100,23 +100,24 @@ fn tell_missing(
     }
 }
 
-/// No script provides the name, which is none of the system's, and the only one that is told, where one is.
+/// Reports whether no script provides the name, it is not one of the system, and it is the one to be reported if only
+/// one is.
 fn is_missing(name: &str, only: Option<&str>, reading: &Reading) -> bool {
     !name.starts_with('$')
         && !is_provided(reading.scripts.as_slice(), name)
         && !only.is_some_and(|one| one != name)
 }
 
-/// Why no script provides the name.
+/// Returns why no script provides the name.
 fn reason_of(name: &str, reading: &Reading) -> &'static str {
     if is_provided(reading.outs.as_slice(), name) {
-        "which is left out"
+        "which is skipped"
     } else {
         "which no file provides"
     }
 }
 
-/// Tells the way of a cycle, name by name.
+/// Adds the steps of a cycle, name by name.
 fn tell_cycle(names: &[String], scripts: &[Script], more: &mut Vec<u8>) {
     let starts = is_start_cycle(names, scripts);
     for at in 0..names.len() {
@@ -132,7 +133,7 @@ fn tell_cycle(names: &[String], scripts: &[Script], more: &mut Vec<u8>) {
     }
 }
 
-/// The scripts of a step of a cycle, of which the first needs the second.
+/// Returns the scripts of a step of a cycle. The first needs the second.
 fn step_of<'s>(
     names: &[String],
     scripts: &'s [Script],
@@ -153,7 +154,7 @@ fn script_named<'s>(scripts: &'s [Script], name: &str) -> Option<&'s Script> {
     scripts.iter().find(|script| script.name() == name)
 }
 
-/// Each script of the cycle needs the next to start.
+/// Reports whether each script of the cycle needs the next one for its start.
 fn is_start_cycle(names: &[String], scripts: &[Script]) -> bool {
     for at in 0..names.len() {
         match step_of(names, scripts, at) {
@@ -164,7 +165,7 @@ fn is_start_cycle(names: &[String], scripts: &[Script]) -> bool {
     true
 }
 
-/// How a script names another that is started before it, or stopped after it.
+/// Returns how a script names another one that is started before it, or stopped after it.
 fn naming<'s>(starts: bool, from: &'s Script, to: &Script) -> Option<Naming<'s>> {
     let header = from.header();
     let (first, required, second, should) = if starts {
@@ -185,7 +186,7 @@ fn naming<'s>(starts: bool, from: &'s Script, to: &Script) -> Option<Naming<'s>>
     first_provided(first, required, to).or(first_provided(second, should, to))
 }
 
-/// The first of the names of a keyword that a script provides.
+/// Returns the first of a keyword's names that a script provides.
 fn first_provided<'s>(
     keyword: &'static str,
     names: &'s [String],
@@ -196,7 +197,7 @@ fn first_provided<'s>(
     Some((keyword, name.as_str()))
 }
 
-/// The names of the system that scripts name and none provides, each once.
+/// Returns the names of the system that scripts name and none provides, each once.
 pub(crate) fn odd_names(alloc: Global, reading: &Reading) -> Vec<u8> {
     let mut odd = Vec::new(alloc);
     let scripts = reading.scripts.as_slice();
@@ -212,7 +213,7 @@ pub(crate) fn odd_names(alloc: Global, reading: &Reading) -> Vec<u8> {
     odd
 }
 
-/// Tells the keywords of a script that name `$all`.
+/// Adds the keywords of a script that name `$all`.
 fn tell_all(header: &Header, path: &str, odd: &mut Vec<u8>) {
     for (keyword, names) in [
         ("Required-Start", header.required_start()),
@@ -223,13 +224,14 @@ fn tell_all(header: &Header, path: &str, odd: &mut Vec<u8>) {
         if has_name("$all", names) {
             let _ = writeln!(
                 odd,
-                "{path}: {keyword} names $all, which orders nothing without --all-last"
+                "{path}: {keyword} names $all, which has no effect without --all-last"
             );
         }
     }
 }
 
-/// Tells those of a script's names that are the system's, and that no script provides and none before it names.
+/// Adds those of a script's names that are names of the system, are provided by no script, and were not named by an
+/// earlier script.
 fn tell_system(
     names: &[String],
     path: &str,
@@ -246,13 +248,13 @@ fn tell_system(
         {
             let _ = writeln!(
                 odd,
-                "{path}: names {name}, which no file provides: it orders nothing"
+                "{path}: names {name}, which no file provides: it has no effect"
             );
         }
     }
 }
 
-/// One of the scripts is started after what has the name.
+/// Reports whether one of the scripts is started after what has the name.
 fn is_named(scripts: &[Script], name: &str) -> bool {
     scripts.iter().any(|script| {
         let header = script.header();

@@ -1,8 +1,8 @@
-//! The changes that a plan asks of the folders of a directory, printed or made.
+//! Prints or makes the changes that a plan needs in the folders of a directory.
 
 ghost use Rattle.std.specs.Prelude.{◌≡◌, ◌++◌, ℕ, None, IfOk, IfSome, OnOk, take};
 ghost use Rattle.rclinks_command.specs.Folders.{Becomes, changed_by};
-ghost use Rattle.rclinks_command.specs.Writing.{InFolders, IsTaken, Wants, act_word, change_line, changes_text};
+ghost use Rattle.rclinks_command.specs.Writing.{InFolders, IsTaken, NeededChanges, act_word, change_line, changes_text};
 
 use crate::folders::LinkFolders;
 use crate::line::Line;
@@ -14,15 +14,15 @@ use std::alloc::Global;
 use std::io;
 use std::io::Write;
 
-/// The change that the system refused.
+/// A change that failed.
 #[derive(Drop)]
 pub(crate) struct Failure {
-    /// Its place among the changes.
+    /// Its position among the changes.
     position: usize,
     error: io::Error,
 }
 
-/// The word for what is done with an entry.
+/// Returns the word for what is done with an entry.
 fn act_word(act: LinkAction) -> &'static [u8]
     ensures { result.now ≡ act_word act }
 {
@@ -32,7 +32,7 @@ fn act_word(act: LinkAction) -> &'static [u8]
     }
 }
 
-/// Appends a change's line.
+/// Appends the line for a change.
 fn add_change(text: &mut Vec<u8>, change: &LinkChange) -> Result<(), Memory>
     ensures { OnOk result (text.new.items ≡ text.old.items ++ change_line change.now) }
 {
@@ -47,7 +47,7 @@ fn add_change(text: &mut Vec<u8>, change: &LinkChange) -> Result<(), Memory>
     Ok(())
 }
 
-/// The lines of changes.
+/// Returns the lines for changes.
 pub(crate) fn changes_text(alloc: Global, changes: &[LinkChange]) -> Result<Vec<u8>, Memory>
     ensures { IfOk result (λ text. text.items ≡ changes_text changes.now) }
 {
@@ -58,7 +58,7 @@ pub(crate) fn changes_text(alloc: Global, changes: &[LinkChange]) -> Result<Vec<
     Ok(text)
 }
 
-/// Tells changes, one a line, behind a word.
+/// Adds changes to a report, one per line, with a word before each.
 fn tell_changes(alloc: Global, word: &str, changes: &[LinkChange], told: &mut Vec<u8>) {
     for change in changes {
         let mut text = Vec::new(alloc);
@@ -69,7 +69,7 @@ fn tell_changes(alloc: Global, word: &str, changes: &[LinkChange], told: &mut Ve
     }
 }
 
-/// What is told where the system refused the change at a place: why, what was done before it, and what wasn't done.
+/// Returns the message about the change that failed: why, what was done before it, and what was not done.
 pub(crate) fn failure_lines(
     alloc: Global,
     dir: &str,
@@ -85,7 +85,7 @@ pub(crate) fn failure_lines(
     told
 }
 
-/// Makes changes in a directory, one after the other, up to one that the system refuses.
+/// Makes changes in a directory, one after another, until one fails.
 pub(crate) fn make_changes<F: LinkFolders>(
     folders: &mut F,
     alloc: Global,
@@ -105,7 +105,8 @@ pub(crate) fn make_changes<F: LinkFolders>(
     Ok(())
 }
 
-/// The changes that a plan asks of the folders of a directory; None where a name is taken, which is told.
+/// Returns the changes that a plan needs in the folders of a directory, or `None` if a name is occupied, which is
+/// reported.
 pub(crate) fn changes_for<F: LinkFolders>(
     folders: &F,
     alloc: Global,
@@ -115,7 +116,7 @@ pub(crate) fn changes_for<F: LinkFolders>(
     report: &mut Vec<u8>,
 ) -> Result<Option<Vec<LinkChange>>, FoldersFault>
     ensures wanted { IfOk result (λ asked. IfSome asked (λ found. InFolders line.now.keeps
-        (F.held folders.now) dir.now plan (λ plan. Wants (F.held folders.now)
+        (F.held folders.now) dir.now plan (λ plan. NeededChanges (F.held folders.now)
         (F.scripts_in folders.now) line.now.prunes dir.now plan found.items))) }
     ensures taken { IfOk result (λ found. found ≡ None
         → InFolders line.now.keeps (F.held folders.now) dir.now plan

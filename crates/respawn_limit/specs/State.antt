@@ -1,11 +1,11 @@
--- What a contract sees of a limiter.
+-- The state of a limiter as contracts see it.
 use Rattle.std.specs.Prelude.{ℕ, List, [], Option, None}
 
--- the starts that it keeps, oldest first, and the end of the last hold, all in seconds
+-- the starts that it keeps, oldest first, and the end of its last hold, in seconds
 pub record LimiterState : Type 0 where
   pub starts : List ℕ
   pub held : Option ℕ
 
--- no start, and no hold
+-- no starts and no hold
 abbrev pub unused : LimiterState
 unused = record { starts = []; held = None }

@@ -1,4 +1,4 @@
--- The sliding window: ten starts in two minutes, and then a hold of five minutes (init(8)).
+-- The sliding window: ten starts in two minutes, then a hold of five minutes (init(8)).
 use Rattle.std.specs.Prelude.{◌≡◌, ℕ, ◌+◌, ◌-◌, Bool, false, List, [], ◌∷◌, ◌++◌, length, drop, count_by, nat_lt}
 use Rattle.std.specs.Prelude.{nat_le, if◌then◌else◌, Option, Some, None}
 use Rattle.std.specs.List.Sorted.{IsNonDecreasing}
@@ -7,24 +7,24 @@ use Rattle.respawn_limit.specs.declared.May.{May}
 use Rattle.respawn_limit.specs.declared.May.TheVariants.{Yes, HoldUntil}
 use Rattle.respawn_limit.specs.State.{LimiterState}
 
--- whether a start counts now: its age is under two minutes
+-- a start counts now: it is less than two minutes old
 abbrev pub is_recent : ℕ → ℕ → Bool
 is_recent now start = nat_lt (now - start) WINDOW
 
--- whether ten starts or more count now
+-- the window is full: at least ten starts count now
 abbrev pub is_full : List ℕ → ℕ → Bool
 is_full noted now = nat_le STARTS (count_by (is_recent now) noted)
 
--- whether a hold with this end stands now
+-- a hold with this end lasts now
 abbrev pub is_held : Option ℕ → ℕ → Bool
 is_held None now = false
 is_held (Some end) now = nat_lt now end
 
--- the answer where no hold stands: yes, or five minutes from now where the window is full
+-- the answer when no hold lasts: yes, or five minutes from now if the window is full
 abbrev pub window_answer : List ℕ → ℕ → May
 window_answer noted now = if is_full noted now then HoldUntil (now + HOLD) else Yes
 
--- the answer after these starts and this last hold: its end while it stands, and then what the window says
+-- the answer after these starts and this last hold: the end of the hold while it lasts, otherwise that of the window
 abbrev pub answer : List ℕ → Option ℕ → ℕ → May
 answer noted None now = window_answer noted now
 answer noted (Some end) now = if nat_lt now end then HoldUntil end else window_answer noted now
@@ -33,19 +33,19 @@ answer noted (Some end) now = if nat_lt now end then HoldUntil end else window_a
 abbrev pub may_of : LimiterState → ℕ → May
 may_of limiter now = answer limiter.starts limiter.held now
 
--- the last ten of these times, or all where there are no more
+-- the last ten of these times, or all of them if there are fewer
 abbrev pub last_starts : List ℕ → List ℕ
 last_starts times = drop (length times - STARTS) times
 
--- the limiter with one more start noted
+-- the limiter after one more start
 abbrev pub with_start : LimiterState → ℕ → LimiterState
 with_start limiter now = record limiter { starts = last_starts (limiter.starts ++ now ∷ []) }
 
--- the limiter with a hold of five minutes from now
+-- the limiter after a hold of five minutes from now
 abbrev pub with_hold : LimiterState → ℕ → LimiterState
 with_hold limiter now = record limiter { held = Some (now + HOLD) }
 
--- of all these times noted in order, however many and however old, the starts are the last ten
-pub record Remembers (starts noted : List ℕ) : Type 0 where
+-- the starts are the last ten of all these times, which were noted in order, however many and however old
+pub record KeepsLastStarts (starts noted : List ℕ) : Type 0 where
   pub last : starts ≡ last_starts noted
   pub ordered : IsNonDecreasing noted

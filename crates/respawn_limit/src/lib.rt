@@ -1,45 +1,45 @@
-//! The sliding window that keeps a respawning entry from running wild.
+//! The respawn limit: a sliding window that stops an entry from being restarted too often.
 //!
-//! init(8): where a process is respawned more than 10 times in 2 minutes, init refuses to respawn its entry
-//! until 5 minutes have elapsed. Times are readings of one clock, in seconds, which never fall.
+//! According to init(8), an entry whose process is respawned more than 10 times in 2 minutes is not respawned again
+//! until 5 minutes have elapsed. All times are readings of one clock, in seconds, and never decrease.
 #![tactic(auto)]
 
 ghost use Rattle.std.specs.Prelude.{◌≡◌, ℕ, ◌+◌, ◌≤◌, IsTrue, ⊤, List, [], ◌∷◌, ◌++◌, length, All};
 ghost use Rattle.std.specs.List.Sorted.{IsNonDecreasing};
 ghost use Rattle.respawn_limit.specs.State.{unused};
-ghost use Rattle.respawn_limit.specs.Window.{is_full, is_held, answer, may_of, last_starts, with_start, with_hold, Remembers};
-ghost use Rattle.respawn_limit.specs.Past.{Event, Noted, HeldAt, Cleared, times_noted, hold_end, last_reading, is_run, StandsAfter, StartsKeepPace, NoStartWhileHeld};
+ghost use Rattle.respawn_limit.specs.Window.{is_full, is_held, answer, may_of, last_starts, with_start, with_hold, KeepsLastStarts};
+ghost use Rattle.respawn_limit.specs.Past.{Event, Noted, HeldAt, Cleared, times_noted, hold_end, last_reading, is_run, IsStateAfter, StartsAreSpaced, NoStartDuringHold};
 
 use arrayvec::ArrayVec;
 use std::alloc::AllocError;
 use std::marker::Model;
 
-/// How long a start counts, in seconds: two minutes.
+/// The length of the window in seconds: a start counts for two minutes.
 pub const WINDOW: u64 = 120;
 
-/// How many starts the window allows.
+/// The number of starts that the window allows.
 pub const STARTS: usize = 10;
 
-/// How long a hold stands, in seconds: five minutes.
+/// The length of a hold in seconds: five minutes.
 pub const HOLD: u64 = 300;
 
-/// The greatest reading of the clock that counts, in seconds.
+/// The greatest clock reading that counts, in seconds.
 pub const CLOCK_LIMIT: u64 = 1_000_000_000_000;
 
-/// What a limiter answers.
+/// The answer of a limiter to the question whether an entry may be started.
 #[derive(Clone, Copy, PartialEq, Eq)]
 pub enum May {
-    /// A start may be made and noted now.
+    /// A start may be made now, and noted.
     Yes,
     /// No start may be made before this time, in seconds.
     HoldUntil(u64),
 }
 
-/// The last starts of one entry, and its last hold.
+/// The last starts of an entry and its last hold.
 ///
-/// The window slides: a start counts for 120 seconds, and while ten count there may be no other.
-/// A hold made then stands for 300 seconds. The value keeps ten starts at most and never allocates.
-/// A contract sees it as a record of `starts`, oldest first, and `held`, the end of the last hold.
+/// The window slides: a start counts for 120 seconds, and while ten starts count no further one is allowed. A hold made
+/// then lasts for 300 seconds. A limiter keeps at most ten starts and never allocates memory. Contracts see it as a
+/// record of `starts`, oldest first, and `held`, the end of the last hold.
 #[derive(Drop, PartialEq, Eq)]
 pub struct Limiter {
     starts: ArrayVec<u64, STARTS>,
@@ -62,10 +62,10 @@ impl Model for Limiter {
 }
 
 impl Limiter {
-    /// A limiter with no start and no hold.
+    /// Creates a limiter without starts and without a hold.
     pub fn new() -> Self
         ensures state { result ≡ unused }
-        ensures past { StandsAfter result [] }
+        ensures past { IsStateAfter result [] }
     {
         Limiter {
             starts: ArrayVec::new(),
@@ -73,16 +73,17 @@ impl Limiter {
         }
     }
 
-    /// The limiter with these starts, oldest first, and this end of the last hold, in seconds.
+    /// Creates a limiter with these starts, oldest first, and this end of the last hold, both in seconds.
     ///
-    /// What `starts` and `held_until` gave makes a limiter that answers alike for ever.
+    /// A limiter created from the results of `starts` and `held_until` gives the same answers as the original from then
+    /// on.
     pub fn of(starts: &[u64], held_until: Option<u64>) -> Self
         requires few { length starts.now ≤ STARTS }
         requires ordered { IsNonDecreasing starts.now }
         ensures state { result ≡ record { starts = starts.now; held = held_until } }
         ensures past { (past : List Event) → IsNonDecreasing (times_noted past)
             → starts.now ≡ last_starts (times_noted past) → held_until ≡ hold_end past
-            → StandsAfter result past }
+            → IsStateAfter result past }
     {
         let mut kept = ArrayVec::new();
         if kept.try_extend_from_slice(starts).is_err() {
@@ -94,19 +95,19 @@ impl Limiter {
         }
     }
 
-    /// Whether a start may be made now, and else until when it is to wait.
+    /// Returns whether the entry may be started now, and if not, until when it must wait.
     ///
-    /// The end of a hold while it stands; 300 seconds from now where ten starts have an age under 120 seconds; else
-    /// yes.
-    /// A start later than now has age 0.
+    /// This is the end of the hold while a hold lasts; otherwise 300 seconds from now if ten starts are less than 120
+    /// seconds old; otherwise `Yes`. A start later than `now` counts as 0 seconds old.
     pub fn may(&self, now: u64) -> May
         requires { now ≤ CLOCK_LIMIT }
 
-        // By the starts that are kept, and the same by all that were noted since the last clear, however many and old.
+        // The answer depends on the starts that are kept, and equals the answer by all starts noted since the last
+        // clear.
         ensures state { result ≡ may_of self.now now }
-        ensures noted { (noted : List ℕ) → Remembers self.now.starts noted
+        ensures noted { (noted : List ℕ) → KeepsLastStarts self.now.starts noted
             → result ≡ answer noted self.now.held now }
-        ensures past { (past : List Event) → StandsAfter self.now past
+        ensures past { (past : List Event) → IsStateAfter self.now past
             → result ≡ answer (times_noted past) (hold_end past) now }
     {
         match self.held {
@@ -116,33 +117,33 @@ impl Limiter {
         }
     }
 
-    // Whether ten of the starts have an age under two minutes.
+    // Returns whether ten of the starts are less than two minutes old.
     fn is_full(&self, now: u64) -> bool
         ensures { result ≡ is_full self.now.starts now }
     {
         self.starts.is_full() && now.saturating_sub(self.starts[0]) < WINDOW
     }
 
-    /// Whether a hold stands now: the time is less than its end.
+    /// Returns whether the entry is held now: the time is before the end of the last hold.
     pub fn held(&self, now: u64) -> bool
         ensures state { result ≡ is_held self.now.held now }
-        ensures past { (past : List Event) → StandsAfter self.now past
+        ensures past { (past : List Event) → IsStateAfter self.now past
             → result ≡ is_held (hold_end past) now }
     {
         matches!(self.held, Some(end) if now < end)
     }
 
-    /// Notes a start that is made now, which `may` allows, no earlier than those that are kept.
-    /// Of eleven starts the oldest is forgotten.
+    /// Notes a start made now, which `may` must allow and which must not be earlier than the starts kept. The oldest of
+    /// eleven starts is dropped.
     pub fn note(&mut self, now: u64)
         requires late { All (λ start. start ≤ now) self.old.starts }
         requires allowed { may_of self.old now ≡ May.Yes }
         ensures state { self.new ≡ with_start self.old now }
-        ensures noted { (noted : List ℕ) → Remembers self.old.starts noted
-            → Remembers self.new.starts (noted ++ now ∷ []) }
-        ensures past { (past : List Event) → StandsAfter self.old past
-            → StandsAfter self.new (Noted now ∷ past) }
-        ensures run { (past : List Event) → StandsAfter self.old past → IsTrue (is_run past)
+        ensures noted { (noted : List ℕ) → KeepsLastStarts self.old.starts noted
+            → KeepsLastStarts self.new.starts (noted ++ now ∷ []) }
+        ensures past { (past : List Event) → IsStateAfter self.old past
+            → IsStateAfter self.new (Noted now ∷ past) }
+        ensures run { (past : List Event) → IsStateAfter self.old past → IsTrue (is_run past)
             → last_reading past ≤ now → IsTrue (is_run (Noted now ∷ past)) }
     {
         if self.starts.is_full() {
@@ -151,45 +152,45 @@ impl Limiter {
         self.starts.push(now);
     }
 
-    /// Makes a hold that stands for 300 seconds from now, in the place of the last one.
+    /// Begins a hold of 300 seconds from now, which replaces the last one.
     pub fn hold(&mut self, now: u64)
         requires { now ≤ CLOCK_LIMIT }
         ensures state { self.new ≡ with_hold self.old now }
-        ensures past { (past : List Event) → StandsAfter self.old past
-            → StandsAfter self.new (HeldAt now ∷ past) }
+        ensures past { (past : List Event) → IsStateAfter self.old past
+            → IsStateAfter self.new (HeldAt now ∷ past) }
     {
         self.held = Some(now + HOLD);
     }
 
-    /// Forgets all starts and the hold.
+    /// Removes all starts and the hold.
     pub fn clear(&mut self)
         ensures state { self.new ≡ unused }
-        ensures past { (past : List Event) → StandsAfter self.new (Cleared ∷ past) }
+        ensures past { (past : List Event) → IsStateAfter self.new (Cleared ∷ past) }
     {
         *self = Limiter::new();
     }
 
-    /// The times of the last starts since the last clear, in seconds, oldest first: ten at most, however old.
+    /// Returns the times of the last starts since the last clear, in seconds, oldest first: at most ten, however old.
     pub fn starts(&self) -> &[u64]
         ensures state { result.now ≡ self.now.starts }
         ensures few { length result.now ≤ STARTS }
         ensures ordered { IsNonDecreasing result.now }
-        ensures past { (past : List Event) → StandsAfter self.now past
+        ensures past { (past : List Event) → IsStateAfter self.now past
             → result.now ≡ last_starts (times_noted past) }
     {
         self.starts.as_slice()
     }
 
-    /// The end of the last hold since the last clear, in seconds, past or not.
+    /// Returns the end of the last hold since the last clear, in seconds, even if it has passed.
     pub fn held_until(&self) -> Option<u64>
         ensures state { result ≡ self.now.held }
-        ensures past { (past : List Event) → StandsAfter self.now past → result ≡ hold_end past }
+        ensures past { (past : List Event) → IsStateAfter self.now past → result ≡ hold_end past }
     {
         self.held
     }
 }
 
-/// A copy, which takes no memory and never fails.
+/// Copies the limiter; this allocates no memory and never fails.
 impl Clone for Limiter {
     ghost is_clone = { λ limiter copy. copy ≡ limiter };
 
@@ -208,11 +209,11 @@ impl Default for Limiter {
     }
 }
 
-/// The laws of whole runs, whatever readings come: of any eleven starts that `may` allowed, with no clear between,
-/// the last comes 120 seconds after the first or later, and none comes in the 300 seconds after a hold.
+/// States the laws of whole runs, for all clock readings: of any eleven starts that `may` allowed without a clear in
+/// between, the last comes at least 120 seconds after the first, and no start comes within 300 seconds after a hold.
 ///
-/// It does nothing: its contract is the law.
+/// The function does nothing: its contract is the law.
 pub fn law_of_runs()
-    ensures paced { StartsKeepPace }
-    ensures held { NoStartWhileHeld }
+    ensures paced { StartsAreSpaced }
+    ensures held { NoStartDuringHold }
 {}

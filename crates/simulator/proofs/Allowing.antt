@@ -1,4 +1,4 @@
--- What the state objects to is what may not come.
+-- The state objects exactly to the happenings that may not come.
 use Rattle.simulator.proofs.Words.{◌≡◌, refl, sym, ◌∙◌, ap, ℕ, ◌==◌, Bool, true, false, not, ◌&&◌, List, ◌||◌, cond}
 use Rattle.simulator.proofs.Words.{Option, Some, None, find, is_none, is_some, list_any, option_map, option_map_or}
 use Rattle.simulator.proofs.Words.{Start, Look, Term, Kill, same_id, Birth, NoBirth, Death, Reaped, Still, NoLook, Hit}
@@ -55,7 +55,7 @@ two_none : (first second : Bool) (given other : Objection)
 two_none true second given other = unless_none second given
 two_none false second given other = refl
 
--- the state objects to nothing exactly where it may come
+-- the state has no objection exactly if the happening may come
 pub none_may : (goal : Goal) (past : List Event) (side : SystemState) → is_sound goal past ≡ true → Follows side past
     → (happening : Event)
     → is_none (objection_to side happening) ≡ (is_script happening && may_come goal happening past)

@@ -1,10 +1,10 @@
--- Texts that a core does not take over, and those that were made.
+-- Texts that a core does not take over, and the texts made before.
 use Rattle.simulator.proofs.Words.{◌≡◌, refl, sym, ap, ◌∙◌, subst, ℕ, ◌+◌, ◌-◌, ◌<◌, ◌≤◌, Bool, true, false, cond, List}
 use Rattle.simulator.proofs.Words.{[], ◌∷◌, ◌++◌, map, length, get_or, take, drop, Option, Some, None, ◌⊎◌, inl, inr}
 use Rattle.simulator.proofs.Words.{arith, length-drop, nat_le, nat_lt, unwrap_or, and_parts, cases_lt, leb-true}
 use Rattle.simulator.proofs.Words.{ltb-true, get_or-map, get_or_append_left, length-map, map-append, take-append-drop}
 use Rattle.simulator.proofs.Words.{SavedState, state_of, CoreState, after_handed_on, Objection, after_hand, has_next}
-use Rattle.simulator.proofs.Words.{is_made, kept_texts, objection_handed, taken_of, text_made, AreMade, HasTexts}
+use Rattle.simulator.proofs.Words.{is_made, kept_texts, objection_handed, taken_of, handed_over_text, AreMade, HasTexts}
 use Rattle.simulator.proofs.Words.{IsForeign, IsOfGeneration, IsTakenOver}
 use Rattle.std.proofs.Common.{length-append}
 use Rattle.std.proofs.Math.Seq.{get_or-append_seam}
@@ -17,7 +17,7 @@ use Rattle.core_text.specs.Refused.{IsTextOf}
 use Rattle.core_text.proofs.Ends.{no_prefix}
 use Rattle.core_text.proofs.Prefixes.{one_state}
 
--- what is left of a text that is cut is that of no state
+-- a proper prefix of a state text is not the text of a state
 pub cut_foreign : (text : List ℕ) (bytes generation : ℕ) (own : SavedState) → IsTextOf text own → bytes < length text
     → IsForeign (take bytes text) generation
 cut_foreign text bytes generation own says less other cut same =
@@ -26,7 +26,7 @@ cut_foreign text bytes generation own says less other cut same =
     let left : length text - bytes ≡ 0 = sym (length-drop bytes text) ∙ ap length none in
     omega (arith, left, less)
 
--- the text of an older generation is that of no state of this one
+-- the text of an older generation is not that of a state of this generation
 pub older_foreign : (text : List ℕ) (older generation : ℕ) → IsOfGeneration text older → older < generation
     → IsForeign text generation
 older_foreign text older generation (own, says, its) less other said same =
@@ -34,7 +34,7 @@ older_foreign text older generation (own, says, its) less other said same =
     let equal : generation ≡ older = sym same ∙ ap (λ (s : SavedState). s.fields.generation) one ∙ its in
     omega (arith, equal, less)
 
--- the objection of a test that holds where a generation is left
+-- a test whose objection did not come up holds
 no_objection : (next holds : Bool) (given other : Objection)
     → cond next (cond holds None (Some given)) (Some other) ≡ None → holds ≡ true
 no_objection true true given other none = refl
@@ -56,7 +56,7 @@ may_older made size generation how is none =
     subst (λ h. objection_handed made size h ≡ None) is none in
     no_objection (has_next made) (is_made generation made) _ _ now
 
--- a core is taken over from its own text, and none from the text of no state of its generation
+-- a core is taken over from its own text, and no core from the text of no state of its generation
 pub own_taken : (back : List ℕ) (generation : ℕ) (core : CoreState) (taken : Option CoreState) → IsFit core
     → IsTextOf back (state_of core) → core.fields.generation ≡ generation
     → IsTakenOver back generation taken → taken ≡ Some core
@@ -70,7 +70,7 @@ pub none_taken : (back : List ℕ) (generation : ℕ) (taken : Option CoreState)
 none_taken back generation None foreign none = refl
 none_taken back generation (Some core) foreign (said, kept, its) = absurd (foreign (state_of core) said its)
 
--- the core that goes on is the old one
+-- the core that continues is equal to the old one
 pub same_core : (how : HandOver) (core new : CoreState) (taken : Option CoreState) → taken ≡ taken_of how core
     → new ≡ unwrap_or taken core → new ≡ core
 same_core handed.Whole core new taken is goes = goes ∙ ap (λ t. unwrap_or t core) is
@@ -88,7 +88,8 @@ handed_then handed.Failed core some = absurd (some refl)
 
 -- one more text is kept
 pub kept_more : (how : HandOver) (core : CoreState) (made now : List (List ℕ)) (text : List ℕ)
-    → (how ≡ handed.Failed → ⊥) → text ≡ text_made core → now ≡ made ++ text ∷ [] → now ≡ kept_texts how core made
+    → (how ≡ handed.Failed → ⊥) → text ≡ handed_over_text core → now ≡ made ++ text ∷ []
+    → now ≡ kept_texts how core made
 kept_more handed.Whole core made now text some is more = more ∙ ap (λ t. made ++ t ∷ []) is
 kept_more (handed.Cut bytes) core made now text some is more = more ∙ ap (λ t. made ++ t ∷ []) is
 kept_more (handed.Older generation) core made now text some is more = more ∙ ap (λ t. made ++ t ∷ []) is
@@ -107,7 +108,7 @@ module _ {X : Type 0} (f : X → List ℕ) where
   pub kept_push : (xs ys : List X) (x : X) → ys ≡ xs ++ x ∷ [] → map f ys ≡ map f xs ++ f x ∷ []
   kept_push xs ys x is = ap (map f) is ∙ map-append f xs (x ∷ [])
 
-  -- a text that was made before is that of no state of this generation
+  -- a text made before is not that of a state of this generation
   pub made_foreign : (xs : List X) (older generation : ℕ) (x : X) (text : List ℕ) → AreMade (map f xs)
       → is_made older (length xs) ≡ true → x ≡ get_or xs (older - 1) x → text ≡ f x → generation ≡ length xs + 1
       → IsForeign text generation
@@ -125,7 +126,6 @@ module _ {X : Type 0} (f : X → List ℕ) where
   pub same_made : (xs ys : List X) → ys ≡ xs → AreMade (map f xs) → AreMade (map f ys)
   same_made xs ys same are = subst (λ zs. AreMade (map f zs)) (sym same) are
 
--- a text more
 more_made : (texts : List (List ℕ)) (text : List ℕ) → AreMade texts → IsOfGeneration text (length texts + 1)
     → AreMade (texts ++ text ∷ [])
 more_made texts text are own position less = split (cases_lt position (length texts))

@@ -1,11 +1,13 @@
--- What may be said where init rests, and what the core, the system's side and the text become by it.
+-- What a script may say when init is at rest, and how the core, the simulated system and the text change.
 use Rattle.simulator.proofs.Words.{IfOk, Bool, true, false, ◌&&◌, cond, ◌≡◌, ◌≢◌, ◌++◌, ℕ, List, ◌∷◌, Option, Some}
 use Rattle.simulator.proofs.Words.{None, is_some, is_none, refl, sym, ap, ◌∙◌, append_assoc, subst, length, inr, nat_lt}
 use Rattle.simulator.proofs.Words.{false≢true, and_parts, and_from, Entry, Goal, Event, is_in_range, are_in_range}
 use Rattle.simulator.proofs.Words.{is_untold, is_quiet, answered_of, due, first, event_text, is_run, is_rest, is_reread}
-use Rattle.simulator.proofs.Words.{may_come, is_sound, run_sound, answered_untold, CoreState, FitsAll, is_act}
+use Rattle.simulator.proofs.Words.{may_come, is_sound, run_sound, answered_untold, CoreState, FitsWithLastStatuses}
+use Rattle.simulator.proofs.Words.{is_act}
 use Rattle.simulator.proofs.Words.{fit_records, all_on, Objection, SystemState, unless, Follows, SimFault, are_handed}
-use Rattle.simulator.proofs.Words.{made_in, may_hand, has_next, is_made, text_at, text_made, LastsTo, Moment, AtRest}
+use Rattle.simulator.proofs.Words.{made_in, may_hand, has_next, is_made, text_at, handed_over_text, CanHandOver, Moment}
+use Rattle.simulator.proofs.Words.{AtRest}
 use Rattle.simulator.proofs.Words.{IsReadyFor, SimulationGoesOn, HearsLine, HeardBreaks, HeardEnds, is_scripted}
 use Rattle.simulator.proofs.Words.{may_be_scripted, objection_in, objection_now, IsObjected, heard, past_text}
 use Rattle.std.proofs.Common.{OnOk, Result, Ok, Err}
@@ -15,7 +17,7 @@ use Rattle.inittab_text.proofs.Entries.{table_parts}
 use Rattle.trace_events.specs.declared.happenings.Happening.TheVariants as event
 use Rattle.trace_events.specs.declared.happenings.Handed.{Handed as HandOver}
 use Rattle.trace_events.specs.declared.happenings.Handed.TheVariants as handed
-use Rattle.core_records.specs.Lists as lists
+use Rattle.child_table.specs.Lists as lists
 use Rattle.core_model.proofs.Reading.{quiet_same}
 use Rattle.core_model.proofs.Hearing.{fits_act}
 use Rattle.simulator.specs.declared.objections.Objection.TheVariants as objection
@@ -25,7 +27,7 @@ use Rattle.simulator.proofs.Moves.{first_more, handed_part, heard_more, run_hear
 use Rattle.simulator.proofs.Keeping.{kept_is}
 use Rattle.simulator.proofs.Rereading.{reread_quiet}
 
--- an answer is under way where one may be told
+-- if `told` may come, an answer is under way
 pub nothing_told : (goal : Goal) (past : List Event) (happening : Event) (id : List ℕ) → happening ≡ event.Told id
     → may_be_scripted goal happening past ≡ true → None ≡ answered_of id past → ⊥
 nothing_told goal past happening id is may none =
@@ -38,7 +40,7 @@ unless_read : (b : Bool) (given : Objection) (other : Bool) → (b ≡ true → 
 unless_read true given other holds = sym (holds refl)
 unless_read false given other holds = refl
 
--- where init rests, nothing is objected exactly to what may be said
+-- when init is at rest, there is no objection exactly to what the script may say
 none_said : (goal : Goal) (past : List Event) (side : SystemState) → is_sound goal past ≡ true → Follows side past
     → is_rest (first (due goal past)) ≡ true
     → (happening : Event) → is_in_range happening ≡ true
@@ -101,19 +103,19 @@ none_said goal past side sound follows rests = at
         none_may goal past side sound follows (event.Got request) ∙ waits (may_come goal (event.Got request) past)
     at _ ranged = refl
 
--- what is objected by what the core keeps is what is objected by the trace
+-- the objection computed from the core is the one defined from the trace
 same_objection : (goal : Goal) (past : List Event) (happening : Event) (rereads : Bool) (core : CoreState)
     (side : SystemState) → AtRest goal past rereads core side
-    → objection_in rereads core.fields.generation (length (text_made core)) side happening
+    → objection_in rereads core.fields.generation (length (handed_over_text core)) side happening
     ≡ objection_now goal past side happening
 same_objection goal past happening rereads core side at =
-    ap (λ b. objection_in b core.fields.generation (length (text_made core)) side happening) at.read
+    ap (λ b. objection_in b core.fields.generation (length (handed_over_text core)) side happening) at.read
     ∙ ap (λ (c : CoreState). objection_in (is_reread (first (due goal past))) c.fields.generation
-    (length (text_made c)) side happening) (kept_is core goal past at.moment.fits at.moment.lasts)
+    (length (handed_over_text c)) side happening) (kept_is core goal past at.moment.fits at.moment.lasts)
 
 pub may_say : (goal : Goal) (past : List Event) (happening : Event) (rereads : Bool) (core : CoreState)
     (side : SystemState) → AtRest goal past rereads core side → is_in_range happening ≡ true
-    → None ≡ objection_in rereads core.fields.generation (length (text_made core)) side happening
+    → None ≡ objection_in rereads core.fields.generation (length (handed_over_text core)) side happening
     → may_be_scripted goal happening past ≡ true
 may_say goal past happening rereads core side at ranged none =
     sym (none_said goal past side (run_sound goal past at.moment.runs) at.moment.follows at.rests happening ranged)
@@ -121,7 +123,7 @@ may_say goal past happening rereads core side at ranged none =
 
 pub objected : (goal : Goal) (past : List Event) (happening : Event) (rereads : Bool) (core : CoreState)
     (side : SystemState) (why : Objection) → AtRest goal past rereads core side → is_in_range happening ≡ true
-    → Some why ≡ objection_in rereads core.fields.generation (length (text_made core)) side happening
+    → Some why ≡ objection_in rereads core.fields.generation (length (handed_over_text core)) side happening
     → (may_be_scripted goal happening past ≡ false) × IsObjected goal happening past why
 objected goal past happening rereads core side why at ranged some =
     let given : objection_now goal past side happening ≡ Some why =
@@ -131,10 +133,10 @@ objected goal past happening rereads core side why at ranged some =
       (side, at.moment.follows, given),
     )
 
--- where nothing is objected, the core is ready for what may be said
+-- if there is no objection, the core is ready for what the script may say
 pub ready : (goal : Goal) (past : List Event) (happening : Event) (rereads : Bool) (core : CoreState)
     (side : SystemState) → Moment goal past core side → may_be_scripted goal happening past ≡ true
-    → None ≡ objection_in rereads core.fields.generation (length (text_made core)) side happening
+    → None ≡ objection_in rereads core.fields.generation (length (handed_over_text core)) side happening
     → IsReadyFor happening core
 ready goal past (event.NewTable table) rereads core side moment may none =
     let reads = (and_parts (is_reread (first (due goal past))) (is_quiet past && is_distinct table) may).0 in
@@ -150,31 +152,32 @@ sound_then goal past happening core side moment may =
     run_sound goal (happening ∷ past) (run_hears goal happening past may moment.runs)
 
 pub fits_at : (goal : Goal) (past : List Event) (core : CoreState) (happening same : Event) → happening ≡ same
-    → FitsAll core goal (same ∷ past) → FitsAll core goal (happening ∷ past)
-fits_at goal past core happening same become fits = subst (λ h. FitsAll core goal (h ∷ past)) (sym become) fits
+    → FitsWithLastStatuses core goal (same ∷ past) → FitsWithLastStatuses core goal (happening ∷ past)
+fits_at goal past core happening same become fits =
+    subst (λ h. FitsWithLastStatuses core goal (h ∷ past)) (sym become) fits
 
--- what the system does changes nothing in the core
+-- what the system does does not change the core
 pub fits_silent : (goal : Goal) (past : List Event) (happening : Event) (core : CoreState) (side : SystemState)
     → Moment goal past core side → may_be_scripted goal happening past ≡ true
     → ((table : List Entry) → happening ≢ event.NewTable table) → happening ≢ event.NotRead
     → ((id : List ℕ) → happening ≢ event.Told id) → ((reading : ℕ) → happening ≢ event.Clock reading)
     → happening ≢ event.Nudge → ((request : Request) → happening ≢ event.Got request)
-    → ((how : HandOver) → happening ≢ event.Handed how) → FitsAll core goal (happening ∷ past)
+    → ((how : HandOver) → happening ≢ event.Handed how) → FitsWithLastStatuses core goal (happening ∷ past)
 fits_silent goal past happening core side moment may not_table not_read not_told not_clock not_nudge not_got
     not_handed = at happening refl
   where
     said : is_scripted happening ≡ true
     said = (said_parts goal happening past may).0
 
-    act : (h : Event) → happening ≡ h → is_act h ≡ true → FitsAll core goal (happening ∷ past)
+    act : (h : Event) → happening ≡ h → is_act h ≡ true → FitsWithLastStatuses core goal (happening ∷ past)
     act h is acts = all_on core core goal past (happening ∷ past)
         (fits_act goal past core (run_sound goal past moment.runs) moment.fits.0 happening (ap is_act is ∙ acts)
         (sound_then goal past happening core side moment may)) moment.fits
 
-    unsaid : (h : Event) → happening ≡ h → is_scripted h ≡ false → FitsAll core goal (happening ∷ past)
+    unsaid : (h : Event) → happening ≡ h → is_scripted h ≡ false → FitsWithLastStatuses core goal (happening ∷ past)
     unsaid h is other = absurd (false≢true (sym other ∙ sym (ap is_scripted is) ∙ said))
 
-    at : (h : Event) → happening ≡ h → FitsAll core goal (happening ∷ past)
+    at : (h : Event) → happening ≡ h → FitsWithLastStatuses core goal (happening ∷ past)
     at (event.NewTable table) is = absurd (not_table table is)
     at event.NotRead is = absurd (not_read is)
     at (event.Enter stage grace) is = unsaid _ is refl
@@ -197,10 +200,10 @@ fits_silent goal past happening core side moment may not_table not_read not_told
     at (event.Got request) is = absurd (not_got request is)
     at (event.Handed how) is = absurd (not_handed how is)
 
--- a moment after a happening that was heard
+-- the moment after a happening of the script
 pub moment_heard : (goal : Goal) (past : List Event) (happening : Event) (core new_core : CoreState)
     (side new_side : SystemState) → Moment goal past core side → may_be_scripted goal happening past ≡ true
-    → FitsAll new_core goal (happening ∷ past) → LastsTo new_core goal (happening ∷ past)
+    → FitsWithLastStatuses new_core goal (happening ∷ past) → CanHandOver new_core goal (happening ∷ past)
     → (is_sound goal (happening ∷ past) ≡ true → Follows side past → Follows new_side (happening ∷ past))
     → Moment goal (happening ∷ past) new_core new_side
 moment_heard goal past happening core new_core side new_side moment may fits lasts follows =
@@ -212,7 +215,7 @@ moment_heard goal past happening core new_core side new_side moment may fits las
       follows = follows (run_sound goal (happening ∷ past) runs) moment.follows;
     }
 
--- a happening was heard
+-- one happening of the script was read
 pub hears_one : (goal : Goal) (past : List Event) (happening : Event) → is_run goal past ≡ true
     → is_in_range happening ≡ true → may_be_scripted goal happening past ≡ true
     → HearsLine goal past (happening ∷ past) (event_text happening) (event_text happening)
@@ -229,7 +232,7 @@ hears_one goal past happening runs ranged may =
       text = past_text-more happening past;
     }
 
--- a happening was heard, and init went on
+-- one happening of the script was read, and init continued
 pub hears_goes : (goal : Goal) (past mid next : List Event) (said more after : List ℕ) → HearsLine goal past mid said
     more → SimulationGoesOn mid next after → HearsLine goal past next said (more ++ after)
 hears_goes goal past mid next said more after hears goes = record {
@@ -240,7 +243,7 @@ hears_goes goal past mid next said more after hears goes = record {
   text = goes.text ∙ ap (λ t. t ++ after) hears.text ∙ append_assoc (past_text past) more after;
 }
 
--- a fault in the midst of what came ends the run
+-- a fault while the following text was written ends the run
 pub broken_heard : (goal : Goal) (past : List Event) (happening : Event) (number : ℕ) (f : SimFault) (old new : Option
     (List ℕ)) → HeardBreaks goal past happening f old new → HeardEnds goal past happening number f old new
 broken_heard goal past happening number fault.Table old new (next, more, runs, hears, leaves) = absurd leaves

@@ -1,11 +1,13 @@
--- What can be handed over stays so: the rules, the short seconds, the generation and the goal, through each call of
--- the core.
+-- Each call of the core preserves that it can be handed over: the rules, the short seconds, the generation and the
+-- goal.
 use Rattle.simulator.proofs.Words.{◌≡◌, ◌≢◌, refl, sym, ap, ◌∙◌, subst, ℕ, ◌+◌, Bool, true, false, cond, List, ◌∷◌}
 use Rattle.simulator.proofs.Words.{Option, Some, None, OnErr, false≢true, Entry, Stage, same_level, Goal, Step, Enter}
 use Rattle.simulator.proofs.Words.{Call, Power, Reread, Order, Hold, Settle, Reexec, Idle, Event, stage_of, is_request}
-use Rattle.simulator.proofs.Words.{in_run, level_wish, FitsAll, lasts_of, core_read, with_step, CoreState, wished}
-use Rattle.simulator.proofs.Words.{heard_in, after_step, after_adopt, after_clock, after_got, after_not_read}
-use Rattle.simulator.proofs.Words.{after_round, after_told, own_read, made_in, kept_goal, kept_at, after_hand, LastsTo}
+use Rattle.simulator.proofs.Words.{in_run, level_wish, FitsWithLastStatuses, last_statuses_of, core_read, with_step}
+use Rattle.simulator.proofs.Words.{CoreState, wished}
+use Rattle.simulator.proofs.Words.{fields_after_level, after_step, after_adopt, after_clock, after_got, after_not_read}
+use Rattle.simulator.proofs.Words.{after_round, after_answer_to, own_read, made_in, kept_goal, kept_at, after_hand}
+use Rattle.simulator.proofs.Words.{CanHandOver}
 use Rattle.simulator.proofs.Words.{is_scripted, request_same}
 use Rattle.std.proofs.Common.{Result, Ok, Err, OnOk}
 use Rattle.init_words.specs.declared.orders.Answer.{Answer}
@@ -18,23 +20,23 @@ use Rattle.trace_events.specs.declared.happenings.Handed.TheVariants as handed
 use Rattle.core_model.specs.declared.parts.CoreFields.{CoreFields}
 use Rattle.core_model.specs.Decide.{decide}
 use Rattle.core_text.specs.Range.{has_short_seconds}
-use Rattle.core_handover.proofs.Lasting.{step_lasts, request_lasts}
+use Rattle.reexec_state.proofs.Lasting.{step_lasts, request_lasts}
 
--- what init keeps is what the trace says of it
-pub kept_is : (core : CoreState) (goal : Goal) (past : List Event) → FitsAll core goal past → LastsTo core goal past
-    → core ≡ kept_at goal past
+-- the state that init keeps is the one defined from the trace
+pub kept_is : (core : CoreState) (goal : Goal) (past : List Event) → FitsWithLastStatuses core goal past
+    → CanHandOver core goal past → core ≡ kept_at goal past
 kept_is core goal past fits lasts =
-    own_read core goal past fits.0 fits.1 ∙ (λ i. core_read (lasts_of past) past (lasts.goal i) (lasts.made i))
+    own_read core goal past fits.0 fits.1 ∙ (λ i. core_read (last_statuses_of past) past (lasts.goal i) (lasts.made i))
 
 lasts_as : (core same : CoreState) (goal : Goal) (past : List Event) → core ≡ same → has_short_seconds same ≡ true
-    → same.fields.generation ≡ made_in past → same.fields.goal ≡ kept_goal goal past → LastsTo core goal past
+    → same.fields.generation ≡ made_in past → same.fields.goal ≡ kept_goal goal past → CanHandOver core goal past
 lasts_as core same goal past is short made kept = record {
   short = ap has_short_seconds is ∙ short;
   made = ap (λ (c : CoreState). c.fields.generation) is ∙ made;
   goal = ap (λ (c : CoreState). c.fields.goal) is ∙ kept;
 }
 
--- ---- behind a step of init
+-- After a step of init.
 
 step_made : (s : Step) (core : CoreState) (past : List Event) → core.fields.generation ≡ made_in past
     → (after_step s core).fields.generation ≡ made_in (with_step s past)
@@ -62,16 +64,17 @@ step_goal Reexec core goal past wish kept = kept
 step_goal Idle core goal past wish kept = kept
 
 pub lasts_step : (core new : CoreState) (s : Step) → s ≡ decide core → new ≡ after_step s core → (goal : Goal)
-    (past : List Event) → FitsAll core goal past → LastsTo core goal past → LastsTo new goal (with_step s past)
+    (past : List Event) → FitsWithLastStatuses core goal past → CanHandOver core goal past
+    → CanHandOver new goal (with_step s past)
 lasts_step core new s decides is goal past fits lasts = lasts_as new (after_step s core) goal (with_step s past) is
     (subst (λ t. has_short_seconds (after_step t core) ≡ true) (sym decides) (step_lasts core lasts.short))
     (step_made s core past lasts.made)
     (step_goal s core goal past (ap (λ (x : CoreState). x.fields.level_wish) fits.0.kept) lasts.goal)
 
--- ---- behind what is heard
+-- After a happening of the script.
 
 heard_goal : (now : Option Stage) (wish : Goal) (fields : CoreFields)
-    → (heard_in now wish fields).goal ≡ cond (in_run now) fields.goal wish
+    → (fields_after_level now wish fields).goal ≡ cond (in_run now) fields.goal wish
 heard_goal None wish fields = refl
 heard_goal (Some stage.Sysinit) wish fields = refl
 heard_goal (Some stage.Boot) wish fields = refl
@@ -95,38 +98,40 @@ got_goal got.Reexec core goal past now kept = kept
 got_goal (got.Power kind) core goal past now kept = kept
 got_goal (got.Nothing cause) core goal past now kept = kept
 
-module _ (core new : CoreState) (goal : Goal) (past : List Event) (lasts : LastsTo core goal past) where
-  pub lasts_adopt : (table : List Entry) → new ≡ after_adopt table core → LastsTo new goal (event.NewTable table ∷ past)
+module _ (core new : CoreState) (goal : Goal) (past : List Event) (lasts : CanHandOver core goal past) where
+  pub lasts_adopt : (table : List Entry) → new ≡ after_adopt table core
+      → CanHandOver new goal (event.NewTable table ∷ past)
   lasts_adopt table is =
       lasts_as new (after_adopt table core) goal (event.NewTable table ∷ past) is lasts.short lasts.made lasts.goal
 
-  pub lasts_not_read : new ≡ after_not_read core → LastsTo new goal (event.NotRead ∷ past)
+  pub lasts_not_read : new ≡ after_not_read core → CanHandOver new goal (event.NotRead ∷ past)
   lasts_not_read is =
       lasts_as new (after_not_read core) goal (event.NotRead ∷ past) is lasts.short lasts.made lasts.goal
 
-  pub lasts_clock : (reading : ℕ) → new ≡ after_clock reading core → LastsTo new goal (event.Clock reading ∷ past)
+  pub lasts_clock : (reading : ℕ) → new ≡ after_clock reading core → CanHandOver new goal (event.Clock reading ∷ past)
   lasts_clock reading is =
       lasts_as new (after_clock reading core) goal (event.Clock reading ∷ past) is lasts.short lasts.made lasts.goal
 
-  pub lasts_nudge : new ≡ after_round core → LastsTo new goal (event.Nudge ∷ past)
+  pub lasts_nudge : new ≡ after_round core → CanHandOver new goal (event.Nudge ∷ past)
   lasts_nudge is = lasts_as new (after_round core) goal (event.Nudge ∷ past) is lasts.short lasts.made lasts.goal
 
-  -- whether the answer was taken or not
+  -- whether or not the core took the answer
   pub lasts_told : {S E : Type 0} (r : Result S E) (id : List ℕ) (answer : Answer)
-      → OnOk r (new ≡ after_told id answer core) → OnErr r (new ≡ core) → LastsTo new goal (event.Told id ∷ past)
+      → OnOk r (new ≡ after_answer_to id answer core) → OnErr r (new ≡ core)
+      → CanHandOver new goal (event.Told id ∷ past)
   lasts_told (Ok x) id answer is kept =
-      lasts_as new (after_told id answer core) goal (event.Told id ∷ past) is lasts.short lasts.made lasts.goal
+      lasts_as new (after_answer_to id answer core) goal (event.Told id ∷ past) is lasts.short lasts.made lasts.goal
   lasts_told (Err e) id answer is kept =
       lasts_as new core goal (event.Told id ∷ past) kept lasts.short lasts.made lasts.goal
 
-  pub lasts_got : (request : Request) → FitsAll core goal past → is_request request ≡ true
-      → new ≡ after_got request core → LastsTo new goal (event.Got request ∷ past)
+  pub lasts_got : (request : Request) → FitsWithLastStatuses core goal past → is_request request ≡ true
+      → new ≡ after_got request core → CanHandOver new goal (event.Got request ∷ past)
   lasts_got request fits asks is = lasts_as new (after_got request core) goal (event.Got request ∷ past) is
       (request_lasts request core asks lasts.short)
       (request_same request core ∙ lasts.made)
       (got_goal request core goal past (ap (λ (x : CoreState). x.fields.stage) fits.0.kept) lasts.goal)
 
-  pub lasts_hand : (how : HandOver) → new ≡ after_hand how core → LastsTo new goal (event.Handed how ∷ past)
+  pub lasts_hand : (how : HandOver) → new ≡ after_hand how core → CanHandOver new goal (event.Handed how ∷ past)
   lasts_hand handed.Failed is = lasts_as new (after_hand handed.Failed core) goal
       (event.Handed handed.Failed ∷ past) is lasts.short lasts.made lasts.goal
   lasts_hand handed.Whole is = lasts_as new (after_hand handed.Whole core) goal
@@ -137,14 +142,14 @@ module _ (core new : CoreState) (goal : Goal) (past : List Event) (lasts : Lasts
       (event.Handed (handed.Older older) ∷ past) is lasts.short (ap (λ n. n + 1) lasts.made) lasts.goal
 
 pub lasts_at : (goal : Goal) (past : List Event) (core : CoreState) (happening same : Event) → happening ≡ same
-    → LastsTo core goal (same ∷ past) → LastsTo core goal (happening ∷ past)
-lasts_at goal past core happening same become lasts = subst (λ h. LastsTo core goal (h ∷ past)) (sym become) lasts
+    → CanHandOver core goal (same ∷ past) → CanHandOver core goal (happening ∷ past)
+lasts_at goal past core happening same become lasts = subst (λ h. CanHandOver core goal (h ∷ past)) (sym become) lasts
 
--- behind what the system does
-pub lasts_silent : (core : CoreState) (goal : Goal) (past : List Event) (happening : Event) → LastsTo core goal past
+-- after an act of the system
+pub lasts_silent : (core : CoreState) (goal : Goal) (past : List Event) (happening : Event) → CanHandOver core goal past
     → is_scripted happening ≡ true
     → ((request : Request) → happening ≢ event.Got request) → ((how : HandOver) → happening ≢ event.Handed how)
-    → LastsTo core goal (happening ∷ past)
+    → CanHandOver core goal (happening ∷ past)
 lasts_silent core goal past (event.Enter now grace) lasts said not_got not_handed = absurd (false≢true said)
 lasts_silent core goal past (event.Got request) lasts said not_got not_handed = absurd (not_got request refl)
 lasts_silent core goal past (event.Handed how) lasts said not_got not_handed = absurd (not_handed how refl)

@@ -1,11 +1,12 @@
--- What a run and its text become by a step of init, and by a happening that it hears.
+-- How a run and its text change with a step of init, and with a happening of the script.
 use Rattle.simulator.proofs.Words.{IfErr, Bool, true, false, ◌&&◌, cond, ◌≡◌, ◌++◌, ℕ, List, [], ◌∷◌, reverse, Option}
 use Rattle.simulator.proofs.Words.{refl, sym, ap, ◌∙◌, subst, append_assoc, Appends, Appends-nil, Appends-trans}
 use Rattle.simulator.proofs.Words.{false≢true, and_parts, Step, Enter, Call, Power, Reread, Order, Hold, Settle, Reexec}
 use Rattle.simulator.proofs.Words.{Idle, Goal, Event, due, first, event_text, trace_text, is_run, is_next, is_rest}
 use Rattle.simulator.proofs.Words.{is_reread, may_come, is_sound, first_due, same_step-self, run_sound, reverse_onto}
-use Rattle.simulator.proofs.Words.{append-nil, CoreState, FitsAll, StillFits, OnEachTrace, with_step, all_on}
-use Rattle.simulator.proofs.Words.{SystemState, Follows, SimFault, Leaves, are_handed, may_hand, LastsTo, Moment}
+use Rattle.simulator.proofs.Words.{append-nil, CoreState, FitsWithLastStatuses, FitsExtendedTrace, ForAllFittedTraces}
+use Rattle.simulator.proofs.Words.{with_step, all_on}
+use Rattle.simulator.proofs.Words.{SystemState, Follows, SimFault, Leaves, are_handed, may_hand, CanHandOver, Moment}
 use Rattle.simulator.proofs.Words.{AtRest, SimulationGoesOn, is_scripted, may_be_scripted, first_table, heard}
 use Rattle.simulator.proofs.Words.{past_text}
 use Rattle.std.proofs.Common.{Result, Ok, Err}
@@ -18,7 +19,7 @@ both false b c h k l = absurd (false≢true h)
 both true false c h k l = absurd (false≢true k)
 both true true false h k l = absurd (false≢true l)
 
--- a step that is the first due carries the run on
+-- a run continued by the first due step is a run
 pub run_step : (goal : Goal) (past : List Event) (s : Step) → s ≡ first (due goal past) → is_run goal past ≡ true
     → is_run goal (with_step s past) ≡ true
 run_step goal past (Enter now grace) is runs =
@@ -37,7 +38,7 @@ run_step goal past Reread is runs = runs
 run_step goal past Reexec is runs = runs
 run_step goal past Idle is runs = runs
 
--- a step at which init rests adds nothing
+-- the step at which init is at rest adds nothing
 pub rest_step : (s : Step) (past : List Event) → is_rest s ≡ true → with_step s past ≡ past
 rest_step (Enter now grace) past h = absurd (false≢true h)
 rest_step (Call letter) past h = absurd (false≢true h)
@@ -49,7 +50,8 @@ rest_step Reread past h = refl
 rest_step Reexec past h = refl
 rest_step Idle past h = refl
 
--- a run with one happening more begins with the same table, and what was said in it is heard
+-- a run with one more happening begins with the same table, and a happening that a script can have counts as read from
+-- it
 pub first_more : (goal : Goal) (happening : Event) (past : List Event) → is_run goal past ≡ true
     → first_table (happening ∷ past) ≡ first_table past
 first_more goal happening [] runs = absurd (false≢true runs)
@@ -61,7 +63,7 @@ pub heard_more : (goal : Goal) (happening : Event) (past : List Event) → is_ru
 heard_more goal happening [] runs = absurd (false≢true runs)
 heard_more goal happening (before ∷ past) runs = refl
 
--- a step is not heard
+-- a step of init is not read from the script
 step_first : (goal : Goal) (s : Step) (past : List Event) → is_run goal past ≡ true
     → first_table (with_step s past) ≡ first_table past
 step_first goal (Enter now grace) past runs = first_more goal (event.Enter now grace) past runs
@@ -97,7 +99,7 @@ step_handed goal Reread past = refl
 step_handed goal Reexec past = refl
 step_handed goal Idle past = refl
 
--- what may be said may be handed over, where it is a hand-over
+-- a hand-over that the script may say can be made
 pub handed_part : (goal : Goal) (happening : Event) (past : List Event) → may_be_scripted goal happening past ≡ true
     → may_hand goal happening past ≡ true
 handed_part goal happening past may =
@@ -107,7 +109,7 @@ handed_part goal happening past may =
     (is_next (first (due goal past)) happening) outer.0 in
     (and_parts (is_scripted happening) (may_hand goal happening past) inner.0).1
 
--- what may be said is of a script, and init waits for it, and it may come
+-- what the script may say can come from a script, is awaited by init, and may come
 pub said_parts : (goal : Goal) (happening : Event) (past : List Event) → may_be_scripted goal happening past ≡ true
     → (is_scripted happening ≡ true) × (is_next (first (due goal past)) happening ≡ true)
     × (may_come goal happening past ≡ true)
@@ -118,7 +120,7 @@ said_parts goal happening past may =
     (is_next (first (due goal past)) happening) outer.0 in
     ((and_parts (is_scripted happening) (may_hand goal happening past) inner.0).0, inner.1, outer.1)
 
--- a happening that may be said carries the run on
+-- a run continued by a happening that the script may say is a run
 pub run_hears : (goal : Goal) (happening : Event) (past : List Event) → may_be_scripted goal happening past ≡ true
     → is_run goal past ≡ true → is_run goal (happening ∷ past) ≡ true
 run_hears goal happening past may runs =
@@ -134,7 +136,7 @@ run_hears goal happening past may runs =
     at h (x ∷ before) runs next come = both (is_next (first (due goal (x ∷ before))) h) (may_come goal h (x ∷ before))
         (is_run goal (x ∷ before)) next come runs
 
--- the text of a trace with one happening more
+-- the text of a trace with one more happening
 pub trace_text-append : (xs ys : List Event) → trace_text (xs ++ ys) ≡ trace_text xs ++ trace_text ys
 trace_text-append [] ys = refl
 trace_text-append (x ∷ xs) ys = ap (λ text. event_text x ++ text) (trace_text-append xs ys)
@@ -145,7 +147,7 @@ pub past_text-more : (happening : Event) (past : List Event)
 past_text-more happening past = ap trace_text (reverse_onto past happening []) ∙ trace_text-append (reverse past)
     (happening ∷ []) ∙ ap (λ text. past_text past ++ text) (append-nil (event_text happening))
 
--- the trace went on by a step of init
+-- the trace continued by a step of init
 pub goes_step : (goal : Goal) (s : Step) (happening : Event) (past next : List Event) (more : List ℕ)
     → is_run goal next ≡ true → with_step s next ≡ happening ∷ next → SimulationGoesOn past next more
     → SimulationGoesOn past (happening ∷ next) (more ++ event_text happening)
@@ -157,25 +159,25 @@ goes_step goal s happening past next more runs added goes = record {
       ∙ append_assoc (past_text past) more (event_text happening);
 }
 
--- a run with one step more
+-- a run with one more step
 pub more_run : (goal : Goal) (past : List Event) (happening : Event) (s : Step) → s ≡ first (due goal past)
     → with_step s past ≡ happening ∷ past → is_run goal past ≡ true → is_run goal (happening ∷ past) ≡ true
 more_run goal past happening s is added runs = subst (λ t. is_run goal t ≡ true) added (run_step goal past s is runs)
 
--- init went on from a moment to another, and wrote what it did
+-- init continued from one moment to another, and what it did was written
 abbrev pub WentOn : Goal → List Event → CoreState → SystemState → Option (List ℕ) → Option (List ℕ) → Type 0
 WentOn goal past core side old new = (next : List Event) × (more : List ℕ) × Moment goal next core side
     × SimulationGoesOn past next more × Appends old new more
 
--- a step of the core and of the system's side
+-- a step of the core and of the simulated system
 module _ (core new_core : CoreState) (side new_side : SystemState) (s : Step) (happening : Event)
-    (due_now : OnEachTrace core (λ goal past. s ≡ first (due goal past)))
-    (fits : OnEachTrace core (λ goal past. StillFits core new_core goal past (with_step s past)))
+    (due_now : ForAllFittedTraces core (λ goal past. s ≡ first (due goal past)))
+    (fits : ForAllFittedTraces core (λ goal past. FitsExtendedTrace core new_core goal past (with_step s past)))
     (added : (past : List Event) → with_step s past ≡ happening ∷ past)
     (follows : (goal : Goal) (past : List Event) → is_sound goal (happening ∷ past) ≡ true → Follows side past
     → Follows new_side (happening ∷ past))
-    (lasts : (goal : Goal) (past : List Event) → FitsAll core goal past → LastsTo core goal past
-    → LastsTo new_core goal (with_step s past)) where
+    (lasts : (goal : Goal) (past : List Event) → FitsWithLastStatuses core goal past → CanHandOver core goal past
+    → CanHandOver new_core goal (with_step s past)) where
   pub moment_step : (goal : Goal) (past : List Event) → Moment goal past core side
       → Moment goal (happening ∷ past) new_core new_side
   moment_step goal past moment =
@@ -183,9 +185,9 @@ module _ (core new_core : CoreState) (side new_side : SystemState) (s : Step) (h
       let runs = more_run goal past happening s (due_now goal past sound moment.fits.0) (added past) moment.runs in
       record {
         runs = runs;
-        fits = subst (FitsAll new_core goal) (added past)
+        fits = subst (FitsWithLastStatuses new_core goal) (added past)
             (all_on core new_core goal past (with_step s past) (fits goal past sound moment.fits.0) moment.fits);
-        lasts = subst (LastsTo new_core goal) (added past) (lasts goal past moment.fits moment.lasts);
+        lasts = subst (CanHandOver new_core goal) (added past) (lasts goal past moment.fits moment.lasts);
         follows = follows goal past (run_sound goal (happening ∷ past) runs) moment.follows;
       }
 
@@ -199,7 +201,7 @@ module _ (core new_core : CoreState) (side new_side : SystemState) (s : Step) (h
     Appends-trans old mid new more (event_text happening) before written,
   )
 
--- part of a text is left, behind text that was written
+-- a part of a text was written, after a text that was written in full
 pub leaves_behind : (f : SimFault) (old mid new : Option (List ℕ)) (more text : List ℕ) → Appends old mid more
     → Leaves f mid new text → Leaves f old new (more ++ text)
 leaves_behind fault.Table old mid new more text before leaves = absurd leaves
@@ -219,23 +221,24 @@ leaves_behind fault.Memory old mid new more text before (front, rest, is, now) =
   Appends-trans old mid new more front before now,
 )
 
--- want of memory after a whole text, and before it
+-- memory allocation failed after a whole text, or before it
 pub memory_after : (old new : Option (List ℕ)) (text : List ℕ) → Appends old new text → Leaves fault.Memory old new text
 memory_after old new text all = (text, [], append-nil text, all)
 
 pub memory_before : (known : Option (List ℕ)) (text : List ℕ) → Leaves fault.Memory known known text
 memory_before known text = ([], text, refl, Appends-nil known)
 
--- a moment stays one while init rests
+-- the moment stays one while init is at rest
 pub at_rest : (goal : Goal) (past : List Event) (s : Step) (rereads : Bool) (core new_core : CoreState)
     (side : SystemState) → Moment goal past core side
-    → s ≡ first (due goal past) → is_rest s ≡ true → rereads ≡ is_reread s → FitsAll new_core goal (with_step s past)
-    → LastsTo new_core goal (with_step s past) → AtRest goal past rereads new_core side
+    → s ≡ first (due goal past) → is_rest s ≡ true → rereads ≡ is_reread s
+    → FitsWithLastStatuses new_core goal (with_step s past)
+    → CanHandOver new_core goal (with_step s past) → AtRest goal past rereads new_core side
 at_rest goal past s rereads core new_core side moment is rests read fits lasts = record {
   moment = record {
     runs = moment.runs;
-    fits = subst (FitsAll new_core goal) (rest_step s past rests) fits;
-    lasts = subst (LastsTo new_core goal) (rest_step s past rests) lasts;
+    fits = subst (FitsWithLastStatuses new_core goal) (rest_step s past rests) fits;
+    lasts = subst (CanHandOver new_core goal) (rest_step s past rests) lasts;
     follows = moment.follows;
   };
   rests = sym (ap is_rest is) ∙ rests;

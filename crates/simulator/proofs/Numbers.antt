@@ -1,4 +1,4 @@
--- No two unreaped children have one number.
+-- No two unreaped children have the same number.
 use Rattle.simulator.proofs.Words.{◌≡◌, refl, ◌∙◌, ap, ℕ, ◌==◌, Bool, true, false, not, ◌||◌, cond, List, [], ◌∷◌}
 use Rattle.simulator.proofs.Words.{filter, list_any, and_parts, not-true, Birth, Reaped, Goal, Event, Start, Child}
 use Rattle.simulator.proofs.Words.{is_child, has_number, undone_of, unreaped_children, is_order, may_come, is_sound}
@@ -27,7 +27,8 @@ one_number goal past h = sound_ind goal (λ before. (number : ℕ)
           lone_filter (has_number number) (λ child. not (is_child i n child)) (unreaped_children before) (one number)
       next _ before may sound one number = one number
 
--- where at most one child passes p, none is left without those that pass r, if one passes r
+-- if at most one child passes `p`, and one passes `r`, which implies `p`, none that passes `p` is left once those that
+-- pass `r` are removed
 pub lone_gone : (p r : Child → Bool) → ((x : Child) → r x ≡ true → p x ≡ true) → (xs : List Child) → is_lone p xs ≡ true
     → list_any r xs ≡ true → list_any p (filter (λ x. not (r x)) xs) ≡ false
 lone_gone p r within [] h there = refl

@@ -1,4 +1,4 @@
--- A level, an inittab and a script leave one run.
+-- For a level, an inittab and a script there is only one run.
 use Rattle.simulator.proofs.Words.{◌≡◌, refl, sym, ap, ◌∙◌, subst, ◌⊎◌, inl, inr, ℕ, Bool, true, false, ◌&&◌, cond}
 use Rattle.simulator.proofs.Words.{List, [], ◌∷◌, ◌++◌, length, reverse, append_assoc, Some, arith, ◌==◌, false≢true}
 use Rattle.simulator.proofs.Words.{and_parts, append_cancel_right, reverse-reverse, Letter, PowerKind, same_letter}
@@ -6,7 +6,7 @@ use Rattle.simulator.proofs.Words.{same_id, same_ask-is, same_id-is, same_level-
 use Rattle.simulator.proofs.Words.{Reread, Order, Hold, Settle, Reexec, Idle, due, first, same_step, Event, is_next}
 use Rattle.simulator.proofs.Words.{is_rest, is_reread, is_run, step_in, may_come, with_step, first_table, heard}
 use Rattle.simulator.proofs.Words.{is_scripted, reverse_onto, is_in_range, are_in_range, are_in_range-push, one_trace}
-use Rattle.simulator.proofs.Words.{Rested, Scenario, goal_in, heard_text, past_text}
+use Rattle.simulator.proofs.Words.{RunsToRest, Scenario, goal_in, heard_text, past_text}
 use Rattle.std.proofs.Common.{eqb-true}
 use Rattle.std.proofs.lemmas.List.{length-append}
 use Rattle.std.proofs.lemmas.Option.{none-some, same_Some}
@@ -17,7 +17,7 @@ use Rattle.init_words.proofs.Same.{same_stage-is}
 use Rattle.trace_events.specs.declared.happenings.Happening.TheVariants as event
 use Rattle.simulator.proofs.Moves.{first_more, heard_more}
 
--- ---- two steps, or two happenings, are one
+-- Two steps or happenings that compare equal are the same.
 
 same_letter_is : (k l : Letter) → same_letter k l ≡ true → k ≡ l
 same_letter_is A A is = refl
@@ -47,7 +47,7 @@ same_step_is Reexec Reexec is = refl
 same_step_is Idle Idle is = refl
 same_step_is _ _ is = absurd (false≢true is)
 
--- the step that a happening is adds that happening, and init does not rest at it
+-- a step as a happening adds that happening, and init is not at rest at it
 step_adds : (h : Event) (s : Step) → step_in h ≡ Some s → (with_step s [] ≡ h ∷ []) × (is_rest s ≡ false)
 step_adds (event.Enter now grace) s is =
     subst (λ t. (with_step t [] ≡ event.Enter now grace ∷ []) × (is_rest t ≡ false)) (same_Some _ _ is) (refl, refl)
@@ -63,7 +63,7 @@ step_adds (event.Settle level) s is =
     subst (λ t. (with_step t [] ≡ event.Settle level ∷ []) × (is_rest t ≡ false)) (same_Some _ _ is) (refl, refl)
 step_adds _ s is = absurd (none-some s is)
 
--- what may come next where this step is the first due: that step, or what a script says while init rests
+-- what may come next if this is the first due step: that step, or a line of the script if init is at rest
 abbrev NextOne : Step → Event → Type 0
 NextOne due_now h = (step_in h ≡ Some due_now) ⊎ ((is_scripted h ≡ true) × (is_rest due_now ≡ true))
 
@@ -86,7 +86,7 @@ abbrev head_or : Event → List Event → Event
 head_or none [] = none
 head_or none (x ∷ xs) = x
 
--- two that may come next are one, or both are said by a script
+-- two happenings that may come next are the same, or both come from the script
 one_or_said : (s : Step) (h k : Event) → is_next s h ≡ true → is_next s k ≡ true
     → (h ≡ k) ⊎ ((is_scripted h ≡ true) × (is_scripted k ≡ true))
 one_or_said s h k first_is second_is = by (next_one s h first_is) (next_one s k second_is)
@@ -97,9 +97,9 @@ one_or_said s h k first_is second_is = by (next_one s h first_is) (next_one s k 
     by (inr (said, rests)) (inl other) = absurd (false≢true (sym (step_adds k s other).1 ∙ rests))
     by (inr one) (inr other) = inr (one.0, other.0)
 
--- ---- a run, and how it began
+-- A run and how it began.
 
--- the later run goes on from the earlier one
+-- the later run continues the earlier one
 abbrev Extends : List Event → List Event → Type 0
 Extends q [] = q ≡ []
 Extends q (h ∷ p) = (q ≡ h ∷ p) ⊎ Extends q p
@@ -142,7 +142,7 @@ heard_within goal k q (h ∷ x ∷ p) runs (inr behind) =
     by more is true = (h ∷ more, ap (λ es. h ∷ es) is)
     by more is false = (more, is)
 
--- it begins with its table
+-- a run begins with its table
 opens_with : (goal : Goal) (q : List Event) → is_run goal q ≡ true → Extends (event.NewTable (first_table q) ∷ []) q
 opens_with goal [] runs = absurd (false≢true runs)
 opens_with goal (event.NewTable table ∷ []) runs = inl refl
@@ -162,7 +162,7 @@ next_behind q (h ∷ p) (inr behind) = by (next_behind q p behind)
     by (inl same) = inr (h, inl (ap (λ es. h ∷ es) same))
     by (inr (k, more)) = inr (k, inr more)
 
--- ---- what was heard
+-- The part of a run that came from the script.
 
 abbrev tail_of : List Event → List Event
 tail_of [] = []
@@ -183,7 +183,7 @@ heard_said : (goal : Goal) (h : Event) (past : List Event) → is_run goal past 
 heard_said goal h past runs said =
     heard_more goal h past runs ∙ ap (λ (b : Bool). cond b (h ∷ heard past) (heard past)) said
 
--- what was heard before is a part of it
+-- what came from the script earlier is a part of it
 heard_before : (goal : Goal) (h : Event) (past all more : List Event) → is_run goal past ≡ true
     → all ≡ more ++ heard (h ∷ past) → (less : List Event) × (all ≡ less ++ heard past)
 heard_before goal h past all more runs is =
@@ -194,7 +194,7 @@ heard_before goal h past all more runs is =
     by true same = (more ++ h ∷ [], same ∙ sym (append_assoc more (h ∷ []) (heard past)))
     by false same = (more, same)
 
--- two runs of one table that heard parts of one script: one of them goes on from the other
+-- of two runs with the same table whose lines come from the same script, one continues the other
 comparable : (goal : Goal) (p q all m n : List Event) → is_run goal p ≡ true → is_run goal q ≡ true
     → first_table p ≡ first_table q → all ≡ m ++ heard p → all ≡ n ++ heard q → Extends p q ⊎ Extends q p
 comparable goal [] q all m n runs other table here there = absurd (false≢true runs)
@@ -233,7 +233,7 @@ comparable goal (h ∷ x ∷ past) q all m n runs other table here there =
     by (inl behind) = next (next_behind (x ∷ past) q behind)
     by (inr behind) = inr (inr behind)
 
--- a run that goes on from one after which init rests has heard more, or is that run
+-- a run that continues one after which init is at rest has read more of the script, or is the same run
 rested_same : (goal : Goal) (p q : List Event) → is_run goal p ≡ true → is_run goal q ≡ true
     → is_rest (first (due goal p)) ≡ true → heard q ≡ heard p → Extends p q → p ≡ q
 rested_same goal [] q runs other rests same behind = absurd (false≢true runs)
@@ -256,7 +256,7 @@ rested_same goal (x ∷ past) q runs other rests same behind = by (next_behind (
         longer k more (said_then k
         (next_one (first (due goal (x ∷ past))) k (parts goal k x past (run_within goal k (x ∷ past) q other more)).0))
 
--- two runs of one table that heard the same, after both of which init rests, are one
+-- two runs with the same table that have read the same lines, and after which init is at rest, are the same
 pub one_run : (goal : Goal) (p q : List Event) → is_run goal p ≡ true → is_run goal q ≡ true
     → is_rest (first (due goal p)) ≡ true → is_rest (first (due goal q)) ≡ true
     → first_table p ≡ first_table q → heard p ≡ heard q → p ≡ q
@@ -266,7 +266,7 @@ one_run goal p q runs other rests other_rests table same =
       | inr behind ↦ sym (rested_same goal q p other runs other_rests same behind)
     ]
 
--- ---- and over a script
+-- Runs over a script.
 
 are_back : (trace : List Event) → are_in_range trace ≡ true → are_in_range (reverse trace) ≡ true
 are_back [] are = refl
@@ -275,13 +275,13 @@ are_back (h ∷ trace) are =
     subst (λ es. are_in_range es ≡ true) (sym (reverse_onto trace h []))
     (are_in_range-push (reverse trace) h (are_back trace both.1) both.0)
 
--- one text is that of one list of happenings
+-- a text is that of only one list of happenings
 one_heard : (p q : List Event) → are_in_range p ≡ true → are_in_range q ≡ true → past_text p ≡ past_text q → p ≡ q
 one_heard p q one other same =
     sym (reverse-reverse p) ∙ ap reverse (one_trace (reverse p) (reverse q) (are_back p one) (are_back q other) same)
     ∙ reverse-reverse q
 
-pub only : (s : Scenario) (rest : List ℕ) (p q : List Event) → Rested s rest p → Rested s rest q → p ≡ q
+pub only : (s : Scenario) (rest : List ℕ) (p q : List Event) → RunsToRest s rest p → RunsToRest s rest q → p ≡ q
 only s rest p q one other =
     let same : heard_text p ≡ heard_text q =
     append_cancel_right (heard_text p) (heard_text q) rest (one.run.hears ∙ sym other.run.hears) in

@@ -1,11 +1,11 @@
--- The opening of a run: no table, and a table that is written or was being written.
+-- The opening of a run: there is no table, or a table that was written, or was being written.
 use Rattle.simulator.proofs.Words.{◌≡◌, subst, ℕ, List, Option, Appends, Keeps, Keeps-refl, Entry, table_of_text}
 use Rattle.simulator.proofs.Words.{NewTable, event_text, SimFault, Leaves, TableEnds, opening_text, IsTooLong}
 use Rattle.std.proofs.Common.{Result, Ok, Err}
 use Rattle.simulator.specs.declared.running.SimFault.TheVariants as fault
 use Rattle.simulator.proofs.Moves.{memory_before}
 
--- how the opening of a run ends where it does not come to its first moment
+-- how the opening of a run ends if it does not reach its first moment
 abbrev pub OpeningEnds : List ℕ → SimFault → Option (List ℕ) → Option (List ℕ) → Type 0
 OpeningEnds inittab fault.Table old new = IsTooLong inittab × Keeps old new
 OpeningEnds inittab (fault.Script n) old new = ⊥
@@ -38,7 +38,7 @@ pub opening_written : (inittab : List ℕ) (table : List Entry) (old new : Optio
     ≡ table_of_text inittab → Appends old new (event_text (NewTable table)) → Appends old new (opening_text inittab)
 opening_written inittab table old new same written = subst (λ t. Appends old new (event_text (NewTable t))) same written
 
--- a result is not both
+-- a result is not both `Ok` and `Err`
 pub no_fault : {S E P : Type 0} (r : Result S E) (x : S) (e : E) → r ≡ Ok x → r ≡ Err e → P
 no_fault (Ok y) x e ok err = absurd (cc)
 no_fault (Err y) x e ok err = absurd (cc)

@@ -1,10 +1,12 @@
--- Where the first step that is due is to read inittab, no start and no signal is open.
+-- If the first due step is to read inittab, no start and no signal is open.
 use Rattle.simulator.proofs.Words.{◌≡◌, ◌++◌, Bool, true, false, not, ◌&&◌, ◌||◌, cond, ℕ, List, [], ◌∷◌, Option, Some}
 use Rattle.simulator.proofs.Words.{None, is_none, refl, list_any, false≢true, or_left, Entry, Letter, Stage, Start}
 use Rattle.simulator.proofs.Words.{Look, PowerKind, both_ways, Step, Call, Power, Order, Hold, Settle, Reexec, Goal}
-use Rattle.simulator.proofs.Words.{Event, stage_of, table_of, Child, is_of, open_of, is_quiet, is_idle, known_children}
-use Rattle.simulator.proofs.Words.{is_owed, in_run, goal_of, wants_reexec, level_wish, keeps_power, keeps_letter}
-use Rattle.simulator.proofs.Words.{powers, letters, wish_stands, step_if, steps_if, none_excluded, due_first}
+use Rattle.simulator.proofs.Words.{Event, stage_of, table_of, Child, is_child_of, open_of, is_quiet, is_idle}
+use Rattle.simulator.proofs.Words.{known_children}
+use Rattle.simulator.proofs.Words.{is_owed, in_run, goal_of, wants_reexec, level_wish, is_power_pending}
+use Rattle.simulator.proofs.Words.{is_letter_pending}
+use Rattle.simulator.proofs.Words.{powers, letters, is_request_pending, step_if, steps_if, none_excluded, due_first}
 use Rattle.simulator.proofs.Words.{due_reexec, due_reread, due_level, enter_level, due_news, power_steps, letter_steps}
 use Rattle.simulator.proofs.Words.{due_stops, stops_among, stops_of, stop_step, due_starts, starts_among, start_steps}
 use Rattle.simulator.proofs.Words.{can_start, due_stage, next_stage, is_over, due_settle, settle_step, is_announced}
@@ -46,13 +48,14 @@ none_level (Some wish) past = refl
 
 none_power : (kinds : List PowerKind) (past : List Event) → HasNone (power_steps kinds past)
 none_power [] past = refl
-none_power (kind ∷ kinds) past = none_append (step_if (keeps_power kind past) (Power kind)) (power_steps kinds past)
-    (none_one (keeps_power kind past) (Power kind) refl) (none_power kinds past)
+none_power (kind ∷ kinds) past =
+    none_append (step_if (is_power_pending kind past) (Power kind)) (power_steps kinds past)
+    (none_one (is_power_pending kind past) (Power kind) refl) (none_power kinds past)
 
 none_letter : (called : List Letter) (past : List Event) → HasNone (letter_steps called past)
 none_letter [] past = refl
-none_letter (letter ∷ called) past = none_append (step_if (keeps_letter letter past) (Call letter))
-    (letter_steps called past) (none_one (keeps_letter letter past) (Call letter) refl) (none_letter called past)
+none_letter (letter ∷ called) past = none_append (step_if (is_letter_pending letter past) (Call letter))
+    (letter_steps called past) (none_one (is_letter_pending letter past) (Call letter) refl) (none_letter called past)
 
 none_stop : (id : List ℕ) (o : Option OrderKind) → HasNone (stop_step id o)
 none_stop id None = refl
@@ -60,8 +63,9 @@ none_stop id (Some ask) = refl
 
 none_stops_of : (id : List ℕ) (children : List Child) (past : List Event) → HasNone (stops_of id children past)
 none_stops_of id [] past = refl
-none_stops_of id (child ∷ children) past = none_append (steps_if (is_of id child) (stop_step id (stop_due child past)))
-    (stops_of id children past) (none_if (is_of id child) (stop_step id (stop_due child past))
+none_stops_of id (child ∷ children) past =
+    none_append (steps_if (is_child_of id child) (stop_step id (stop_due child past)))
+    (stops_of id children past) (none_if (is_child_of id child) (stop_step id (stop_due child past))
     (none_stop id (stop_due child past))) (none_stops_of id children past)
 
 none_stops : (ids : List (List ℕ)) (past : List Event) → HasNone (stops_among ids past)
@@ -114,7 +118,7 @@ none_ten a b c d e f g h i j na nb nc nd ne nf ng nh ni nj =
     (none_append (a ++ b ++ c ++ d ++ e) f (none_append (a ++ b ++ c ++ d) e
     (none_append (a ++ b ++ c) d (none_append (a ++ b) c (none_append a b na nb) nc) nd) ne) nf) ng) nh) ni) nj
 
--- where a start or a signal is open, inittab is not to be read
+-- while a start or a signal is open, reading inittab is not due
 none_due : (goal : Goal) (past : List Event) → is_quiet past ≡ false → HasNone (due goal past)
 none_due goal past busy =
     none_ten (due_first goal (stage_of past) past) (due_reexec past) (due_reread past) (due_level past) (due_news past)
@@ -126,12 +130,13 @@ none_due goal past busy =
     (none_if (is_quiet past && in_run (stage_of past)) (power_steps powers past ++ letter_steps letters past)
     (none_append (power_steps powers past) (letter_steps letters past) (none_power powers past)
     (none_letter letters past)))
-    (none_if (not (wish_stands past)) (stops_among (record_ids past) past) (none_stops (record_ids past) past))
-    (none_if (not (wish_stands past) && none_excluded past) (starts_among (table_of past) past)
+    (none_if (not (is_request_pending past)) (stops_among (record_ids past) past) (none_stops (record_ids past) past))
+    (none_if (not (is_request_pending past) && none_excluded past) (starts_among (table_of past) past)
     (none_starts (table_of past) past))
     (none_if (is_over past) (next_stage (goal_of goal past) (stage_of past))
     (none_stage (goal_of goal past) (stage_of past)))
-    (none_if (not (wish_stands past) && is_idle past && not (is_announced past)) (settle_step (stage_of past) past)
+    (none_if (not (is_request_pending past) && is_idle past && not (is_announced past))
+    (settle_step (stage_of past) past)
     (none_settle (stage_of past) past))
     (none_looks (record_ids past) past)
 

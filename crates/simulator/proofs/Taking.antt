@@ -1,4 +1,4 @@
--- A state that took a happening in says what the longer trace says.
+-- After a happening, the state agrees with the longer trace.
 use Rattle.simulator.proofs.Words.{◌≡◌, refl, sym, ◌∙◌, ap, ℕ, ◌==◌, Bool, true, false, not, ◌&&◌, ◌||◌, cond, List}
 use Rattle.simulator.proofs.Words.{◌∷◌, filter, Option, Some, None, find, list_any, option_map, and_parts, Look}
 use Rattle.simulator.proofs.Words.{same_id, Asked, Birth, NoBirth, Death, Reaped, Still, NoLook, Hit, Miss, Told, Goal}
@@ -35,7 +35,7 @@ answer_step (Miss i) id past = refl
 answer_step (Told i) id past = refl
 answer_step _ id past = refl
 
--- a birth makes its child a living one, and leaves those of other numbers as they are
+-- a birth adds a living child, and leaves the children with other numbers unchanged
 birth_other : (i : List ℕ) (n number : ℕ) (past : List Event) → (number == n) ≡ false → (o : Option Child)
     → option_map (simulated_child_of number past) o ≡ option_map (simulated_child_of number (Birth i n ∷ past)) o
 birth_other i n number past differ None = refl
@@ -54,7 +54,7 @@ birth_step i n number past = at_number (number == n) refl where
   at_number false differ =
       rw differ (birth_other i n number past differ (find (has_number number) (unreaped_children past)))
 
--- a death makes the child of its number a dead one
+-- a death makes the child with its number dead
 death_step : (n number : ℕ) (past : List Event)
     → child_after (Death n) number (child_with number past) ≡ child_with number (Death n ∷ past)
 death_step n number past = at_number (number == n) (find (has_number number) (unreaped_children past)) where
@@ -66,7 +66,7 @@ death_step n number past = at_number (number == n) (find (has_number number) (un
   at_number false None = refl
   at_number false (Some child) = refl
 
--- a reaping takes the only child of its number, and leaves the others
+-- a reaping removes the only child with its number, and leaves the others
 reaped_other : (i : List ℕ) (n number : ℕ) → (number == n) ≡ false → (child : Child) → has_number number child ≡ true
     → not (is_child i n child) ≡ true
 reaped_other i n number differ child its =
@@ -106,7 +106,7 @@ child_step goal (Reaped i n status) past sound number =
     (and_parts (is_order Look (undone_of i past)) (list_any (is_child i n) (unreaped_children past)) tests.0).1)
 child_step goal _ past sound number = refl
 
--- a state that fits a trace fits it with the happening, once it took it in
+-- a state that follows a trace and is updated for a happening follows the longer trace
 pub follows_after : (goal : Goal) (happening : Event) (past : List Event) (old new : SystemState)
     → ((id : List ℕ) → order_in id new ≡ order_after happening id (order_in id old)) → ((id : List ℕ) → answer_in id new
     ≡ answer_after happening id (answer_in id old)) → ((number : ℕ) → child_in number new ≡ child_after happening number

@@ -1,9 +1,11 @@
--- The run over a whole script, happening by happening.
+-- The run over a whole script, one happening at a time.
 use Rattle.simulator.proofs.Words.{Bool, true, ◌≡◌, ◌≢◌, ◌++◌, ◌+◌, ℕ, List, [], ◌∷◌, Option, refl, sym, ap, ◌∙◌, subst}
 use Rattle.simulator.proofs.Words.{append_assoc, ◌⊎◌, inl, inr, Appends, Keeps, Appends-kept, Appends-trans, append-nil}
 use Rattle.simulator.proofs.Words.{Entry, table_of_text, NewTable, Goal, Event, event_text, is_in_range, are_in_range}
-use Rattle.simulator.proofs.Words.{line_count, BeginsNone, counted_on, newlines, is_run, CoreState, FitsAll}
-use Rattle.simulator.proofs.Words.{SystemState, Follows, SimFault, Leaves, LastsTo, Moment, SimulationGoesOn, HearsLine}
+use Rattle.simulator.proofs.Words.{line_count, BeginsNone, counted_on, newlines, is_run, CoreState}
+use Rattle.simulator.proofs.Words.{FitsWithLastStatuses}
+use Rattle.simulator.proofs.Words.{SystemState, Follows, SimFault, Leaves, CanHandOver, Moment, SimulationGoesOn}
+use Rattle.simulator.proofs.Words.{HearsLine}
 use Rattle.simulator.proofs.Words.{ComesToRest, Breaks, FromRest, HeardOne, HeardBreaks, HeardEnds, SoFar, opening_text}
 use Rattle.simulator.proofs.Words.{Scenario, table_in, goal_in, script_in, past_text, heard_text, RunOver, Broken, Ends}
 use Rattle.simulator.proofs.Words.{Done}
@@ -13,18 +15,18 @@ use Rattle.simulator.specs.declared.running.SimFault.TheVariants as fault
 use Rattle.simulator.proofs.Opening.{OpeningEnds}
 use Rattle.simulator.proofs.Moves.{leaves_behind, memory_after}
 
--- the trace that is the table alone
+-- the trace that has only the table
 abbrev opening : Scenario → List Event
 opening s = NewTable (table_in s) ∷ []
 
--- the text of the table alone
+-- the text of the table
 table_text : (table : List Entry) → past_text (NewTable table ∷ []) ≡ event_text (NewTable table)
 table_text table = append-nil (event_text (NewTable table))
 
--- the first moment
 pub first_moment : (inittab : List ℕ) (goal : Goal) (core : CoreState) (side : SystemState)
-    → FitsAll core goal (NewTable (table_of_text inittab) ∷ [])
-    → LastsTo core goal (NewTable (table_of_text inittab) ∷ []) → Follows side (NewTable (table_of_text inittab) ∷ [])
+    → FitsWithLastStatuses core goal (NewTable (table_of_text inittab) ∷ [])
+    → CanHandOver core goal (NewTable (table_of_text inittab) ∷ [])
+    → Follows side (NewTable (table_of_text inittab) ∷ [])
     → Moment goal (NewTable (table_of_text inittab) ∷ []) core side
 first_moment inittab goal core side fits lasts follows =
     record { runs = distinct_text inittab; fits = fits; lasts = lasts; follows = follows }
@@ -32,7 +34,7 @@ first_moment inittab goal core side fits lasts follows =
 first_run : (s : Scenario) → RunOver s (script_in s) (opening s)
 first_run s = record { runs = distinct_text s.inittab; handed = refl; opens = refl; are = refl; hears = refl }
 
--- nothing was heard yet, and init went on
+-- no line of the script was read yet, and init continued
 run_first : (s : Scenario) (next : List Event) (more : List ℕ) → is_run (goal_in s) next ≡ true
     → SimulationGoesOn (opening s) next more → RunOver s (script_in s) next
 run_first s next more runs goes = record {
@@ -43,7 +45,7 @@ run_first s next more runs goes = record {
   hears = ap (λ es. past_text es ++ script_in s) goes.hears;
 }
 
--- the run before the script
+-- the run before the first line of the script
 pub so_far_first : (s : Scenario) (rereads : Bool) (core : CoreState) (side : SystemState)
     (old mid new : Option (List ℕ)) → Appends old mid (opening_text s.inittab)
     → ComesToRest (goal_in s) (NewTable (table_in s) ∷ []) rereads core side mid new
@@ -57,7 +59,7 @@ so_far_first s rereads core side old mid new before (next, more, at, goes, writt
       (Appends-trans old mid new (opening_text s.inittab) more before written);
 }
 
--- nothing was heard, and what came was being written
+-- no line of the script was read yet, and what followed was being written
 pub broken_first : (s : Scenario) (f : SimFault) (old mid new : Option (List ℕ))
     → Appends old mid (opening_text s.inittab)
     → Breaks (goal_in s) (NewTable (table_in s) ∷ []) f mid new → Broken s f old new
@@ -83,7 +85,7 @@ opening_ends s (fault.Forbidden n why) old new ends = absurd ends
 opening_ends s fault.Write old new ends = broken_opening s fault.Write old new ends
 opening_ends s fault.Memory old new ends = broken_opening s fault.Memory old new ends
 
--- a fault in the midst of the run's text ends the run
+-- a fault while the text of the run was written ends the run
 pub broken_ends : (s : Scenario) (f : SimFault) (old new : Option (List ℕ)) → Broken s f old new → Ends s f old new
 broken_ends s fault.Table old new (rest, past, run, leaves) = absurd leaves
 broken_ends s (fault.Script n) old new (rest, past, run, leaves) = absurd leaves
@@ -91,7 +93,7 @@ broken_ends s (fault.Forbidden n why) old new (rest, past, run, leaves) = absurd
 broken_ends s fault.Write old new broken = broken
 broken_ends s fault.Memory old new broken = broken
 
--- the run over one happening more of the script
+-- the run over one more happening of the script
 run_more : (s : Scenario) (rest behind : List ℕ) (past next : List Event) (happening : Event) (more : List ℕ)
     → RunOver s rest past → is_run (goal_in s) next ≡ true
     → event_text happening ++ behind ≡ rest → HearsLine (goal_in s) past next (event_text happening) more
@@ -105,7 +107,7 @@ run_more s rest behind past next happening more run runs begins hears = record {
       ∙ ap (λ t. heard_text past ++ t) begins ∙ run.hears;
 }
 
--- one happening more
+-- one more happening
 pub so_far_next : (s : Scenario) (rest behind : List ℕ) (happening : Event) (number : ℕ) (rereads then_rereads : Bool)
     (core new_core : CoreState) (side new_side : SystemState) (old mid new : Option (List ℕ))
     → SoFar s rest number rereads core side old mid → is_in_range happening ≡ true
@@ -138,7 +140,7 @@ broken_at s rest behind happening number rereads core side f old mid new so_far 
           (leaves_behind f old mid new (past_text so_far.past) more so_far.written leaves),
     )
 
--- how a happening ends the run
+-- how a happening of the script ends the run
 pub heard_ends : (s : Scenario) (rest behind : List ℕ) (happening : Event) (number : ℕ) (rereads : Bool)
     (core : CoreState) (side : SystemState) (f : SimFault) (old mid new : Option (List ℕ))
     → SoFar s rest number rereads core side old mid → is_in_range happening ≡ true
@@ -176,7 +178,7 @@ heard_ends s rest behind happening number rereads core side fault.Memory old mid
     by (inr breaks) =
         broken_at s rest behind happening number rereads core side fault.Memory old mid new so_far begins breaks
 
--- no happening begins the rest
+-- no happening begins the rest of the script
 pub unread_ends : (s : Scenario) (rest : List ℕ) (number : ℕ) (rereads : Bool) (core : CoreState) (side : SystemState)
     (old new : Option (List ℕ)) → SoFar s rest number rereads core side old new → rest ≢ [] → BeginsNone rest
     → Ends s (fault.Script number) old new
@@ -189,13 +191,13 @@ unread_ends s rest number rereads core side old new so_far some none = (
   (some, none),
 )
 
--- no memory was left before the rest
+-- memory allocation failed before the rest of the script
 pub memory_ends : (s : Scenario) (rest : List ℕ) (number : ℕ) (rereads : Bool) (core : CoreState) (side : SystemState)
     (old new : Option (List ℕ)) → SoFar s rest number rereads core side old new → Ends s fault.Memory old new
 memory_ends s rest number rereads core side old new so_far =
     (rest, so_far.past, so_far.run, memory_after old new (past_text so_far.past) so_far.written)
 
--- the script is at its end
+-- the end of the script was reached
 pub all_done : (s : Scenario) (rest : List ℕ) (number : ℕ) (rereads : Bool) (core : CoreState) (side : SystemState)
     (old new : Option (List ℕ)) → SoFar s rest number rereads core side old new → rest ≡ [] → Done s old new
 all_done s rest number rereads core side old new so_far empty = (

@@ -1,4 +1,4 @@
--- The words of the proofs of this crate.
+-- Names that all proofs of this crate import.
 pub use Rattle.std.proofs.Common.{◌≡◌, refl, sym, ◌∙◌, ap, ℕ, ◌==◌, Bool, true, false, not, ◌&&◌, List, ◌||◌, cond}
 pub use Rattle.std.proofs.Common.{Option, Some, None, find, is_none, is_some, subst, ◌+◌, ◌-◌, ◌<◌, ◌≤◌, [], ◌∷◌, ◌++◌}
 pub use Rattle.std.proofs.Common.{map, length, get_or, take, drop, ◌⊎◌, inl, inr, arith, length-drop, IfOk, ◌≢◌}
@@ -12,7 +12,7 @@ pub use Rattle.trace_events.specs.declared.happenings.Happening.TheVariants.{NoL
 pub use Rattle.trace_events.specs.declared.steps.Goal.{Goal}
 pub use Rattle.trace_events.specs.Event.{Event}
 pub use Rattle.trace_events.specs.Past.{Child, has_number, is_child, is_dead, is_living, undone_of, unreaped_children}
-pub use Rattle.trace_events.specs.Past.{is_untold, is_quiet, stage_of, table_of, is_of, open_of, is_idle}
+pub use Rattle.trace_events.specs.Past.{is_untold, is_quiet, stage_of, table_of, is_child_of, open_of, is_idle}
 pub use Rattle.trace_events.specs.Past.{known_children}
 pub use Rattle.trace_events.specs.Wanted.{is_order, is_owed}
 pub use Rattle.trace_events.specs.Sound.{may_come, is_sound}
@@ -32,10 +32,11 @@ pub use Rattle.std.proofs.lemmas.List.{get_or-map, get_or_append_left, length-ma
 pub use Rattle.std.proofs.lemmas.List.{append-nil, append_cancel_right, reverse-reverse, nil_from_length}
 pub use Rattle.core_model.specs.Parts.{SavedState, state_of}
 pub use Rattle.core_model.specs.State.{CoreState}
-pub use Rattle.core_model.specs.Steps.{after_handed_on, wished, heard_in, after_step, after_adopt, after_clock}
-pub use Rattle.core_model.specs.Steps.{after_got, after_not_read, after_round, after_told}
+pub use Rattle.core_model.specs.Steps.{after_handed_on, wished, fields_after_level, after_step, after_adopt}
+pub use Rattle.core_model.specs.Steps.{after_clock}
+pub use Rattle.core_model.specs.Steps.{after_got, after_not_read, after_round, after_answer_to}
 pub use Rattle.simulator.specs.Handing.{after_hand, has_next, is_made, kept_texts, objection_handed, taken_of}
-pub use Rattle.simulator.specs.Handing.{text_made, are_handed, made_in, may_hand, text_at, kept_goal, kept_at}
+pub use Rattle.simulator.specs.Handing.{handed_over_text, are_handed, made_in, may_hand, text_at, kept_goal, kept_at}
 pub use Rattle.simulator.specs.Handing.{comes_back}
 pub use Rattle.simulator.specs.Texts.{AreMade, HasTexts, IsForeign, IsOfGeneration, IsTakenOver}
 pub use Rattle.init_words.specs.declared.entries.Entry.{Entry}
@@ -49,24 +50,27 @@ pub use Rattle.trace_events.specs.Due.{is_announced, is_settled, due_looks, look
 pub use Rattle.trace_text.specs.Lines.{event_text, trace_text}
 pub use Rattle.trace_events.specs.Run.{is_run, is_rest, is_reread, is_next, step_in}
 pub use Rattle.trace_laws.proofs.Runs.{run_sound, first_due, same_step-self, run_lawful}
-pub use Rattle.core_model.specs.Fit.{FitsAll, is_act, lasts_of, core_read, with_step, StillFits, OnEachTrace}
+pub use Rattle.core_model.specs.Fit.{FitsWithLastStatuses, is_act, last_statuses_of, core_read, with_step}
+pub use Rattle.core_model.specs.Fit.{FitsExtendedTrace, ForAllFittedTraces}
 pub use Rattle.core_model.proofs.Fitted.{fit_records, all_on, own_read}
 pub use Rattle.simulator.specs.declared.running.SimFault.{SimFault}
-pub use Rattle.simulator.specs.Moments.{LastsTo, Moment, AtRest, IsReadyFor, SimulationGoesOn, HearsLine, HeardBreaks}
+pub use Rattle.simulator.specs.Moments.{CanHandOver, Moment, AtRest, IsReadyFor, SimulationGoesOn, HearsLine}
+pub use Rattle.simulator.specs.Moments.{HeardBreaks}
 pub use Rattle.simulator.specs.Moments.{HeardEnds, TableEnds, opening_text, ComesToRest, Breaks, FromRest, HeardOne}
 pub use Rattle.simulator.specs.Moments.{SoFar, SomeRest, FromScript, FromMoment, SomeMoment}
 pub use Rattle.simulator.specs.Said.{is_scripted, may_be_scripted, objection_in, objection_now, IsObjected, heard}
 pub use Rattle.simulator.specs.Said.{first_table}
-pub use Rattle.simulator.specs.Simulation.{past_text, Rested, Scenario, goal_in, heard_text, IsTooLong, table_in}
+pub use Rattle.simulator.specs.Simulation.{past_text, RunsToRest, Scenario, goal_in, heard_text, IsTooLong, table_in}
 pub use Rattle.simulator.specs.Simulation.{script_in, RunOver, Broken, Ends, Done, scenario}
 pub use Rattle.init_words.specs.declared.stages.Stage.{Stage}
 pub use Rattle.init_words.specs.Levels.{same_level, same_letter}
 pub use Rattle.trace_events.specs.declared.steps.Step.{Step}
 pub use Rattle.trace_events.specs.declared.steps.Step.TheVariants.{Enter, Call, Power, Reread, Order, Hold, Settle}
 pub use Rattle.trace_events.specs.declared.steps.Step.TheVariants.{Reexec, Idle}
-pub use Rattle.trace_events.specs.Wishes.{in_run, level_wish, goal_of, wants_reexec, keeps_power, keeps_letter, powers}
-pub use Rattle.trace_events.specs.Wishes.{letters, wish_stands}
-pub use Rattle.core_handover.proofs.Generations.{request_same, step_same}
+pub use Rattle.trace_events.specs.Wishes.{in_run, level_wish, goal_of, wants_reexec, is_power_pending}
+pub use Rattle.trace_events.specs.Wishes.{is_letter_pending, powers}
+pub use Rattle.trace_events.specs.Wishes.{letters, is_request_pending}
+pub use Rattle.reexec_state.proofs.Generations.{request_same, step_same}
 pub use Rattle.std.specs.Io.KnownBytes.{Appends, Keeps}
 pub use Rattle.std.proofs.KnownBytes.{Appends-nil, Appends-trans, Keeps-refl, Appends-kept}
 pub use Rattle.std.proofs.lemmas.Grind.{reverse_onto, common_steps}

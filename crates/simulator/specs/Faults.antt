@@ -1,10 +1,10 @@
--- Why a run ended before its script did: what is reported of it, and what it leaves of a text that was being written.
+-- Why a run ended before its script did: the message, and what the fault leaves written of a text.
 use Rattle.std.specs.Prelude.{ℕ, List, ◌++◌, codes, decimal, Option}
 use Rattle.simulator.specs.Words.{AppendsFront, AppendsPrefix}
 use Rattle.simulator.specs.declared.running.SimFault.{SimFault}
 use Rattle.simulator.specs.declared.running.SimFault.TheVariants.{Table, Script, Forbidden, Write, Memory}
 
--- the fault in words
+-- the message for a fault
 abbrev pub fault_text : SimFault → List ℕ
 fault_text Table = codes "the inittab is longer than 1,048,576 bytes"
 fault_text (Script line) = codes "script line " ++ decimal line ++ codes " is not a line"
@@ -12,7 +12,7 @@ fault_text (Forbidden line why) = codes "script line " ++ decimal line ++ codes 
 fault_text Write = codes "the trace could not be written"
 fault_text Memory = codes "out of memory"
 
--- what was written of a text when a fault came: with `Write` something was left, with `Memory` perhaps nothing
+-- what was written of a text when the fault occurred: after `Write` a proper prefix of it, after `Memory` some prefix
 abbrev pub Leaves : SimFault → Option (List ℕ) → Option (List ℕ) → List ℕ → Type 0
 Leaves Write old new text = AppendsFront old new text
 Leaves Memory old new text = AppendsPrefix old new text

@@ -1,8 +1,10 @@
--- Hand-overs of init's state in a run: what init keeps, the text that is made of it, and which may come.
+-- Hand-overs of init's state in a run: the state that init keeps, the text that is made of it, and which hand-overs may
+-- come.
 use Rattle.std.specs.Prelude.{ℕ, Bool, true, ◌&&◌, ◌+◌, ◌-◌, ◌^◌, if◌then◌else◌, nat_le, nat_lt, List, [], ◌∷◌, ◌++◌}
 use Rattle.std.specs.Prelude.{get_or, length, take, Option, Some, None}
 use Rattle.initctl_frame.specs.declared.requests.HeardRequest.TheVariants as got
-use Rattle.simulator.specs.Words.{Enter, Got, Goal, Event, stage_of, lasts_of, core_read, state_of, CoreState, wished}
+use Rattle.simulator.specs.Words.{Enter, Got, Goal, Event, stage_of, last_statuses_of, core_read, state_of, CoreState}
+use Rattle.simulator.specs.Words.{wished}
 use Rattle.simulator.specs.Words.{after_handed, after_handed_on}
 use Rattle.trace_events.specs.declared.happenings.Happening.TheVariants.{Handed}
 use Rattle.trace_events.specs.declared.happenings.Handed.{Handed as HandOver}
@@ -13,15 +15,15 @@ use Rattle.simulator.specs.declared.objections.Objection.{Objection}
 use Rattle.simulator.specs.declared.objections.Objection.TheVariants as objection
 use Rattle.simulator.specs.Objections.{unless}
 
--- how many state texts were made: one by each hand-over but those that failed
+-- the number of state texts that were made: one by each hand-over that did not fail
 abbrev pub made_in : List Event → ℕ
 made_in [] = 0
 made_in (Handed handed.Failed ∷ past) = made_in past
 made_in (Handed how ∷ past) = made_in past + 1
 made_in (_ ∷ past) = made_in past
 
--- the goal that init keeps: a level that is asked for before the run levels, or a wish for one that is carried out;
--- else that of the opening
+-- the goal that init keeps: the last level requested outside the run levels, or requested in one and then carried out;
+-- otherwise the opening goal
 abbrev pub kept_goal : Goal → List Event → Goal
 kept_goal opening [] = opening
 kept_goal opening (Enter stage grace ∷ past) = wished (level_wish past) (kept_goal opening past)
@@ -29,49 +31,49 @@ kept_goal opening (Got (got.Level l s) ∷ past) =
     if in_run (stage_of past) then kept_goal opening past else record { level = l; grace = s }
 kept_goal opening (_ ∷ past) = kept_goal opening past
 
--- what init keeps after the trace
+-- the state that init keeps after the trace
 abbrev pub kept_at : Goal → List Event → CoreState
-kept_at opening past = core_read (lasts_of past) past (kept_goal opening past) (made_in past)
+kept_at opening past = core_read (last_statuses_of past) past (kept_goal opening past) (made_in past)
 
--- the text that is made of what init keeps: it is handed on, to a generation more
-abbrev pub text_made : CoreState → List ℕ
-text_made core = state_text (state_of (after_handed_on core))
+-- the text that is made of the state: that of the state handed on, one generation later
+abbrev pub handed_over_text : CoreState → List ℕ
+handed_over_text core = state_text (state_of (after_handed_on core))
 
--- the text that a hand-over makes after the trace
+-- the text that a hand-over after the trace makes
 abbrev pub text_at : Goal → List Event → List ℕ
-text_at opening past = text_made (kept_at opening past)
+text_at opening past = handed_over_text (kept_at opening past)
 
--- after this one there is another generation
+-- there is another generation after this one
 abbrev pub has_next : ℕ → Bool
 has_next generation = nat_lt (generation + 1) (2 ^ 64)
 
--- the generation is that of a text, of which this many were made
+-- the generation is that of one of the texts made, of which there are this many
 abbrev pub is_made : ℕ → ℕ → Bool
 is_made generation made = nat_le 1 generation && nat_le generation made
 
--- the hand-over may be made: a generation is left; one that is cut has bytes left to cut; an older text was made
--- before. One that failed makes nothing.
+-- The hand-over may be made. A generation must be left; a text that is cut must have more bytes than arrive; an older
+-- text must have been made before. A hand-over that failed makes nothing and may always come.
 abbrev pub may_be_handed : Goal → HandOver → List Event → Bool
 may_be_handed opening handed.Failed past = true
 may_be_handed opening handed.Whole past = has_next (made_in past)
 may_be_handed opening (handed.Cut bytes) past = has_next (made_in past) && nat_lt bytes (length (text_at opening past))
 may_be_handed opening (handed.Older generation) past = has_next (made_in past) && is_made generation (made_in past)
 
--- a hand-over comes where it may be made
+-- the happening is not a hand-over, or the hand-over may be made
 abbrev pub may_hand : Goal → Event → List Event → Bool
 may_hand opening (Handed how) past = may_be_handed opening how past
 may_hand opening _ past = true
 
--- each hand-over in the trace came where it may be made
+-- each hand-over in the trace could be made
 abbrev pub are_handed : Goal → List Event → Bool
 are_handed opening [] = true
 are_handed opening (happening ∷ past) = may_hand opening happening past && are_handed opening past
 
--- the objection, where there is a next generation; else that there is none
+-- the objection, if there is another generation; otherwise the objection that there is none
 abbrev pub unless_worn : ℕ → Option Objection → Option Objection
 unless_worn generation other = if has_next generation then other else Some objection.Worn
 
--- what is objected to a hand-over, by how many texts were made and by the length of the next; none where it may be made
+-- the objection to a hand-over, given the number of texts made and the length of the next one; none if it may be made
 abbrev pub objection_handed : ℕ → ℕ → HandOver → Option Objection
 objection_handed made size handed.Failed = None
 objection_handed made size handed.Whole = unless_worn made None
@@ -80,25 +82,24 @@ objection_handed made size (handed.Cut bytes) =
 objection_handed made size (handed.Older generation) =
     unless_worn made (unless (is_made generation made) (objection.NoneOlder generation))
 
--- init keeps a generation more after a hand-over, but after one that failed
+-- the state that init keeps after a hand-over: one generation later, unless the hand-over failed
 abbrev pub after_hand : HandOver → CoreState → CoreState
 after_hand handed.Failed core = after_handed core
 after_hand how core = after_handed_on core
 
--- what reaches the next init of a text, where these were made before: the text, its front, or an older one; nothing
--- where the hand-over failed
+-- the text that reaches the next init: the text made, a prefix of it, or an older one; none if the hand-over failed
 abbrev pub comes_back : HandOver → List ℕ → List (List ℕ) → Option (List ℕ)
 comes_back handed.Whole text made = Some text
 comes_back (handed.Cut bytes) text made = Some (take bytes text)
 comes_back (handed.Older generation) text made = Some (get_or made (generation - 1) [])
 comes_back handed.Failed text made = None
 
--- the core that is taken over of a core's own text: the same, where it came back whole
+-- the core that the next init takes over: the same core if its text came back whole, otherwise none
 abbrev pub taken_of : HandOver → CoreState → Option CoreState
 taken_of handed.Whole core = Some core
 taken_of _ core = None
 
--- the texts that are kept after a hand-over of a core: one more, but after one that failed
+-- the texts kept after a hand-over: one more, unless it failed
 abbrev pub kept_texts : HandOver → CoreState → List (List ℕ) → List (List ℕ)
 kept_texts handed.Failed core made = made
-kept_texts how core made = made ++ text_made core ∷ []
+kept_texts how core made = made ++ handed_over_text core ∷ []

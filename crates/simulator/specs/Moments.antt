@@ -1,8 +1,9 @@
--- A moment of a simulated run, and what init's own steps make of it.
+-- The moments of a simulated run, and how init's own steps lead from one to the next.
 use Rattle.std.specs.Prelude.{◌≡◌, ◌⊎◌, ℕ, Bool, true, false, ◌+◌, List, [], ◌∷◌, ◌++◌, Option}
 use Rattle.std.specs.Io.KnownBytes.{Appends, Keeps}
 use Rattle.simulator.specs.Words.{Goal, Event, table_of_text, NewTable, event_text, are_in_range, newlines, due, first}
-use Rattle.simulator.specs.Words.{is_run, is_rest, is_reread, is_quiet, CoreState, FitsAll, has_short_seconds}
+use Rattle.simulator.specs.Words.{is_run, is_rest, is_reread, is_quiet, CoreState, FitsWithLastStatuses}
+use Rattle.simulator.specs.Words.{has_short_seconds}
 use Rattle.trace_events.specs.declared.happenings.Happening.TheVariants.{Handed}
 use Rattle.simulator.specs.State.{SystemState}
 use Rattle.simulator.specs.Follows.{Follows}
@@ -14,70 +15,72 @@ use Rattle.simulator.specs.Texts.{CanHand}
 use Rattle.simulator.specs.Said.{may_be_scripted, IsObjected, first_table, heard}
 use Rattle.simulator.specs.Simulation.{IsTooLong, RunOver, Scenario, goal_in, heard_text, past_text, table_in}
 
--- what can be handed over: the core keeps its rules, its seconds are short, and its generation and its goal are those
--- of the run so far
-pub record LastsTo (core : CoreState) (opening : Goal) (past : List Event) : Type 0 where
+-- the core can be handed over: its seconds are short, and its generation and its goal are those of the run so far
+pub record CanHandOver (core : CoreState) (opening : Goal) (past : List Event) : Type 0 where
   pub short : has_short_seconds core ≡ true
   pub made : core.fields.generation ≡ made_in past
   pub goal : core.fields.goal ≡ kept_goal opening past
 
--- the core fits the run so far and can be handed over, and the system's side follows the run
+-- the core fits the run so far and can be handed over, and the simulated system follows the run
 pub record Moment (goal : Goal) (past : List Event) (core : CoreState) (side : SystemState) : Type 0 where
   pub runs : is_run goal past ≡ true
-  pub fits : FitsAll core goal past
-  pub lasts : LastsTo core goal past
+  pub fits : FitsWithLastStatuses core goal past
+  pub lasts : CanHandOver core goal past
   pub follows : Follows side past
 
+-- some run has this core and system at its end
 abbrev pub SomeMoment : CoreState → SystemState → Type 0
 SomeMoment core side = (goal : Goal) × (past : List Event) × Moment goal past core side
 
--- of each run that core and side are at a moment of
+-- the property holds of every run that has this core and system at its end
 abbrev pub FromMoment : CoreState → SystemState → (Goal → List Event → Type 0) → Type 0
 FromMoment core side P = (goal : Goal) (past : List Event) → Moment goal past core side → P goal past
 
--- the trace went on from past to next: it begins with the same table, nothing was heard and nothing handed over, and
--- this text is more
+-- the trace continued from `past` to `next`: it begins with the same table, no line of the script was read, nothing was
+-- handed over, and its text has grown by `more`
 pub record SimulationGoesOn (past next : List Event) (more : List ℕ) : Type 0 where
   pub opens : first_table next ≡ first_table past
   pub handed : (goal : Goal) → are_handed goal next ≡ are_handed goal past
   pub hears : heard next ≡ heard past
   pub text : past_text next ≡ past_text past ++ more
 
--- a moment at which init rests, and whether inittab is to be read then
+-- a moment at which init is at rest, and whether inittab is to be read then
 pub record AtRest (goal : Goal) (past : List Event) (rereads : Bool) (core : CoreState) (side : SystemState) : Type 0
   where
     pub moment : Moment goal past core side
     pub rests : is_rest (first (due goal past)) ≡ true
     pub read : rereads ≡ is_reread (first (due goal past))
 
+-- some run is at rest with this core and system
 abbrev pub SomeRest : Bool → CoreState → SystemState → Type 0
 SomeRest rereads core side = (goal : Goal) × (past : List Event) × AtRest goal past rereads core side
 
--- of each run in which core and side are at rest
+-- the property holds of every run that is at rest with this core and system
 abbrev pub FromRest : Bool → CoreState → SystemState → (Goal → List Event → Type 0) → Type 0
 FromRest rereads core side P =
     (goal : Goal) (past : List Event) → AtRest goal past rereads core side → P goal past
 
--- init went on until it rests, and wrote what it did
+-- init continued until it was at rest, and what it did was written
 abbrev pub ComesToRest : Goal → List Event → Bool → CoreState → SystemState → Option (List ℕ) → Option (List ℕ) → Type 0
 ComesToRest goal past rereads core side old new =
     (next : List Event) × (more : List ℕ) × AtRest goal next rereads core side × SimulationGoesOn past next more
     × Appends old new more
 
--- init went on, and was writing what it did when the fault came
+-- init continued, and what it did was being written when the fault occurred
 abbrev pub Breaks : Goal → List Event → SimFault → Option (List ℕ) → Option (List ℕ) → Type 0
 Breaks goal past f old new =
     (next : List Event) × (more : List ℕ) × (is_run goal next ≡ true) × SimulationGoesOn past next more
     × Leaves f old new more
 
--- a table is adopted where no start and no signal is open in the core, and a hand-over is made where it can be
+-- the core is ready for the happening: no start and no signal is open if a table is adopted, and a hand-over can be
+-- made
 abbrev pub IsReadyFor : Event → CoreState → Type 0
 IsReadyFor (NewTable table) core = is_quiet core.slots ≡ true
 IsReadyFor (Handed how) core = CanHand how core
 IsReadyFor _ core = Unit {0}
 
--- the trace went on from past to next: it begins with the same table, this was heard of the script, a hand-over where
--- it may be made, and this text is more
+-- the trace continued from `past` to `next`: it begins with the same table, `said` was read of the script, any
+-- hand-over could be made, and its text has grown by `more`
 pub record HearsLine (goal : Goal) (past next : List Event) (said more : List ℕ) : Type 0 where
   pub opens : first_table next ≡ first_table past
   pub handed : are_handed goal past ≡ true → are_handed goal next ≡ true
@@ -85,18 +88,19 @@ pub record HearsLine (goal : Goal) (past next : List Event) (said more : List �
   pub hears : heard_text next ≡ heard_text past ++ said
   pub text : past_text next ≡ past_text past ++ more
 
--- a happening was heard, and init went on until it rests, and what came was written
+-- a happening of the script came, init continued until it was at rest, and all of it was written
 abbrev pub HeardOne : Goal → List Event → Event → Bool → CoreState → SystemState → Option (List ℕ) → Option (List ℕ)
     → Type 0
 HeardOne goal past happening rereads core side old new = (next : List Event) × (more : List ℕ)
     × AtRest goal next rereads core side × HearsLine goal past next (event_text happening) more × Appends old new more
 
--- a happening was heard, and what came was being written when the fault came
+-- a happening of the script came, and what followed was being written when the fault occurred
 abbrev pub HeardBreaks : Goal → List Event → Event → SimFault → Option (List ℕ) → Option (List ℕ) → Type 0
 HeardBreaks goal past happening f old new = (next : List Event) × (more : List ℕ)
     × (is_run goal next ≡ true) × HearsLine goal past next (event_text happening) more × Leaves f old new more
 
--- how a happening whose line has this number may end the run; memory may also be wanting before it is heard
+-- how a happening of the script, whose line has this number, may end the run; memory allocation may also fail before
+-- anything changes
 abbrev pub HeardEnds : Goal → List Event → Event → ℕ → SimFault → Option (List ℕ) → Option (List ℕ) → Type 0
 HeardEnds goal past happening number fault.Table old new = ⊥
 HeardEnds goal past happening number (fault.Script n) old new = ⊥
@@ -106,7 +110,7 @@ HeardEnds goal past happening number fault.Write old new = HeardBreaks goal past
 HeardEnds goal past happening number fault.Memory old new =
     Keeps old new ⊎ HeardBreaks goal past happening fault.Memory old new
 
--- how the reading of an inittab ends where there is no table
+-- why reading an inittab gave no table
 abbrev pub TableEnds : List ℕ → SimFault → Type 0
 TableEnds inittab fault.Table = IsTooLong inittab
 TableEnds inittab fault.Memory = Unit {0}
@@ -116,7 +120,8 @@ TableEnds inittab _ = ⊥
 abbrev pub opening_text : List ℕ → List ℕ
 opening_text inittab = event_text (NewTable (table_of_text inittab))
 
--- of each run over this script whose table is written, core and side being at its first moment
+-- the property holds of every run over this script whose table was written, and that has this core and system at its
+-- first moment
 abbrev pub FromOpening : List ℕ → CoreState → SystemState → Option (List ℕ)
     → (Scenario → Option (List ℕ) → Type 0) → Type 0
 FromOpening script core side now P =
@@ -124,7 +129,7 @@ FromOpening script core side now P =
     → Moment (goal_in s) (NewTable (table_in s) ∷ []) core side → Appends before now (opening_text s.inittab)
     → P s before
 
--- the run over the script up to this rest of it, whose first line has the number; init rests
+-- the run over the script up to this rest of it, whose first line has this number; init is at rest
 pub record SoFar (s : Scenario) (rest : List ℕ) (number : ℕ) (rereads : Bool) (core : CoreState) (side : SystemState)
     (old new : Option (List ℕ)) : Type 0 where
   pub past : List Event
@@ -133,7 +138,8 @@ pub record SoFar (s : Scenario) (rest : List ℕ) (number : ℕ) (rereads : Bool
   pub run : RunOver s rest past
   pub written : Appends old new (past_text past)
 
--- of each run up to the beginning of a text, which core and side are at, and of what was written before it
+-- the property holds of every run at the beginning of its script that has this core and system, and of what had been
+-- written before it
 abbrev pub FromScript : List ℕ → Bool → CoreState → SystemState → Option (List ℕ)
     → (Scenario → Option (List ℕ) → Type 0) → Type 0
 FromScript text rereads core side now P =

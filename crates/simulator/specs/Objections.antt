@@ -1,4 +1,4 @@
--- Why the state does not allow a happening.
+-- Why a happening may not come next, according to the state of the simulated system.
 use Rattle.std.specs.Prelude.{ℕ, Bool, ◌||◌, if◌then◌else◌, List, ◌++◌, codes, decimal, Option, Some, None, is_none}
 use Rattle.std.specs.Prelude.{is_some}
 use Rattle.init_words.specs.declared.orders.OrderKind.TheVariants.{Start, Look, Term, Kill}
@@ -9,11 +9,11 @@ use Rattle.simulator.specs.declared.objections.Objection.{Objection}
 use Rattle.simulator.specs.declared.objections.Objection.TheVariants as objection
 use Rattle.simulator.specs.State.{SystemState, order_in, answer_in, child_in, is_living_in, is_dead_in}
 
--- the objection, but none where the test holds
+-- the objection, unless the test holds
 abbrev pub unless : Bool → Objection → Option Objection
 unless holds given = if holds then None else Some given
 
--- the first reason why the happening may not come next in a script, by the state; none where it may
+-- the first reason why the happening may not come next in a script, according to the state; none if it may
 abbrev pub objection_to : SystemState → Event → Option Objection
 objection_to side (Birth id number) =
     if is_order Start (order_in id side) then unless (is_none (child_in number side)) (objection.NumberTaken number)
@@ -38,7 +38,7 @@ objection_to side (NewTable table) = Some objection.NotNow
 objection_to side (Handed how) = None
 objection_to side _ = Some objection.OwnStep
 
--- the objection in words
+-- the message for an objection
 abbrev pub objection_text : Objection → List ℕ
 objection_text (objection.NoStart id) = codes "no start of " ++ id ++ codes " is open"
 objection_text (objection.NoLook id) = codes "no look of " ++ id ++ codes " is open"
@@ -46,10 +46,10 @@ objection_text (objection.NoSignal id) = codes "no term or kill of " ++ id ++ co
 objection_text (objection.NumberTaken number) = codes "an unreaped child has the number " ++ decimal number
 objection_text (objection.NoneLiving number) = codes "no living child has the number " ++ decimal number
 objection_text (objection.NoneDead id number) = id ++ codes " has no dead child with the number " ++ decimal number
-objection_text (objection.NothingDone id) = codes "nothing is to be told of " ++ id
+objection_text (objection.NothingDone id) = codes "there is nothing to tell of " ++ id
 objection_text objection.OwnStep = codes "this is a step of init itself"
-objection_text objection.NotNow = codes "inittab is not to be read now"
+objection_text objection.NotNow = codes "init is not reading the inittab now"
 objection_text (objection.NotCut bytes) = codes "the state text has no more than " ++ decimal bytes ++ codes " bytes"
 objection_text (objection.NoneOlder generation) =
-    codes "no state text of generation " ++ decimal generation ++ codes " was made"
-objection_text objection.Worn = codes "no generation is left"
+    codes "no state text of generation " ++ decimal generation ++ codes " was written"
+objection_text objection.Worn = codes "no generation number is left"

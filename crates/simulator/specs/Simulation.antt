@@ -21,26 +21,28 @@ pub record Scenario : Type 0 where
 abbrev pub scenario : Option Level → List ℕ → List ℕ → Scenario
 scenario level inittab script = record { level = level; inittab = inittab; script = script }
 
+-- the table of the inittab
 abbrev pub table_in : Scenario → List Entry
 table_in s = table_of_text s.inittab
 
+-- the opening goal
 abbrev pub goal_in : Scenario → Goal
 goal_in s = opening_goal s.level (table_in s)
 
--- the text of the script, its last line ended
+-- the text of the script, with a newline after its last line
 abbrev pub script_in : Scenario → List ℕ
 script_in s = ended s.script
 
--- the text of a trace, the newest happening first
+-- the text of a trace given newest first
 abbrev pub past_text : List Event → List ℕ
 past_text past = trace_text (reverse past)
 
--- the text of what was heard in a trace
+-- the text of the happenings that came from the script
 abbrev pub heard_text : List Event → List ℕ
 heard_text past = past_text (heard past)
 
--- the run over the script up to this rest of it: it begins with the inittab's table, init takes first due steps, and
--- hears what the script says in turn when it rests; each hand-over comes where it may be made
+-- A run over the script up to this rest of it. It begins with the inittab's table; init takes first due steps, and the
+-- lines of the script come in order when it is at rest; each hand-over can be made.
 pub record RunOver (s : Scenario) (rest : List ℕ) (past : List Event) : Type 0 where
   pub runs : is_run (goal_in s) past ≡ true
   pub handed : are_handed (goal_in s) past ≡ true
@@ -48,32 +50,32 @@ pub record RunOver (s : Scenario) (rest : List ℕ) (past : List Event) : Type 0
   pub are : are_in_range (heard past) ≡ true
   pub hears : heard_text past ++ rest ≡ script_in s
 
--- such a run, after which init rests
-pub record Rested (s : Scenario) (rest : List ℕ) (past : List Event) : Type 0 where
+-- such a run after which init is at rest
+pub record RunsToRest (s : Scenario) (rest : List ℕ) (past : List Event) : Type 0 where
   pub run : RunOver s rest past
   pub rests : is_rest (first (due (goal_in s) past)) ≡ true
 
 -- the run over the whole script was written
 abbrev pub Done : Scenario → Option (List ℕ) → Option (List ℕ) → Type 0
-Done s old new = (past : List Event) × Rested s [] past × Appends old new (past_text past)
+Done s old new = (past : List Event) × RunsToRest s [] past × Appends old new (past_text past)
 
--- the run over the lines before the n-th was written, counted from 1, and the rest from the n-th on is such
+-- the run over the lines before line n, counted from 1, was written, and the text from line n on has the given property
 abbrev pub SimulationEndsAt : Scenario → ℕ → (List ℕ → List Event → Type 0) → Option (List ℕ) → Option (List ℕ) → Type 0
 SimulationEndsAt s n such old new =
     (rest : List ℕ) × (past : List Event) × (n ≡ newlines (heard_text past) + 1)
-    × Rested s rest past × Appends old new (past_text past) × such rest past
+    × RunsToRest s rest past × Appends old new (past_text past) × such rest past
 
--- something is left, and it begins with no happening's text
+-- the rest is not empty, and no happening begins it
 abbrev pub IsUnread : List ℕ → List Event → Type 0
 IsUnread rest past = (rest ≢ []) × BeginsNone rest
 
--- it begins with the text of a happening that a script may not have, or not now, and this is why
+-- the rest begins with a happening that may not be the next line of a script, for this reason
 abbrev pub IsForbidden : Goal → Objection → List ℕ → List Event → Type 0
 IsForbidden goal why rest past =
     (happening : Event) × (more : List ℕ) × (is_in_range happening ≡ true) × (event_text happening ++ more ≡ rest)
     × (may_be_scripted goal happening past ≡ false) × IsObjected goal happening past why
 
--- a run over a part of the script was being written when the fault came
+-- a run over a first part of the script was being written when the fault occurred
 abbrev pub Broken : Scenario → SimFault → Option (List ℕ) → Option (List ℕ) → Type 0
 Broken s f old new =
     (rest : List ℕ) × (past : List Event) × RunOver s rest past × Leaves f old new (past_text past)
@@ -82,7 +84,9 @@ Broken s f old new =
 abbrev pub IsTooLong : List ℕ → Type 0
 IsTooLong inittab = TEXT_LIMIT < length inittab
 
--- how a run ends that doesn't reach the end of its script
+-- How a run ends that does not reach the end of its script. If the inittab is too long, nothing was written. If a line
+-- is not read or not allowed, the run over the lines before it was written. If the writer or memory allocation failed,
+-- a run over a first part of the script was being written.
 abbrev pub Ends : Scenario → SimFault → Option (List ℕ) → Option (List ℕ) → Type 0
 Ends s fault.Table old new = IsTooLong s.inittab × Keeps old new
 Ends s (fault.Script n) old new = SimulationEndsAt s n IsUnread old new

@@ -1,4 +1,4 @@
--- What a happening needs of the state, and what it makes of it.
+-- How each happening changes the state of the simulated system, and whether it needs memory.
 use Rattle.std.specs.Prelude.{ℕ, Bool, true, false, List, Option, is_some}
 use Rattle.simulator.specs.Words.{OrderKind, Answer, Asked, NotRead, Birth, NoBirth, Death, Reaped, Still, NoLook, Hit}
 use Rattle.simulator.specs.Words.{Miss, Told, Clock, Nudge, Got, Event, act_in, undone_by, answered_by}
@@ -6,7 +6,7 @@ use Rattle.trace_events.specs.declared.happenings.Happening.TheVariants.{Handed}
 use Rattle.simulator.specs.declared.simulated.SimulatedChild.{SimulatedChild}
 use Rattle.simulator.specs.State.{without, with, with_child, with_death, without_child}
 
--- a happening of the system or of the edge that a script may have
+-- the happening is one of the system, or of what lies between system and init, that a script can have
 abbrev pub is_script : Event → Bool
 is_script (Birth id number) = true
 is_script (NoBirth id) = true
@@ -24,23 +24,23 @@ is_script (Got request) = true
 is_script (Handed how) = true
 is_script _ = false
 
--- what is taken in needs room: an order, or an act on one
+-- recording the happening needs memory: it is an order, or an act on one
 abbrev pub needs_memory : Event → Bool
 needs_memory (Asked id ask) = true
 needs_memory happening = is_some (act_in happening)
 
--- the undone order of an id after the happening, by the one before
+-- the id's order that is not carried out after the happening, given the one before
 abbrev pub order_after : Event → List ℕ → Option OrderKind → Option OrderKind
 order_after (Asked i ask) id before = with id i ask before
 order_after (Told i) id before = without id i before
 order_after happening id before = undone_by id (act_in happening) before
 
--- the answer under way to an id's order after the happening, by the one before
+-- the answer under way to the id's order after the happening, given the one before
 abbrev pub answer_after : Event → List ℕ → Option Answer → Option Answer
 answer_after (Told i) id before = without id i before
 answer_after happening id before = answered_by id (act_in happening) before
 
--- the unreaped child of a number after the happening, by the one before
+-- the unreaped child with this number after the happening, given the one before
 abbrev pub child_after : Event → ℕ → Option SimulatedChild → Option SimulatedChild
 child_after (Birth i n) number before = with_child number n i before
 child_after (Death n) number before = with_death number n before

@@ -1,40 +1,40 @@
-//! The hand-overs of a script: init's state is written, carried and taken over as when init re-executes itself.
+//! The hand-overs of a script: init's state is written, passed on and taken over, as in a re-execution.
 
 ghost use Rattle.std.specs.Prelude.{◌≡◌, ◌+◌, ◌∷◌, length, map, true, IfOk, IfSome, None, OnOk, unwrap_or};
 ghost use Rattle.trace_events.specs.declared.happenings.Happening.TheVariants as happening;
 ghost use Rattle.trace_events.specs.declared.happenings.Handed.{Handed};
-ghost use Rattle.simulator.specs.Words.{StillFits, OnEachTrace, state_of, IsFit, after_handed_on, has_short_seconds, IsTextOf};
+ghost use Rattle.simulator.specs.Words.{FitsExtendedTrace, ForAllFittedTraces, state_of, IsFit, after_handed_on, has_short_seconds, IsTextOf};
 ghost use Rattle.simulator.specs.Handing.{after_hand, comes_back, has_next, is_made, kept_texts};
-ghost use Rattle.simulator.specs.Handing.{objection_handed, taken_of, text_made};
+ghost use Rattle.simulator.specs.Handing.{objection_handed, taken_of, handed_over_text};
 ghost use Rattle.simulator.specs.Texts.{AreMade, CanHand, HasTexts, IsTakenOver};
 
 use crate::objections::Objection;
-use core_handover::{StateFault, hand_over, take_over};
 use core_model::CoreFields;
-use core_steps::Core;
 use core_text::write_state;
 use init_words::Memory;
+use level_core::Core;
+use reexec_state::{StateFault, hand_over, take_over};
 use std::alloc::Allocator;
 use trace_events::Handed;
 
-/// After this generation there is another.
+/// Returns whether there is another generation after this one.
 fn has_next(generation: u64) -> bool
     ensures { result ≡ has_next generation }
 {
     generation < u64::MAX
 }
 
-/// A text of the generation was made, where this many were.
+/// Returns whether a state text of the generation was made, if `made` texts were made.
 fn is_made(generation: u64, made: u64) -> bool
     ensures { result ≡ is_made generation made }
 {
     1 <= generation && generation <= made
 }
 
-/// How long the text is that a hand-over makes.
+/// Returns the length of the text that a hand-over would write.
 fn size_made<A: Allocator + Copy>(alloc: A, core: &Core<A>) -> Result<u64, Memory>
     requires { has_next core.now.fields.generation ≡ true }
-    ensures { IfOk result (λ size. size ≡ length (text_made core.now)) }
+    ensures { IfOk result (λ size. size ≡ length (handed_over_text core.now)) }
 {
     let fields = CoreFields {
         generation: core.generation() + 1,
@@ -45,14 +45,15 @@ fn size_made<A: Allocator + Copy>(alloc: A, core: &Core<A>) -> Result<u64, Memor
     Ok(text.len() as u64)
 }
 
-/// What is objected to a hand-over of what the core keeps, where as many texts were made as it is old.
+/// Returns the objection to a hand-over of the core's state, if any. The core's generation is the number of texts made
+/// before.
 pub(crate) fn objection_handed<A: Allocator + Copy>(
     alloc: A,
     core: &Core<A>,
     how: Handed,
 ) -> Result<Option<Objection>, Memory>
     ensures { IfOk result (λ objection. objection
-        ≡ objection_handed core.now.fields.generation (length (text_made core.now)) how) }
+        ≡ objection_handed core.now.fields.generation (length (handed_over_text core.now)) how) }
 {
     if how == Handed::Failed {
         return Ok(None);
@@ -71,14 +72,14 @@ pub(crate) fn objection_handed<A: Allocator + Copy>(
     }
 }
 
-/// Writes what the core keeps, for the next init.
+/// Writes the core's state for the next init.
 fn make_text<A: Allocator + Copy>(alloc: A, core: &mut Core<A>) -> Result<Vec<u8, A>, Memory>
     requires short { has_short_seconds core.old ≡ true }
     requires next { has_next core.old.fields.generation ≡ true }
-    ensures text { IfOk result (λ text. text.items ≡ text_made core.old) }
+    ensures text { IfOk result (λ text. text.items ≡ handed_over_text core.old) }
     ensures state { OnOk result (core.new ≡ after_handed_on core.old) }
-    ensures fits { OnOk result (OnEachTrace core.old (λ goal past. (how : Handed)
-        → StillFits core.old core.new goal past (happening.Handed how ∷ past))) }
+    ensures fits { OnOk result (ForAllFittedTraces core.old (λ goal past. (how : Handed)
+        → FitsExtendedTrace core.old core.new goal past (happening.Handed how ∷ past))) }
     ensures says { IfOk result (λ text. IsTextOf text.items (state_of core.new)) }
     ensures fit { OnOk result (IsFit core.new) }
 {
@@ -89,8 +90,7 @@ fn make_text<A: Allocator + Copy>(alloc: A, core: &mut Core<A>) -> Result<Vec<u8
     }
 }
 
-/// The core that the next init takes over from what came back; None where that is the text of no core of the
-/// generation.
+/// Takes over the core from the text that came back. Returns `None` if it is not the text of a core of this generation.
 fn taken<A: Allocator + Copy>(
     alloc: A,
     back: &[u8],
@@ -105,8 +105,8 @@ fn taken<A: Allocator + Copy>(
     }
 }
 
-/// The core's own text comes back whole, or cut, or an older one in its place, and the next init takes over what came:
-/// the core that it has then, the same as this one, or none. Given are the texts that were made before.
+/// Passes the core's text on: it comes back whole or cut, or an older one of the texts in `made` comes back in its
+/// place. Returns the core that the next init takes over, which is equal to this one, or `None` if it rejects the text.
 fn carry<A: Allocator + Copy>(
     alloc: A,
     core: &Core<A>,
@@ -133,7 +133,7 @@ fn carry<A: Allocator + Copy>(
     }
 }
 
-/// The core that was taken over goes on; where none was, the old one.
+/// Continues with the core that was taken over, or with the old one if there is none.
 fn go_on_as<A: Allocator>(core: &mut Core<A>, taken: Option<Core<A>>)
     ensures { core.new ≡ unwrap_or taken core.old }
 {
@@ -142,8 +142,8 @@ fn go_on_as<A: Allocator>(core: &mut Core<A>, taken: Option<Core<A>>)
     }
 }
 
-/// Hands the core over as the line says, and keeps the text that it made. Where the text comes back whole, the core is
-/// the one that was taken over; where it does not, it is refused, and the core is the old one.
+/// Hands the core over as the script line says, and keeps the text that was made. If the text comes back whole, the
+/// core continues as the one taken over; otherwise the text is rejected and the old core continues.
 pub(crate) fn hand_core<A: Allocator + Copy>(
     alloc: A,
     core: &mut Core<A>,
@@ -153,8 +153,8 @@ pub(crate) fn hand_core<A: Allocator + Copy>(
     requires can { CanHand how core.old }
     requires made { HasTexts (map (λ text. text.items) made.old.items) core.old.fields.generation }
     ensures state { OnOk result (core.new ≡ after_hand how core.old) }
-    ensures fits { OnOk result (OnEachTrace core.old (λ goal past.
-        StillFits core.old core.new goal past (happening.Handed how ∷ past))) }
+    ensures fits { OnOk result (ForAllFittedTraces core.old (λ goal past.
+        FitsExtendedTrace core.old core.new goal past (happening.Handed how ∷ past))) }
     ensures made { OnOk result
         (HasTexts (map (λ text. text.items) made.new.items) core.new.fields.generation) }
     ensures kept { OnOk result (map (λ text. text.items) made.new.items

@@ -1,4 +1,4 @@
-//! A run of init over a script of what the system did.
+//! Simulates a run of init over a script that says what the system did.
 #![tactic(auto)]
 
 mod handing;
@@ -12,4 +12,4 @@ pub use laws::law_of_runs;
 pub use objections::Objection;
 pub use running::{SimFault, simulate};
 pub use simulated::SimulatedSystem;
-pub use writers::{Untold, WritesOn};
+pub use writers::{ScriptWriter, Untold};

@@ -4,30 +4,30 @@ use init_words::{ChildNumber, Id};
 use std::error::Error;
 use std::fmt;
 
-/// Why a happening may not come next in a script.
+/// The reason why a happening may not come next in a script.
 #[derive(Clone, Copy, Debug, PartialEq, Eq)]
 pub enum Objection {
-    /// The id has no start on which nothing was done.
+    /// The id has no start that is still to be carried out.
     NoStart(Id),
-    /// The id has no look on which nothing was done.
+    /// The id has no look that is still to be carried out.
     NoLook(Id),
-    /// The id has no TERM and no KILL on which nothing was done.
+    /// The id has no TERM or KILL that is still to be carried out.
     NoSignal(Id),
-    /// An unreaped child has the number.
+    /// An unreaped child has this number.
     NumberTaken(ChildNumber),
-    /// No living child has the number.
+    /// No living child has this number.
     NoneLiving(ChildNumber),
-    /// The id has no dead child of the number.
+    /// The id has no dead child with this number.
     NoneDead(Id, ChildNumber),
-    /// The system did nothing for the id that was not told.
+    /// Nothing was done for the id that was not told already.
     NothingDone(Id),
-    /// Init itself takes this step.
+    /// This is a step that init takes itself.
     OwnStep,
-    /// Inittab is not read where this stands.
+    /// Inittab is not to be read at this point.
     NotNow,
-    /// The state text that the hand-over makes has no more than the given number of bytes.
+    /// The state text of the hand-over has at most this number of bytes.
     NotCut(u64),
-    /// No state text of the generation was made before.
+    /// No state text of this generation was made before.
     NoneOlder(u64),
     /// No generation is left for another state text.
     Worn,
@@ -58,16 +58,16 @@ impl fmt::Display for Objection {
                     number.0
                 )
             }
-            Objection::NothingDone(id) => write!(f, "nothing is to be told of {}", id.as_str()),
+            Objection::NothingDone(id) => write!(f, "there is nothing to tell of {}", id.as_str()),
             Objection::OwnStep => f.write_str("this is a step of init itself"),
-            Objection::NotNow => f.write_str("inittab is not to be read now"),
+            Objection::NotNow => f.write_str("init is not reading the inittab now"),
             Objection::NotCut(bytes) => {
                 write!(f, "the state text has no more than {bytes} bytes")
             }
             Objection::NoneOlder(generation) => {
-                write!(f, "no state text of generation {generation} was made")
+                write!(f, "no state text of generation {generation} was written")
             }
-            Objection::Worn => f.write_str("no generation is left"),
+            Objection::Worn => f.write_str("no generation number is left"),
         }
     }
 }

@@ -1,22 +1,22 @@
-//! Init over a script, until it rests at the script's end.
+//! Runs init over a script until it is at rest after the last line.
 
 ghost use Rattle.std.specs.Prelude.{◌≡◌, ◌<◌, length, map, List, [], ◌∷◌, false, true, IfOk, IfSome, IfNone, IfErr, OnOk};
 ghost use Rattle.std.specs.Io.KnownBytes.{Appends};
-ghost use Rattle.simulator.specs.Words.{Event, event_text, is_in_range, is_rest, is_reread, NewTable, Level, table_of_text, is_quiet, opening_goal, FitsAll, StillFits, OnEachTrace, with_step, after_adopt};
+ghost use Rattle.simulator.specs.Words.{Event, event_text, is_in_range, is_rest, is_reread, NewTable, Level, table_of_text, is_quiet, opening_goal, FitsWithLastStatuses, FitsExtendedTrace, ForAllFittedTraces, with_step, after_adopt};
 ghost use Rattle.simulator.specs.Faults.{Leaves};
-ghost use Rattle.simulator.specs.Handing.{text_made};
+ghost use Rattle.simulator.specs.Handing.{handed_over_text};
 ghost use Rattle.simulator.specs.Texts.{HasTexts};
-ghost use Rattle.simulator.specs.Moments.{Breaks, ComesToRest, FromMoment, FromOpening, FromRest, FromScript, HeardEnds, HeardOne, IsReadyFor, LastsTo, Moment, SomeMoment, SomeRest, TableEnds};
+ghost use Rattle.simulator.specs.Moments.{Breaks, ComesToRest, FromMoment, FromOpening, FromRest, FromScript, HeardEnds, HeardOne, IsReadyFor, CanHandOver, Moment, SomeMoment, SomeRest, TableEnds};
 ghost use Rattle.simulator.specs.Said.{may_be_scripted, objection_in};
 ghost use Rattle.simulator.specs.Simulation.{Done, Ends, IsTooLong, scenario};
 
 use crate::handing::{hand_core, objection_handed};
 use crate::objections::Objection;
 use crate::simulated::SimulatedSystem;
-use crate::writers::WritesOn;
-use core_steps::Core;
+use crate::writers::ScriptWriter;
 use init_words::{Level, Memory, Refusal};
 use inittab_text::{Table, TableFault};
+use level_core::Core;
 use std::alloc::{AllocError, Allocator};
 use std::error::Error;
 use std::io::Write;
@@ -25,18 +25,18 @@ use text_lines::ended;
 use trace_events::{Happening, HappeningIn, Step};
 use trace_text::{first_happening, line_count, print_table};
 
-/// Why a simulated run ended before its script did.
+/// The reason why a simulated run ended before its script did.
 #[derive(Clone, Copy, Debug, PartialEq, Eq)]
 pub enum SimFault {
     /// The inittab is too long.
     Table,
     /// No happening begins at the line of this number.
     Script(u64),
-    /// The happening on the line of this number may not come there, or not in a script, and why.
+    /// The happening at the line of this number may not come there, or not in a script at all, for this reason.
     Forbidden(u64, Objection),
-    /// The writer failed, or took no byte.
+    /// The writer failed, or wrote no byte.
     Write,
-    /// Out of memory.
+    /// Memory allocation failed.
     Memory,
 }
 
@@ -92,7 +92,7 @@ impl From<io::Error> for SimFault {
     }
 }
 
-/// The happening of a step that init takes; None where it rests.
+/// Returns the happening of a step that init takes, or `None` if it is at rest.
 fn happening_of<A: Allocator>(step: Step) -> Option<HappeningIn<A>>
     ensures some { IfSome result (λ happening. (is_rest step ≡ false)
         × ((past : List Event) → with_step step past ≡ happening ∷ past)) }
@@ -109,7 +109,7 @@ fn happening_of<A: Allocator>(step: Step) -> Option<HappeningIn<A>>
     }
 }
 
-/// The step is that to read inittab again.
+/// Returns whether the step is to read inittab again.
 fn is_reread(step: &Step) -> bool
     ensures { result ≡ is_reread step.now }
 {
@@ -117,7 +117,7 @@ fn is_reread(step: &Step) -> bool
 }
 
 /// Writes the text of a happening.
-fn write_happening<A: Allocator + Copy, W: Write, F: WritesOn<W>>(
+fn write_happening<A: Allocator + Copy, W: Write, F: ScriptWriter<W>>(
     alloc: A,
     out: &mut W,
     happening: &HappeningIn<A>,
@@ -133,8 +133,8 @@ fn write_happening<A: Allocator + Copy, W: Write, F: WritesOn<W>>(
     Ok(())
 }
 
-/// Takes init's steps and writes them, until init rests, and says whether inittab is to be read then.
-fn run_until_rest<A: Allocator + Copy, W: Write, F: WritesOn<W>>(
+/// Takes init's steps and writes them until init is at rest. Returns whether inittab is to be read then.
+fn run_until_rest<A: Allocator + Copy, W: Write, F: ScriptWriter<W>>(
     alloc: A,
     core: &mut Core<A>,
     side: &mut SimulatedSystem<A>,
@@ -162,8 +162,8 @@ fn run_until_rest<A: Allocator + Copy, W: Write, F: WritesOn<W>>(
     }
 }
 
-/// What is objected to a happening: a table, and that inittab could not be read, come only where it is to be read, and
-/// a hand-over where it can be made.
+/// Returns the objection to a happening, if any. A table, or that inittab could not be read, may come only when inittab
+/// is to be read, and a hand-over only if it can be made.
 fn objection_to<A: Allocator + Copy>(
     alloc: A,
     core: &Core<A>,
@@ -172,7 +172,7 @@ fn objection_to<A: Allocator + Copy>(
     rereads: bool,
 ) -> Result<Option<Objection>, Memory>
     ensures { IfOk result (λ objection. objection ≡ objection_in rereads core.now.fields.generation
-        (length (text_made core.now)) side.now happening.now) }
+        (length (handed_over_text core.now)) side.now happening.now) }
 {
     match happening {
         Happening::NewTable(_) | Happening::NotRead => {
@@ -187,12 +187,12 @@ fn objection_to<A: Allocator + Copy>(
     }
 }
 
-/// The core takes a copy of the table for that in force.
+/// Makes the core adopt a copy of the table.
 fn adopt<A: Allocator + Copy>(alloc: A, core: &mut Core<A>, table: &Table<A>) -> Result<(), Memory>
     requires { is_quiet core.old.slots ≡ true }
     ensures state { OnOk result (core.new ≡ after_adopt table.now core.old) }
-    ensures fits { OnOk result (OnEachTrace core.old (λ goal past.
-        StillFits core.old core.new goal past (NewTable table.now ∷ past))) }
+    ensures fits { OnOk result (ForAllFittedTraces core.old (λ goal past.
+        FitsExtendedTrace core.old core.new goal past (NewTable table.now ∷ past))) }
 {
     let copy = table.copy(alloc)?;
     match core.adopt(copy) {
@@ -202,7 +202,7 @@ fn adopt<A: Allocator + Copy>(alloc: A, core: &mut Core<A>, table: &Table<A>) ->
     }
 }
 
-/// The core hears what came. Given, and given back, are the state texts that were made.
+/// Passes a happening of the script on to the core. `made` has the state texts that were made so far.
 fn pass_on<A: Allocator + Copy>(
     alloc: A,
     core: &mut Core<A>,
@@ -215,10 +215,10 @@ fn pass_on<A: Allocator + Copy>(
     requires ranged { is_in_range happening.now ≡ true }
     ensures fits { OnOk result (FromMoment core.old side.now (λ goal past.
         may_be_scripted goal happening.now past ≡ true
-        → FitsAll core.new goal (happening.now ∷ past))) }
+        → FitsWithLastStatuses core.new goal (happening.now ∷ past))) }
     ensures lasts { OnOk result (FromMoment core.old side.now (λ goal past.
         may_be_scripted goal happening.now past ≡ true
-        → LastsTo core.new goal (happening.now ∷ past))) }
+        → CanHandOver core.new goal (happening.now ∷ past))) }
     ensures made { OnOk result
         (HasTexts (map (λ text. text.items) made.new.items) core.new.fields.generation) }
 {
@@ -231,16 +231,16 @@ fn pass_on<A: Allocator + Copy>(
             }
         }
         Happening::Clock(reading) => core.clock(*reading),
-        Happening::Nudge => core.begin_round(),
-        Happening::Got(request) => core.receive(*request),
+        Happening::Nudge => core.nudge(),
+        Happening::Got(request) => core.got(*request),
         Happening::Handed(how) => hand_core(alloc, core, made, *how)?,
         _ => {}
     }
     Ok(())
 }
 
-/// Writes a happening that may come, and takes it in.
-fn hear<A: Allocator + Copy, W: Write, F: WritesOn<W>>(
+/// Writes a happening that may come next, and passes it on to the core and to the simulated system.
+fn hear<A: Allocator + Copy, W: Write, F: ScriptWriter<W>>(
     alloc: A,
     core: &mut Core<A>,
     made: &mut Vec<Vec<u8, A>, A>,
@@ -268,9 +268,10 @@ fn hear<A: Allocator + Copy, W: Write, F: WritesOn<W>>(
     Ok(())
 }
 
-/// Hears a happening, whose line has the number, where nothing is objected to it, and takes init's steps until it
-/// rests. Given, and given back, is whether inittab is to be read.
-fn hear_next<A: Allocator + Copy, W: Write, F: WritesOn<W>>(
+/// Processes a happening of the script, unless there is an objection to it, and takes init's steps until it is at rest.
+/// `number` is that of the happening's line, and `rereads` says whether inittab is to be read now. Returns whether it
+/// is to be read next.
+fn hear_next<A: Allocator + Copy, W: Write, F: ScriptWriter<W>>(
     alloc: A,
     core: &mut Core<A>,
     made: &mut Vec<Vec<u8, A>, A>,
@@ -299,7 +300,7 @@ fn hear_next<A: Allocator + Copy, W: Write, F: WritesOn<W>>(
     run_until_rest::<A, W, F>(alloc, core, side, out)
 }
 
-/// The table of an inittab, whatever faults its lines have.
+/// Reads the table of an inittab, ignoring faulty lines.
 fn read_table<A: Allocator + Copy>(alloc: A, inittab: &[u8]) -> Result<Table<A>, SimFault>
     ensures table { IfOk result (λ table. table ≡ table_of_text inittab.now) }
     ensures limit { IsTooLong inittab.now → result ≡ Err SimFault.Table }
@@ -313,18 +314,18 @@ fn read_table<A: Allocator + Copy>(alloc: A, inittab: &[u8]) -> Result<Table<A>,
     }
 }
 
-/// The core of an inittab.
+/// Creates the core of an inittab.
 fn open_core<A: Allocator + Copy>(
     alloc: A,
     inittab: &[u8],
     level: Option<Level>,
 ) -> Result<Core<A>, SimFault>
     ensures table { IfOk result (λ core. core.table ≡ table_of_text inittab.now) }
-    ensures fits { IfOk result (λ core. FitsAll core
+    ensures fits { IfOk result (λ core. FitsWithLastStatuses core
         (opening_goal level (table_of_text inittab.now))
         (NewTable (table_of_text inittab.now) ∷ [])) }
     ensures lasts { IfOk result (λ core.
-        LastsTo core (opening_goal level (table_of_text inittab.now))
+        CanHandOver core (opening_goal level (table_of_text inittab.now))
         (NewTable (table_of_text inittab.now) ∷ [])) }
     ensures limit { IsTooLong inittab.now → result ≡ Err SimFault.Table }
     ensures err { IfErr result (λ fault. TableEnds inittab.now fault) }
@@ -335,7 +336,7 @@ fn open_core<A: Allocator + Copy>(
 }
 
 /// Writes the text of a table.
-fn write_table<A: Allocator + Copy, W: Write, F: WritesOn<W>>(
+fn write_table<A: Allocator + Copy, W: Write, F: ScriptWriter<W>>(
     alloc: A,
     out: &mut W,
     table: &Table<A>,
@@ -351,9 +352,9 @@ fn write_table<A: Allocator + Copy, W: Write, F: WritesOn<W>>(
     Ok(())
 }
 
-/// Hears the happenings of a text in turn, and takes init's steps after each until it rests. Given is whether inittab
-/// is to be read at the beginning.
-fn hear_all<A: Allocator + Copy, W: Write, F: WritesOn<W>>(
+/// Processes the happenings of a text in order, and takes init's steps after each until it is at rest. `rereads` says
+/// whether inittab is to be read at the beginning.
+fn hear_all<A: Allocator + Copy, W: Write, F: ScriptWriter<W>>(
     alloc: A,
     core: &mut Core<A>,
     side: &mut SimulatedSystem<A>,
@@ -391,8 +392,8 @@ fn hear_all<A: Allocator + Copy, W: Write, F: WritesOn<W>>(
     Ok(())
 }
 
-/// Takes init's first steps until it rests, and hears the script.
-fn run_script<A: Allocator + Copy, W: Write, F: WritesOn<W>>(
+/// Takes init's first steps until it is at rest, and processes the script.
+fn run_script<A: Allocator + Copy, W: Write, F: ScriptWriter<W>>(
     alloc: A,
     core: &mut Core<A>,
     side: &mut SimulatedSystem<A>,
@@ -414,25 +415,28 @@ fn run_script<A: Allocator + Copy, W: Write, F: WritesOn<W>>(
     hear_all::<A, W, F>(alloc, core, side, out, &text, rereads)
 }
 
-/// Runs init over an inittab(5) and a script of what the system and the edge did, a happening a line, and writes the
-/// trace as it comes: the table, and then each step of init and each line. Init takes its steps until none is due but
-/// to read inittab or to execute itself anew, after the opening and after each line. The level is that to go to; where
-/// none is given, it is the table's `initdefault`, and S without one.
+/// Runs init over an inittab(5) and a script, and writes the trace as it grows: first the table, then each step of init
+/// and each line of the script.
 ///
-/// Where inittab is to be read, a table of the script (`use`, and its lines after it) is what was read, and `notread`
-/// that it could not be; where it is not, neither may come.
+/// The script says what the system did and what reached init from outside, one happening per line. After the opening
+/// and after each line, init takes its steps until none is due except reading inittab or a re-execution. Init goes to
+/// `level`; the default is the table's `initdefault`, or S if there is none.
 ///
-/// At `handed` init's state is written, carried and taken over, and the wish for it is over. What came whole (`whole`)
-/// is the core that goes on. Where the text is cut after the given number of bytes, of which it must have more (`cut`),
-/// or an older one of the run comes in its place, which must have been made (`older`, by its generation), it is refused
-/// and the old core goes on. Each of the three makes a text and raises the generation, and may not come where no
-/// generation is left. `handed none` makes nothing.
+/// If inittab is to be read, a table in the script (`use` and its lines) is what was read, and `notread` says that
+/// inittab could not be read. At other points neither may come.
 ///
-/// The run ends at the end of the script, or before the first line that is no line of a trace (`Script`) or may not
-/// come (`Forbidden`, with the reason), by its number from 1; the lines of a table count, and it is named by its first.
-/// An inittab of over 1,048,576 bytes is refused (`Table`). Where the writer fails (`Write`), and only there, a prefix of
-/// the trace is written and something of it is left; where memory runs out (`Memory`), a prefix of it is written.
-pub fn simulate<A: Allocator + Copy, W: Write, F: WritesOn<W>>(
+/// At `handed`, init's state is written, passed on and taken over, and a request for a re-execution counts as done. If
+/// the text came whole (`whole`), the core that was taken over continues. If it is cut after the given number of bytes,
+/// of which it must have more (`cut`), or an older text of the run comes in its place, which must have been made
+/// (`older`, with its generation), the text is rejected and the old core continues. Each of these three makes a text
+/// and raises the generation, and may not come if no generation is left. `handed none` makes nothing.
+///
+/// The run ends at the end of the script, or before the first line that is not a line of a trace (`Script`) or may not
+/// come there (`Forbidden`, with the reason). Lines are counted from 1, including those of a table, which is named by
+/// its first line. An inittab of more than 1,048,576 bytes is rejected (`Table`). If the writer fails (`Write`), a
+/// proper prefix of the trace was written; no other fault is `Write`. If memory allocation fails (`Memory`), a prefix
+/// of the trace was written.
+pub fn simulate<A: Allocator + Copy, W: Write, F: ScriptWriter<W>>(
     alloc: A,
     inittab: &[u8],
     level: Option<Level>,
@@ -450,7 +454,7 @@ pub fn simulate<A: Allocator + Copy, W: Write, F: WritesOn<W>>(
     write_table::<A, W, F>(alloc, out, core.table())?;
     let mut side = SimulatedSystem::new(alloc);
     let ended = run_script::<A, W, F>(alloc, &mut core, &mut side, out, script);
-    // Each goes by one call: the prover walks over the parts of what is dropped at a function's end, one by one.
+    // A single call each, because the prover would otherwise go through the fields of the dropped values one by one.
     drop(side);
     drop(core);
     ended

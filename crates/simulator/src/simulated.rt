@@ -1,4 +1,4 @@
-//! The system as a script plays it: its children, its answers, its clock.
+//! The system as a script simulates it: its children and its answers.
 
 ghost use Rattle.std.specs.Prelude.{◌≡◌, OnOk, OnErr};
 ghost use Rattle.simulator.specs.Objections.{unless};
@@ -11,15 +11,15 @@ use std::hash::{BuildHasherDefault, FoldHasher};
 use std::marker::Model;
 use trace_events::{Happening, HappeningIn};
 
-/// A child that is not reaped: the id that it was born for, and whether it died.
+/// An unreaped child: the id for which it was born, and whether it has died.
 #[derive(Clone, Copy)]
 pub struct SimulatedChild {
     pub id: Id,
     pub is_dead: bool,
 }
 
-/// What the system holds between two happenings: the orders on which nothing was done, the acts that were not told,
-/// and the unreaped children.
+/// The state of the simulated system between two happenings: the orders that are not carried out, the acts that are not
+/// told, and the unreaped children.
 #[derive(Drop)]
 pub struct SimulatedSystem<A: Allocator = Global> {
     orders: IndexMap<Id, OrderKind, BuildHasherDefault<FoldHasher>, A>,
@@ -45,7 +45,7 @@ impl<A: Allocator + Copy> SimulatedSystem<A> {
     ghost use Rattle.simulator.specs.State.{SystemState, empty};
     ghost use Rattle.simulator.specs.Follows.{Follows};
 
-    /// The system before init's first step: it fits the trace that is a table alone. It takes no memory.
+    /// Creates the system before init's first step, for a trace that has only a table. This does not allocate.
     pub fn new(alloc: A) -> SimulatedSystem<A>
         ensures { (table : List Entry) → Follows result (NewTable table ∷ []) }
     {
@@ -67,12 +67,12 @@ impl<A: Allocator> SimulatedSystem<A> {
     ghost use Rattle.std.specs.Prelude.{ℕ, List, ◌∷◌, false, true, ◌&&◌, IsTrue, IsOk, is_none, is_some};
     ghost use Rattle.simulator.specs.Words.{Goal, Event, answered_of, may_come, is_sound, is_order};
     ghost use Rattle.init_words.specs.declared.orders.Answer.TheVariants.{Born};
-    ghost use Rattle.simulator.specs.State.{order_in, answer_in, OrdersBy, AnswersBy, ChildrenBy, is_living_in, is_dead_in, without, with, with_child, with_death};
+    ghost use Rattle.simulator.specs.State.{order_in, answer_in, OrdersAfterChange, AnswersAfterChange, ChildrenAfterChange, is_living_in, is_dead_in, without, with, with_child, with_death};
     ghost use Rattle.simulator.specs.Steps.{is_script, needs_memory, order_after, answer_after, child_after};
     ghost use Rattle.simulator.specs.Objections.{objection_to};
     ghost use Rattle.simulator.specs.Follows.{Follows};
 
-    /// The happening may come next, and is one of the system or of the edge: an act on an order, a death, a telling, a
+    /// Returns whether the happening may come next and can come from a script: an act on an order, a death, a `told`, a
     /// nudge, a reading of the clock, a request, a hand-over, or that inittab could not be read. A step of init is
     /// never allowed.
     pub fn allows<B: Allocator>(&self, happening: &HappeningIn<B>) -> bool
@@ -84,7 +84,7 @@ impl<A: Allocator> SimulatedSystem<A> {
         self.objection(happening).is_none()
     }
 
-    /// Why the happening may not come next, or not in a script: the first reason. None where it may.
+    /// Returns the first reason why the happening may not come next, or not in a script, or `None` if it may.
     pub fn objection<B: Allocator>(&self, happening: &HappeningIn<B>) -> Option<Objection>
         ensures value { result ≡ objection_to self.now happening.now }
         ensures none { (goal : Goal) (past : List Event)
@@ -144,7 +144,7 @@ impl<A: Allocator> SimulatedSystem<A> {
         }
     }
 
-    /// An order of this kind waits for the system at the id.
+    /// Returns whether the id has an order of this kind that is still to be carried out.
     fn is_undone(&self, id: &Id, ask: OrderKind) -> bool
         ensures { result ≡ is_order ask (order_in id.now self.now) }
     {
@@ -172,7 +172,7 @@ impl<A: Allocator> SimulatedSystem<A> {
         }
     }
 
-    /// The answer under way to the id's order: what the system did for it that was not told.
+    /// Returns the answer that is under way to the id's order, that is, what was done for the id and not told yet.
     pub fn answer(&self, id: &Id) -> Option<Answer>
         ensures { (past : List Event) → Follows self.now past → result ≡ answered_of id.now past }
     {
@@ -185,8 +185,8 @@ impl<A: Allocator> SimulatedSystem<A> {
         self.answers.get(id).copied()
     }
 
-    /// Takes a happening in, whichever it is: the state fits the longer trace. Without the memory for it the state is
-    /// as it was; only an order and an act may want memory.
+    /// Updates the state for a happening of any kind, so that it fits the longer trace. If memory allocation fails,
+    /// nothing changes; this is only possible for an order and for an act.
     pub fn take<B: Allocator>(&mut self, happening: &HappeningIn<B>) -> Result<(), Memory>
         ensures ok { OnOk result ((goal : Goal) (past : List Event)
             → IsTrue (is_sound goal (happening.now ∷ past)) → Follows self.old past
@@ -198,9 +198,12 @@ impl<A: Allocator> SimulatedSystem<A> {
     }
 
     fn take_by_state<B: Allocator>(&mut self, happening: &HappeningIn<B>) -> Result<(), Memory>
-        ensures orders { OnOk result (OrdersBy self.old self.new (order_after happening.now)) }
-        ensures answers { OnOk result (AnswersBy self.old self.new (answer_after happening.now)) }
-        ensures children { OnOk result (ChildrenBy self.old self.new (child_after happening.now)) }
+        ensures orders { OnOk result
+            (OrdersAfterChange self.old self.new (order_after happening.now)) }
+        ensures answers { OnOk result
+            (AnswersAfterChange self.old self.new (answer_after happening.now)) }
+        ensures children { OnOk result
+            (ChildrenAfterChange self.old self.new (child_after happening.now)) }
         ensures err { OnErr result (self.new ≡ self.old) }
         ensures succeeds { needs_memory happening.now ≡ false → IsOk result }
     {
@@ -232,10 +235,11 @@ impl<A: Allocator> SimulatedSystem<A> {
         }
     }
 
-    /// The system acts on the id's order: the order is done, and its answer under way.
+    /// Carries out the id's order: it is no longer open for the system, and its answer is under way.
     fn do_order(&mut self, id: Id, answer: Answer) -> Result<(), Memory>
-        ensures orders { OnOk result (OrdersBy self.old self.new (λ other. without other id)) }
-        ensures answers { OnOk result (AnswersBy self.old self.new
+        ensures orders { OnOk result
+            (OrdersAfterChange self.old self.new (λ other. without other id)) }
+        ensures answers { OnOk result (AnswersAfterChange self.old self.new
             (λ other. with other id answer)) }
         ensures children { self.new.children ≡ self.old.children }
         ensures err { OnErr result (self.new ≡ self.old) }
@@ -245,12 +249,13 @@ impl<A: Allocator> SimulatedSystem<A> {
         Ok(())
     }
 
-    /// A child is born: there is room for its answer before it is put down.
+    /// Adds a child. The memory for its answer is reserved first.
     fn birth(&mut self, id: Id, number: ChildNumber) -> Result<(), Memory>
-        ensures orders { OnOk result (OrdersBy self.old self.new (λ other. without other id)) }
-        ensures answers { OnOk result (AnswersBy self.old self.new
+        ensures orders { OnOk result
+            (OrdersAfterChange self.old self.new (λ other. without other id)) }
+        ensures answers { OnOk result (AnswersAfterChange self.old self.new
             (λ other. with other id (Born number))) }
-        ensures children { OnOk result (ChildrenBy self.old self.new
+        ensures children { OnOk result (ChildrenAfterChange self.old self.new
             (λ other. with_child other number id)) }
         ensures err { OnErr result (self.new ≡ self.old) }
     {
@@ -264,21 +269,22 @@ impl<A: Allocator> SimulatedSystem<A> {
         Ok(())
     }
 
-    /// The child of the number, if there is one, is dead from here on.
+    /// Marks the child with this number as dead, if there is one.
     fn death(&mut self, number: ChildNumber)
         ensures orders { self.new.orders ≡ self.old.orders }
         ensures answers { self.new.answers ≡ self.old.answers }
-        ensures children { ChildrenBy self.old self.new (λ other. with_death other number) }
+        ensures children { ChildrenAfterChange self.old self.new
+            (λ other. with_death other number) }
     {
         if let Some(child) = self.children.get_mut(&number.0) {
             child.is_dead = true;
         }
     }
 
-    /// The id's order is done and told.
+    /// Marks the id's order as carried out and told.
     fn tell(&mut self, id: &Id)
-        ensures orders { OrdersBy self.old self.new (λ other. without other id.now) }
-        ensures answers { AnswersBy self.old self.new (λ other. without other id.now) }
+        ensures orders { OrdersAfterChange self.old self.new (λ other. without other id.now) }
+        ensures answers { AnswersAfterChange self.old self.new (λ other. without other id.now) }
         ensures children { self.new.children ≡ self.old.children }
     {
         self.orders.swap_remove(id);
@@ -286,7 +292,7 @@ impl<A: Allocator> SimulatedSystem<A> {
     }
 }
 
-/// The objection, but none where the test holds.
+/// Returns the objection, unless the test holds.
 fn unless(holds: bool, objection: Objection) -> Option<Objection>
     ensures { result ≡ unless holds objection }
 {

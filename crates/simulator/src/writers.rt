@@ -1,4 +1,4 @@
-//! Writers, and what proofs can read of their faults.
+//! Writers whose faults proofs can see.
 
 ghost use Rattle.std.specs.Prelude.{◌≡◌, Bool, true, OnOk, OnErr};
 ghost use Rattle.std.specs.Io.KnownBytes.{Appends};
@@ -8,12 +8,12 @@ use program_io::write_text;
 use std::io;
 use std::io::Write;
 
-/// How a text is written on a `W`, and how proofs read off a `W` that it failed.
-pub trait WritesOn<W: Write> {
-    // The writer refused a write, or took no byte of one.
+/// How a text is written to a `W`, and how proofs see that a `W` has failed.
+pub trait ScriptWriter<W: Write> {
+    // The writer refused a write, or wrote no byte of one.
     ghost has_failed: { W → Bool };
 
-    /// Writes all of the text. Where the writer fails, a prefix of the text is written, but not the whole.
+    /// Writes the whole text. If the writer fails, a proper prefix of the text was written.
     fn put(out: &mut W, text: &[u8]) -> io::Result<()>
         ensures ok { OnOk result (Appends (W.contents out.old) (W.contents out.new) text.now) }
         ensures err { OnErr result
@@ -21,10 +21,10 @@ pub trait WritesOn<W: Write> {
         ensures failed { OnErr result (has_failed out.new ≡ true) };
 }
 
-/// How texts are written on a writer whose faults nothing tells but the answer to a write.
+/// Writes to a writer whose faults are visible only in the result of a write.
 pub struct Untold;
 
-impl<W: Write> WritesOn<W> for Untold {
+impl<W: Write> ScriptWriter<W> for Untold {
     ghost has_failed = { λ _. true };
 
     fn put(out: &mut W, text: &[u8]) -> io::Result<()> {

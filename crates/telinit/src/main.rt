@@ -1,5 +1,5 @@
-//! `telinit [-t SEC] [-d DIR] [--initctl P] CHAR`: asks init for a runlevel, an ondemand letter, a new look at inittab or a
-//! re-execution, by one request block at the end of the channel file (telinit(8), initreq.h).
+//! `telinit [-t SEC] [-d DIR] [--initctl P] CHAR`: requests a runlevel, an ondemand letter, a new reading of inittab or
+//! a re-execution from init, by appending one request block to the channel file (telinit(8), initreq.h).
 #![tactic(auto)]
 
 use program_io::{Reports, StandardFiles, report_unread_words, words};

@@ -1,4 +1,4 @@
--- The command line uses no more of clap than what is known of it.
+-- The command line uses only the features of clap that are specified.
 use Rattle.std.proofs.Common.{◌≡◌, refl, true}
 use Rattle.clap.specs.Words.{is_simple_and_free}
 use Rattle.clap.proofs.OnLiterals.{clap_on_literals}

@@ -1,44 +1,45 @@
--- What becomes of the bytes of channels, as far as they are known.
+-- How the bytes of channels change, as far as they are known.
 use Rattle.std.specs.Prelude.{◌≡◌, ℕ, ◌%◌, if◌then◌else◌, List, length, ◌++◌, Option, Some, IfSome, option_map}
 use Rattle.std.specs.Str.{bytes_eq}
 use Rattle.initctl_frame.specs.declared.frames.TheConstants.{BLOCK}
 use Rattle.initctl_frame.specs.Frames.{block_of}
 use Rattle.telinit_command.specs.CommandLine.{TelinitArguments, telinit_read_of}
 
--- the bytes of the channel at each path, where they are known
+-- the bytes of the channel at each path, if known
 abbrev pub KnownBytes : Type 0
 KnownBytes = List ℕ → Option (List ℕ)
 
--- every channel is as it was
+-- all channels are unchanged
 abbrev pub AreSame : KnownBytes → KnownBytes → Type 0
 AreSame old new = (at : List ℕ) → new at ≡ old at
 
--- the channel at the path has gained these bytes at its end, and every other one is as it was
-abbrev pub HasGained : List ℕ → List ℕ → KnownBytes → KnownBytes → Type 0
-HasGained path gained old new =
+-- these bytes were appended to the channel at the path, and all others are unchanged
+abbrev pub AppendsToChannel : List ℕ → List ℕ → KnownBytes → KnownBytes → Type 0
+AppendsToChannel path gained old new =
     (at : List ℕ) → new at ≡ (if bytes_eq at path then option_map (λ bytes. bytes ++ gained) (old at) else old at)
 
--- it has gained a front of them, of any length
-abbrev pub HasGainedFront : List ℕ → List ℕ → KnownBytes → KnownBytes → Type 0
-HasGainedFront path block old new =
-    (front rest : List ℕ) × (front ++ rest ≡ block) × HasGained path front old new
+-- a prefix of these bytes, of any length, was appended
+abbrev pub AppendsPrefixToChannel : List ℕ → List ℕ → KnownBytes → KnownBytes → Type 0
+AppendsPrefixToChannel path block old new =
+    (front rest : List ℕ) × (front ++ rest ≡ block) × AppendsToChannel path front old new
 
--- the channel at the path has whole request blocks alone
+-- the channel at the path consists of complete request blocks
 abbrev pub IsWholeAt : List ℕ → KnownBytes → Type 0
 IsWholeAt path old = IfSome (old path) (λ bytes. length bytes % BLOCK ≡ 0)
 
--- the request that words ask for, and the channel that they or the environment's folder name
-abbrev pub IsAsked : List ℕ → List (List ℕ) → List ℕ → List ℕ → Type 0
-IsAsked home words path block =
+-- the request block that the arguments ask for, and the channel that they or the folder in the environment name
+abbrev pub IsRequestFor : List ℕ → List (List ℕ) → List ℕ → List ℕ → Type 0
+IsRequestFor home words path block =
     (arguments : TelinitArguments) × (telinit_read_of home words ≡ Some arguments) × (path ≡ arguments.path)
     × (block_of arguments.request ≡ block)
 
--- the channel that the words name, of whole requests, has gained the one that they ask for
-abbrev pub Asks : List ℕ → List (List ℕ) → KnownBytes → KnownBytes → Type 0
-Asks home words old new =
-    (path block : List ℕ) × IsAsked home words path block × IsWholeAt path old × HasGained path block old new
+-- the channel that the arguments name consisted of complete requests, and the one that they ask for was appended
+abbrev pub AppendsRequest : List ℕ → List (List ℕ) → KnownBytes → KnownBytes → Type 0
+AppendsRequest home words old new =
+    (path block : List ℕ) × IsRequestFor home words path block × IsWholeAt path old
+    × AppendsToChannel path block old new
 
--- or a front of it, or nothing
-abbrev pub AsksPartly : List ℕ → List (List ℕ) → KnownBytes → KnownBytes → Type 0
-AsksPartly home words old new = (path block : List ℕ) × IsAsked home words path block
-    × HasGainedFront path block old new
+-- a prefix of it, possibly empty, was appended
+abbrev pub AppendsRequestPrefix : List ℕ → List (List ℕ) → KnownBytes → KnownBytes → Type 0
+AppendsRequestPrefix home words old new = (path block : List ℕ) × IsRequestFor home words path block
+    × AppendsPrefixToChannel path block old new

@@ -21,17 +21,17 @@ use Rattle.telinit_command.specs.declared.command.Words.{Words}
 abbrev pub command_line : App
 command_line = line_of (codes "telinit") (written OPTIONS.now)
 
--- a word of decimal digits
+-- a word of one or more decimal digits
 abbrev pub is_numeral : List ℕ → Bool
 is_numeral word = not (length word == 0) && list_all is_ascii_digit word
 
--- the seconds of a word, in decimal, where they are within the limit
+-- the number of seconds that a word stands for, in decimal, if it is within the limit
 abbrev pub seconds_read : List ℕ → Option ℕ
 seconds_read word =
     let secs = digits_value 10 word in
     if is_numeral word && nat_le secs GRACE_LIMIT then Some secs else None
 
--- the news of a word
+-- the news of the power that a word stands for
 abbrev pub power_read : Text → Option PowerKind
 power_read word =
     if bytes_eq word (codes "fail") then Some power.Fail
@@ -39,32 +39,35 @@ power_read word =
     else if bytes_eq word (codes "ok") then Some power.Ok
     else None
 
--- the word in the place of CHAR, or the news of the power's word: one is given
+-- the argument CHAR, or the news of the power in the value of --power; none unless exactly one of them is given
 abbrev pub sign_or_power : Option Text → Option Text → Option (Text × Option PowerKind)
 sign_or_power None None = None
 sign_or_power (Some sign) None = Some (sign, None)
 sign_or_power None (Some word) = option_map (λ kind. ([], Some kind)) (power_read word)
 sign_or_power (Some sign) (Some word) = None
 
--- a name in a folder; in no folder the name alone
+-- the path of a name in a folder; the name alone if there is no folder
 abbrev pub in_folder : Text → Text → Text
 in_folder folder name = if length folder == 0 then name else folder ++ (codes "/" ++ name)
 
--- the channel: the one that is given, else `initctl` in the folder that is given, else in that of the environment
+-- the path of a channel: the first one if it is given, otherwise `initctl` in the folder, otherwise in that of the
+-- environment
 abbrev pub path_in : Option Text → Text → Text → Text
 path_in (Some path) folder home = path
 path_in None folder home = in_folder (if length folder == 0 then home else folder) (codes "initctl")
 
+-- the path of the channel in the options
 abbrev pub path_option : Text → List Row → Text
 path_option home rows = path_in (first_of (codes "--initctl") rows) (value_said (codes "-d") rows) home
 
--- what words say, with the defaults for what they leave out
+-- a parsed command line, with the defaults for options that are not given
 pub record TelinitWords : Type 0 where
   pub secs : ℕ
   pub path : Text
   pub sign : Text
   pub power : Option PowerKind
 
+-- a command line of the program, as lists
 abbrev pub words_of : Words → TelinitWords
 words_of words = record {
   secs = words.secs;
@@ -73,7 +76,8 @@ words_of words = record {
   power = words.power;
 }
 
--- the words of a command line, where its seconds are 0 to 3,600 and the environment names this folder
+-- the parsed command line for the rows of the table, if the seconds are 0 to 3,600; `home` is the folder in the
+-- environment
 abbrev pub words_of_rows : Text → List Row → Option TelinitWords
 words_of_rows home rows =
     option_and_then
@@ -82,14 +86,16 @@ words_of_rows home rows =
     (sign_or_power (first_of (codes "CHAR") rows) (first_of (codes "--power") rows)))
     (seconds_read (value_said (codes "-t") rows))
 
+-- the command line for the arguments; none if clap finds a fault in them
 abbrev pub words_read_of : Text → List Text → Option TelinitWords
 words_read_of home words = option_and_then (words_of_rows home) (given_by command_line words)
 
--- a request for the sign, which is one character of the list, with the seconds; or the news of the power
+-- a request for the sign, which is one character of telinit(8), with the seconds; or the news of the power
 abbrev pub request_by : ℕ → Text → Option PowerKind → Option Request
 request_by secs sign None = option_map (λ code. request.Runlvl code secs) (option_and_then sign_read (only_byte sign))
 request_by secs sign (Some kind) = Some (request.Power kind)
 
+-- the request of a command line
 abbrev pub request_of : TelinitWords → Option Request
 request_of words = request_by words.secs words.sign words.power
 
@@ -98,13 +104,14 @@ pub record TelinitArguments : Type 0 where
   pub path : Text
   pub request : Request
 
+-- the channel and the request of a command line, if it has one
 abbrev pub arguments_of : TelinitWords → Option TelinitArguments
 arguments_of words = option_map (λ asked. record { path = words.path; request = asked }) (request_of words)
 
--- what words ask for; where the command line has a fault in it, or no request, nothing
+-- what the arguments ask for; none if the command line is rejected, or its sign is not a request
 abbrev pub telinit_read_of : Text → List Text → Option TelinitArguments
 telinit_read_of home words = option_and_then arguments_of (words_read_of home words)
 
--- the request block that words ask for
+-- the request block that the arguments ask for
 abbrev pub block_for : Text → List Text → Option (List ℕ)
 block_for home words = option_map (λ arguments. block_of arguments.request) (telinit_read_of home words)

@@ -1,27 +1,27 @@
--- What telinit tells of its channel, where it appended.
+-- What telinit reports about its channel after it appended a request.
 use Rattle.std.specs.Prelude.{◌≡◌, ℕ, Bool, true, false, List, ◌++◌, codes}
-use Rattle.program_io.specs.Reports.{HasReported, ReportList}
+use Rattle.program_io.specs.Reports.{AppendsReport, ReportList}
 
--- an init reads the channel, or none does, or it can't be told, for this reason
+-- an init reads the channel, or none does, or that is unknown for this reason
 pub data Reading : Type 0 where
   read : Reading
   unread : Reading
   unknown : List ℕ → Reading
 
--- that the channel was missing, and was made
-abbrev pub TellsMade : List ℕ → Bool → ReportList → ReportList → Type 0
-TellsMade path true old new = HasReported old new (codes "telinit: made " ++ (path ++ codes "\n"))
-TellsMade path false old new = new ≡ old
+-- it was reported that the channel did not exist and was created
+abbrev pub ReportsCreation : List ℕ → Bool → ReportList → ReportList → Type 0
+ReportsCreation path true old new = AppendsReport old new (codes "telinit: created " ++ (path ++ codes "\n"))
+ReportsCreation path false old new = new ≡ old
 
--- where an init reads the channel, nothing is told
-abbrev pub TellsReading : List ℕ → Reading → ReportList → ReportList → Type 0
-TellsReading path read old new = new ≡ old
-TellsReading path unread old new = HasReported old new
-    (codes "telinit: no init reads " ++ (path ++ codes ": the request stands there until one does\n"))
-TellsReading path (unknown reason) old new = HasReported old new
-    (codes "telinit: cannot tell whether an init reads " ++ (path ++ (codes ": " ++ (reason ++ codes "\n"))))
+-- nothing is reported if an init reads the channel
+abbrev pub ReportsReader : List ℕ → Reading → ReportList → ReportList → Type 0
+ReportsReader path read old new = new ≡ old
+ReportsReader path unread old new = AppendsReport old new
+    (codes "telinit: no init is reading " ++ (path ++ codes "; the request stays there until one does\n"))
+ReportsReader path (unknown reason) old new = AppendsReport old new
+    (codes "telinit: cannot tell whether an init is reading " ++ (path ++ (codes ": " ++ (reason ++ codes "\n"))))
 
--- what is told of the channel at this path
-abbrev pub IsTold : List ℕ → ReportList → ReportList → Type 0
-IsTold path old new = (was_made : Bool) × (reading : Reading) × (made : ReportList)
-    × TellsMade path was_made old made × TellsReading path reading made new
+-- these are the reports about the channel at this path
+abbrev pub ReportsChannel : List ℕ → ReportList → ReportList → Type 0
+ReportsChannel path old new = (was_made : Bool) × (reading : Reading) × (made : ReportList)
+    × ReportsCreation path was_made old made × ReportsReader path reading made new

@@ -1,8 +1,8 @@
-//! A request block, appended to the channel.
+//! Appends a request block to the channel.
 
 ghost use Rattle.std.specs.Prelude.{◌≡◌, ◌⊎◌, OnOk, OnErr};
-ghost use Rattle.telinit_command.specs.Channels.{AreSame, HasGained, HasGainedFront, IsWholeAt};
-ghost use Rattle.telinit_command.specs.Notes.{IsTold, Reading, TellsMade, TellsReading};
+ghost use Rattle.telinit_command.specs.Channels.{AreSame, AppendsToChannel, AppendsPrefixToChannel, IsWholeAt};
+ghost use Rattle.telinit_command.specs.Notes.{ReportsChannel, Reading, ReportsCreation, ReportsReader};
 
 use crate::channels::Channels;
 use initctl_frame::BLOCK;
@@ -12,9 +12,9 @@ use std::io;
 /// Why a block was not appended.
 #[derive(Drop)]
 pub(crate) enum ChannelFault {
-    /// The channel has so many bytes, which are no whole number of requests. Nothing was written.
+    /// The channel has this number of bytes, which is not a whole number of requests. Nothing was written.
     Torn(u64),
-    /// It could not be opened or written.
+    /// The channel could not be opened or written.
     Device(io::Error),
 }
 
@@ -24,21 +24,22 @@ impl From<io::Error> for ChannelFault {
     }
 }
 
-/// Appends the block to the channel at the path, which is made where it is missing. That it was made is told on `err`
-/// before, and behind it that no init reads it: the request doesn't wait for that look. After a refusal the channel has
-/// gained a front of the block at most.
+/// Appends the block to the channel at the path, which is created if it does not exist. Its creation is reported on
+/// `err` before, and that no init reads it afterwards, so that the request does not wait for that check. If this fails,
+/// a prefix of the block may have been appended.
 pub(crate) fn append_block<C: Channels, E: Reporter>(
     channels: &mut C,
     path: &str,
     block: &[u8; BLOCK],
     err: &mut E,
 ) -> Result<(), ChannelFault>
-    ensures told { OnOk result (IsTold path.now (E.reports err.old) (E.reports err.new)) }
+    ensures told { OnOk result (ReportsChannel path.now (E.reports err.old) (E.reports err.new)) }
     ensures whole { OnOk result (IsWholeAt path.now (C.bytes_at channels.old)) }
-    ensures gained { OnOk result (HasGained path.now block.now
+    ensures gained { OnOk result (AppendsToChannel path.now block.now
         (C.bytes_at channels.old) (C.bytes_at channels.new)) }
     ensures refused { OnErr result (AreSame (C.bytes_at channels.old) (C.bytes_at channels.new)
-        ⊎ HasGainedFront path.now block.now (C.bytes_at channels.old) (C.bytes_at channels.new)) }
+        ⊎ AppendsPrefixToChannel path.now block.now (C.bytes_at channels.old)
+        (C.bytes_at channels.new)) }
 {
     let found = channels.open(path)?;
     if found.length % REQUEST as u64 != 0 {
@@ -50,37 +51,37 @@ pub(crate) fn append_block<C: Channels, E: Reporter>(
     Ok(())
 }
 
-/// Tells that the channel was made, where it was.
+/// Reports that the channel was created, if it was.
 fn tell_made<E: Reporter>(path: &str, was_made: bool, err: &mut E)
-    ensures { TellsMade path.now was_made (E.reports err.old) (E.reports err.new) }
+    ensures { ReportsCreation path.now was_made (E.reports err.old) (E.reports err.new) }
 {
     if was_made {
-        err.report_texts(&["telinit: made ", path, "\n"]);
+        err.report_texts(&["telinit: created ", path, "\n"]);
     }
 }
 
-/// Tells that no init reads the channel, or that it isn't known.
+/// Reports that no init reads the channel, or that this is not known.
 fn tell_reading<E: Reporter>(path: &str, is_read: io::Result<bool>, err: &mut E)
     ensures { (reading : Reading)
-        × TellsReading path.now reading (E.reports err.old) (E.reports err.new) }
+        × ReportsReader path.now reading (E.reports err.old) (E.reports err.new) }
 {
     match is_read {
         Ok(true) => {}
-        Ok(false) => err.report_texts(&["telinit: no init reads ", path, STANDS]),
+        Ok(false) => err.report_texts(&["telinit: no init is reading ", path, STANDS]),
         Err(error) => tell_unknown(path, reason_text(&error).as_str(), err),
     }
 }
 
-/// What is told of a channel that no init reads, behind its path.
-const STANDS: &str = ": the request stands there until one does\n";
+/// The message about a channel that no init reads, after its path.
+const STANDS: &str = "; the request stays there until one does\n";
 
-/// Tells that it isn't known whether an init reads the channel.
+/// Reports that it is not known whether an init reads the channel.
 fn tell_unknown<E: Reporter>(path: &str, reason: &str, err: &mut E)
-    ensures { TellsReading path.now (Reading.unknown reason.now)
+    ensures { ReportsReader path.now (Reading.unknown reason.now)
         (E.reports err.old) (E.reports err.new) }
 {
     err.report_texts(&[
-        "telinit: cannot tell whether an init reads ",
+        "telinit: cannot tell whether an init is reading ",
         path,
         ": ",
         reason,

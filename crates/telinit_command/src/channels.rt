@@ -1,41 +1,42 @@
-//! What takes request blocks: channels of requests, wherever they come from.
+//! The channels to which request blocks are appended.
 
 ghost use Rattle.std.specs.Prelude.{◌≡◌, length, IfOk, IfSome, OnOk, OnErr};
-ghost use Rattle.telinit_command.specs.Channels.{AreSame, HasGained, HasGainedFront, KnownBytes};
+ghost use Rattle.telinit_command.specs.Channels.{AreSame, AppendsToChannel, AppendsPrefixToChannel, KnownBytes};
 
 use initctl_frame::BLOCK;
 use std::io;
 
-/// What is found of a channel where it is opened.
+/// The state of a channel when it is opened.
 #[derive(Drop)]
 pub struct FoundChannel {
-    /// It was missing, and was made.
+    /// Whether it did not exist and was created.
     pub was_made: bool,
-    /// Its bytes.
+    /// Its length in bytes.
     pub length: u64,
 }
 
-/// What opens channels of requests (initreq.h), and appends to them.
+/// Opens channels of requests (initreq.h), and appends to them.
 ///
-/// A contract sees of it the bytes of the channel at a path, where they are known. A channel that is missing has none.
+/// Its contracts refer to the bytes of the channel at a path, if they are known. A channel that does not exist has
+/// none.
 pub trait Channels {
-    /// The bytes of the channel at a path; None where they aren't known.
+    /// The bytes of the channel at a path, or `None` if they are not known.
     ghost bytes_at: { Self → KnownBytes };
 
-    /// Opens the channel at a path, and makes an empty one where it is missing.
+    /// Opens the channel at a path, and creates an empty one if it does not exist.
     fn open(&mut self, path: &str) -> io::Result<FoundChannel>
         ensures same { AreSame (bytes_at self.old) (bytes_at self.new) }
         ensures length { IfOk result (λ found. IfSome (bytes_at self.old path.now)
             (λ bytes. found.length ≡ length bytes)) };
 
-    /// Appends a block to the channel at a path, which was opened last. After a refusal it has gained a front of the
-    /// block at most.
+    /// Appends a block to the channel at a path, which was opened last. If this fails, a prefix of the block may have
+    /// been appended.
     fn append(&mut self, path: &str, block: &[u8; BLOCK]) -> io::Result<()>
         ensures ok { OnOk result
-            (HasGained path.now block.now (bytes_at self.old) (bytes_at self.new)) }
+            (AppendsToChannel path.now block.now (bytes_at self.old) (bytes_at self.new)) }
         ensures err { OnErr result
-            (HasGainedFront path.now block.now (bytes_at self.old) (bytes_at self.new)) };
+            (AppendsPrefixToChannel path.now block.now (bytes_at self.old) (bytes_at self.new)) };
 
-    /// An init reads the channel at a path, which was opened last, or the one that stood there before.
+    /// Reports whether an init reads the channel at a path, which was opened last, or an earlier file at this path.
     fn is_read(&self, path: &str) -> io::Result<bool>;
 }

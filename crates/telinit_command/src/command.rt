@@ -1,4 +1,4 @@
-//! The words of `telinit`, and the request block that they ask for.
+//! The command line of `telinit`, and the request block that it asks for.
 
 ghost use Rattle.std.specs.Prelude.{◌≡◌, map, codes, option_and_then, option_map, string_bytes, IfErr, IfOk, IsSome, None, Some};
 ghost use Rattle.std.specs.List.{list_all};
@@ -8,7 +8,7 @@ ghost use Rattle.command_words.specs.Faults.{reason_of};
 ghost use Rattle.initctl_frame.specs.Signs.{sign_read};
 ghost use Rattle.program_io.specs.Arguments.{only_byte};
 ghost use Rattle.initctl_frame.specs.Frames.{block_of};
-ghost use Rattle.telinit_command.specs.Channels.{IsAsked};
+ghost use Rattle.telinit_command.specs.Channels.{IsRequestFor};
 ghost use Rattle.telinit_command.specs.CommandLine.{path_option, power_read, request_of, seconds_read, sign_or_power};
 ghost use Rattle.telinit_command.specs.CommandLine.{telinit_read_of, words_of, words_read_of, words_of_rows};
 
@@ -19,7 +19,7 @@ use initctl_frame::{BLOCK, Request, Sign, encode};
 use program_io::only_byte;
 use std::alloc::{AllocError, Global};
 
-/// The options and the word of a command line.
+/// The options and the positional argument of the command line.
 const OPTIONS: &[Row] = &[
     ("-t", "SEC", "5"),
     ("-d", "DIR", ""),
@@ -28,28 +28,28 @@ const OPTIONS: &[Row] = &[
     ("CHAR", "?", ""),
 ];
 
-/// What a command line says, with the defaults for what it leaves out.
+/// A parsed command line, with the defaults for options that are not given.
 #[derive(Drop)]
 pub struct Words {
-    /// Seconds between the two signals that stop a child, 0 to 3,600.
+    /// The seconds between the two signals that stop a child, 0 to 3,600.
     pub secs: u16,
     /// The file that the request block is appended to.
     pub path: String,
-    /// The word in the place of CHAR, any; empty where news of the power is given.
+    /// The argument CHAR, which is not checked; empty if news of the power is given.
     pub sign: String,
     /// News of the power, in place of a sign.
     pub power: Option<PowerKind>,
 }
 
-/// What a command line asks for: the channel's file and the request block (initreq.h).
+/// What a command line asks for: the file of the channel and the request block (initreq.h).
 #[derive(Drop)]
 pub(crate) struct Asked {
     pub(crate) path: String,
     pub(crate) block: [u8; BLOCK],
 }
 
-/// Reads a command line, without the program's name in front. The channel that it doesn't name is `initctl` in the
-/// folder that it names by `-d`, else in this one. Of its sign nothing is asked: see [`frame_of`].
+/// Parses a command line, without the program's name. The default for the channel is `initctl` in the folder of `-d`,
+/// or in the current folder. The sign is not checked: see [`frame_of`].
 pub fn read_words(alloc: Global, words: Vec<String>) -> Result<Words, WordFault>
     ensures ok { IfOk result (λ arguments. words_read_of (codes "") (map string_bytes words.items)
         ≡ Some (words_of arguments)) }
@@ -59,7 +59,7 @@ pub fn read_words(alloc: Global, words: Vec<String>) -> Result<Words, WordFault>
     read_words_in(alloc, "", words)
 }
 
-/// The request block of words (initreq.h); none where their sign is no character of telinit(8).
+/// Returns the request block for a command line (initreq.h), or `None` if its sign is not a character of telinit(8).
 pub fn frame_of(words: &Words) -> Option<[u8; BLOCK]>
     ensures { result ≡ option_map block_of (request_of (words_of words.now)) }
 {
@@ -70,10 +70,10 @@ pub fn frame_of(words: &Words) -> Option<[u8; BLOCK]>
     Some(encode(&request))
 }
 
-/// What a command line asks for, where the environment names the folder `home` for the channel, or none if it is empty.
+/// Returns what a command line asks for. `home` is the folder of the channel in the environment, or empty.
 pub(crate) fn read_asked(alloc: Global, home: &str, words: Vec<String>) -> Result<Asked, WordFault>
-    // What it asks for is what the words say, with the defaults for what they leave out.
-    ensures ok { IfOk result (λ asked. IsAsked home.now (map string_bytes words.items)
+    // This is what the arguments ask for, with the defaults for options that are not given.
+    ensures ok { IfOk result (λ asked. IsRequestFor home.now (map string_bytes words.items)
         (string_bytes asked.path) asked.block) }
     ensures usage { IfErr result (λ fault. IsSome (reason_of fault)
         → telinit_read_of home.now (map string_bytes words.items) ≡ None) }
@@ -102,7 +102,7 @@ fn read_words_in(alloc: Global, home: &str, words: Vec<String>) -> Result<Words,
     read_matches(alloc, &matches, home)
 }
 
-/// What matches say.
+/// Returns the command line of clap's matches.
 fn read_matches(alloc: Global, matches: &ArgMatches, home: &str) -> Result<Words, WordFault>
     ensures ok { IfOk result (λ arguments. words_of_rows home.now (rows_of (found_of matches.now))
         ≡ Some (words_of arguments)) }
@@ -110,7 +110,13 @@ fn read_matches(alloc: Global, matches: &ArgMatches, home: &str) -> Result<Words
         → words_of_rows home.now (rows_of (found_of matches.now)) ≡ None) }
 {
     let word = value_of(matches, "-t");
-    let secs = checked(alloc, "-t", word, read_grace(word), "not 0 to 3600 seconds")?;
+    let secs = checked(
+        alloc,
+        "-t",
+        word,
+        read_grace(word),
+        "not between 0 and 3600 seconds",
+    )?;
     let asked = read_sign_or_power(alloc, word_of(matches, "CHAR"), word_of(matches, "--power"))?;
     Ok(Words {
         secs,
@@ -120,7 +126,7 @@ fn read_matches(alloc: Global, matches: &ArgMatches, home: &str) -> Result<Words
     })
 }
 
-/// The seconds of a word: a decimal number of 0 to 3,600, without a sign.
+/// Parses a number of seconds: a decimal number from 0 to 3,600, without a sign.
 fn read_grace(word: &str) -> Option<u16>
     ensures { result ≡ seconds_read word.now }
 {
@@ -143,7 +149,7 @@ fn is_all_digits(word: &str) -> bool
     word.bytes().all(|byte| byte.is_ascii_digit())
 }
 
-/// The sign, or the news of the power: one of the two is given.
+/// Returns the sign, or the news of the power. Exactly one of them must be given.
 fn read_sign_or_power(
     alloc: Global,
     sign: Option<&str>,
@@ -161,20 +167,22 @@ fn read_sign_or_power(
             Some(kind) => return Ok((String::new(alloc), Some(kind))),
             None => format!(in alloc; "--power {word}: not fail, failnow or ok")?,
         },
-        (Some(sign), Some(word)) => format!(in alloc; "--power {word}: not beside {sign}")?,
-        (None, None) => String::from_str(alloc, "a word is missing")?,
+        (Some(sign), Some(word)) => format!(in alloc;
+            "--power {word}: cannot be combined with {sign}"
+        )?,
+        (None, None) => String::from_str(alloc, "missing argument")?,
     };
     Err(WordFault::Usage(reason))
 }
 
-/// The sign of a word of one character (telinit(8)).
+/// Parses a sign, which is a single character (telinit(8)).
 fn read_sign(word: &str) -> Option<Sign>
     ensures { result ≡ option_and_then sign_read (only_byte word.now) }
 {
     Sign::read(only_byte(word)?)
 }
 
-/// The news of a word.
+/// Parses news of the power.
 fn read_power(word: &str) -> Option<PowerKind>
     ensures { result ≡ power_read word.now }
 {
@@ -186,7 +194,7 @@ fn read_power(word: &str) -> Option<PowerKind>
     }
 }
 
-/// The channel that words name.
+/// Returns the path of the channel for the arguments.
 fn path_of(alloc: Global, matches: &ArgMatches, home: &str) -> Result<String, AllocError>
     ensures { IfOk result (λ path. string_bytes path
         ≡ path_option home.now (rows_of (found_of matches.now))) }

@@ -1,4 +1,5 @@
-//! What telinit does: it reads a command line (telinit(8)) and appends one request block (initreq.h) to init's channel.
+//! The `telinit` program: reads a command line (telinit(8)) and appends one request block (initreq.h) to init's
+//! channel.
 #![tactic(auto)]
 
 mod channel;

@@ -1,5 +1,5 @@
-//! The channels of the operating system: how one is opened, who reads it, and its bell, a FIFO beside it, which whoever
-//! appended a request rings, so that init hears that at once.
+//! The channels of the operating system: how one is opened, who reads it, and its bell. The bell is a FIFO next to the
+//! channel, which is rung after a request was appended so that init reads the request immediately.
 
 ghost use Rattle.std.specs.Prelude.{None};
 
@@ -19,7 +19,7 @@ use std::{io, str};
 /// The file in which Linux lists the locks of files (proc_locks(5)).
 const LOCKS: &str = "/proc/locks";
 
-/// The channels of the operating system, whose bells are rung. Nothing is known of their bytes.
+/// The channels of the operating system, whose bells are rung. Their bytes are not known.
 #[derive(Drop)]
 pub struct OsChannels<'a, R> {
     rt: &'a R,
@@ -28,7 +28,7 @@ pub struct OsChannels<'a, R> {
 }
 
 impl<'a, R> OsChannels<'a, R> {
-    /// None is open yet.
+    /// Creates channels of which none is open.
     pub fn new(rt: &'a R, alloc: Global) -> OsChannels<'a, R> {
         OsChannels {
             rt,
@@ -58,7 +58,7 @@ impl<R: Files<File = File> + Alloc + Eprint + Clone + Drop> Channels for OsChann
         }
         if let Err(error) = ring(self.rt, self.alloc, path) {
             let _ = eprintln!(self.rt;
-                "telinit: cannot ring {path}.bell: {}; init hears the request in its next turn",
+                "telinit: cannot ring {path}.bell: {}; init will read the request in its next turn",
                 Reason(&error)
             );
         }
@@ -71,15 +71,16 @@ impl<R: Files<File = File> + Alloc + Eprint + Clone + Drop> Channels for OsChann
         };
         match channel.is_read() {
             Ok(false) if is_read_before(self.rt, self.alloc, path).unwrap_or(false) => Ok(true),
-            // An init may have gone over to this file meanwhile.
+            // An init may have switched to this file in the meantime.
             Ok(false) => channel.is_read(),
             told => told,
         }
     }
 }
 
-/// A process holds a lock and has a file open that stood at the path of the channel before the one that stands there:
-/// an init that sees within a pause that another came. Each process is looked at once, however many locks it holds.
+/// Reports whether a process holds a lock and has a file open that was at the path of the channel before the present
+/// one. That is an init, which notices within a pause that the file was replaced. Each process is checked once, however
+/// many locks it holds.
 fn is_read_before<R: Files + Alloc + Clone + Drop>(
     rt: &R,
     alloc: Global,
@@ -102,7 +103,7 @@ fn is_read_before<R: Files + Alloc + Clone + Drop>(
     Ok(false)
 }
 
-/// The process in a line of the list, `1: FLOCK  ADVISORY  WRITE 4711 08:01:1234 0 EOF`.
+/// Returns the process in a line of the list, `1: FLOCK  ADVISORY  WRITE 4711 08:01:1234 0 EOF`.
 fn holder_in(line: &str) -> Option<u32> {
     let mut words = line.split_whitespace();
     let kind = words.nth(1)?;
@@ -110,7 +111,7 @@ fn holder_in(line: &str) -> Option<u32> {
     if kind == "FLOCK" { Some(number) } else { None }
 }
 
-/// The process has a file open that the system calls so.
+/// Reports whether the process has a file open to which the system gives this name.
 fn has_open<R: Files + Alloc + Clone + Drop>(
     rt: &R,
     alloc: Global,
@@ -127,13 +128,13 @@ fn has_open<R: Files + Alloc + Clone + Drop>(
     Ok(false)
 }
 
-/// Rings the bell of the channel at the path, a FIFO of that path with `.bell` after it, where one is there. It never
-/// waits: one that is full of rings is rung already.
+/// Rings the bell of the channel at the path, a FIFO with this path and `.bell` appended, if it exists. It never waits:
+/// a bell that is full has been rung already.
 fn ring<R: Files<File = File>>(rt: &R, alloc: Global, channel: &str) -> io::Result<()> {
     let path = format!(in alloc; "{channel}.bell")?;
     match metadata(rt, path.as_str()) {
         Ok(found) if found.file_type().is_fifo() => {}
-        Ok(_) => return Err(Error::new(ErrorKind::InvalidInput, "it is no FIFO")),
+        Ok(_) => return Err(Error::new(ErrorKind::InvalidInput, "not a FIFO")),
         Err(error) if error.kind() == ErrorKind::NotFound => return Ok(()),
         Err(error) => return Err(error),
     }
@@ -147,7 +148,7 @@ fn ring<R: Files<File = File>>(rt: &R, alloc: Global, channel: &str) -> io::Resu
     Ok(())
 }
 
-/// A byte can be written to the FIFO without waiting.
+/// Reports whether a byte can be written to the FIFO without waiting.
 fn has_room(file: &File) -> io::Result<bool> {
     let mut asked = [pollfd {
         fd: file.as_raw_fd(),

@@ -1,5 +1,5 @@
-//! Growths are refused in turn, on heaps of more and more room: what is answered is lack of memory, and what was written
-//! is a front of the lines. With room each call gives what it has to.
+//! Fails allocations one after another, on heaps with more and more room: the answer is lack of memory, and what was
+//! written is a prefix of the lines. With enough room each call returns what it must.
 
 use crate::hosts::given_host;
 use crate::order_tests::rc_over;
@@ -7,9 +7,9 @@ use crate::run_tests::PLAIN;
 use crate::texts::{END, NET, NINE, SHOWN_NINE, header_of, joined, scripts_of, shown};
 use init_words::{Level, Memory};
 use linked_list_allocator::LocalHeap;
+use lsb_header::HeaderFault;
 use program_io::{KeptTexts, Reports, Texts};
 use rc_driver::{Arg, LevelChange, RcStep, RunEnd, ScriptOptions, run_links};
-use rc_header::HeaderFault;
 use rc_links::{Folder, FolderEntry, LinkChange, Plan, PlanFault, Script};
 use std::alloc::{Allocator, Global};
 use std::io::ErrorKind;
@@ -39,7 +39,7 @@ fn plan_of<A: Allocator + Copy>(
     }
 }
 
-/// A plan is made of scripts, or it is printed too.
+/// Plans scripts, and also prints the plan if `is_printed` is set.
 fn plan(global: Global, heap: &LocalHeap, is_printed: bool) -> Option<Outcome> {
     let Some(scripts) = scripts_of(heap) else {
         return Some(Unmade);
@@ -55,7 +55,7 @@ fn plan(global: Global, heap: &LocalHeap, is_printed: bool) -> Option<Outcome> {
     }
 }
 
-/// The facility `$all` is put in front of the scripts. Where there is no room for it, they stay.
+/// Inserts the facility `$all` before the scripts. They are unchanged if there is no room for it.
 fn add_all(heap: &LocalHeap) -> Option<Outcome> {
     let Some(mut scripts) = scripts_of(heap) else {
         return Some(Unmade);
@@ -67,7 +67,7 @@ fn add_all(heap: &LocalHeap) -> Option<Outcome> {
     is_right.then_some(Outcome::of(is_added))
 }
 
-/// One entry; None where there is no room for it.
+/// Returns one entry, or `None` if there is no room for it.
 fn entries_of<A: Allocator + Copy>(alloc: A, name: &[u8]) -> Option<Vec<FolderEntry<A>, A>> {
     let mut entries = Vec::new(alloc);
     let name = Vec::from_slice(alloc, name).ok()?;
@@ -76,7 +76,8 @@ fn entries_of<A: Allocator + Copy>(alloc: A, name: &[u8]) -> Option<Vec<FolderEn
     Some(entries)
 }
 
-/// The changes of a folder that needs one removal and one making; None where there is no room for the folder.
+/// Returns the changes of a folder that needs one removal and one creation, or `None` if there is no room for the
+/// folder.
 fn changes_on<A: Allocator + Copy>(alloc: A) -> Option<Result<Vec<LinkChange<A>, A>, Memory>> {
     let (planned, held) = (entries_of(alloc, b"S01net")?, entries_of(alloc, b"S20net")?);
     let mut folders = Vec::new(alloc);
@@ -96,7 +97,7 @@ fn change(heap: &LocalHeap) -> Option<Outcome> {
     }
 }
 
-/// A text is kept at `b` behind one at `a`. Where there is no room for it, the first stands alone.
+/// Keeps a text at `b` after one at `a`. If there is no room for it, only the first is kept.
 fn keep(global: Global, heap: &LocalHeap) -> Option<Outcome> {
     let mut stored = KeptTexts::new(heap);
     if stored.keep("a", NET).is_err() {
@@ -134,8 +135,8 @@ const WAY: ScriptOptions = ScriptOptions {
 
 const LINES: &[u8] = b"K05c stop exit 0\nS10a start exit 0\nS20b start exit 0\n";
 
-/// Whether scripts that all end with 0 have room to run on a heap; where they have none, what was written is a front of
-/// the lines. None where anything else is so.
+/// Reports whether scripts that all exit with status 0 have room to run on a heap. If they do not, a prefix of the
+/// lines was written. Returns `None` if anything else happens.
 fn is_run(global: Global, heap: &LocalHeap) -> Option<bool> {
     let new = line_words(global, "S10a S20b K05c").ok()?;
     let mut rc = rc_over(global, global, "", &[], &new).ok()?;
@@ -157,7 +158,7 @@ fn is_run(global: Global, heap: &LocalHeap) -> Option<bool> {
     (end == RunEnd::Memory && LINES.starts_with(&out)).then_some(false)
 }
 
-/// Whether the scripts of a change of level have room on a heap to be listed.
+/// Reports whether there is room on a heap to list the scripts for a change of level.
 fn is_listed(global: Global, heap: &LocalHeap, change: &str, previous: &str) -> Option<bool> {
     let previous = line_words(global, previous).ok()?;
     let new = line_words(global, "S10a S20b K05c K70d").ok()?;
@@ -182,7 +183,7 @@ fn outcome_on(global: Global, heap: &LocalHeap, what: &str) -> Option<Outcome> {
     }
 }
 
-/// What needs room, and on how many heaps at least it has none.
+/// The calls that need room, and a number of heaps: each call must fail on more heaps than that.
 const REFUSED: &[(&str, usize)] = &[
     ("header", 4),
     ("plan", 4),

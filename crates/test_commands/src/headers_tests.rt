@@ -1,17 +1,17 @@
-//! Headers are read, and faults told.
+//! Tests of reading headers and reporting their faults.
 
 use crate::texts::{END, NINE, header_of, joined, shown};
 use init_words::Memory;
-use rc_header::HeaderFault::{self, BadLine, NoBegin, NoEnd, NoProvides, Twice};
-use rc_header::{Keyword, second_keyword_line};
+use lsb_header::HeaderFault::{self, BadLine, NoBegin, NoEnd, NoProvides, Twice};
+use lsb_header::{Keyword, second_keyword_line};
 use std::alloc::Global;
 use std::test::Fail;
 use test_support::difference;
 
-/// Lines, and what is shown of the header that has them, or its fault.
+/// Lines, and the header that has them as text, or its fault.
 type Row = (&'static [u8], Result<&'static [u8], HeaderFault>);
 
-/// In front of lines and behind them; and the lines.
+/// Text before the lines, the lines, and text after them.
 const TEXTS: &[(&[u8], &[Row], &[u8])] = &[
     (b"### BEGIN INIT INFO\n", HEADERS, END),
     (
@@ -23,17 +23,17 @@ const TEXTS: &[(&[u8], &[Row], &[u8])] = &[
 ];
 
 const HEADERS: &[Row] = &[
-    // Nothing after the '#' but blanks and tabs.
+    // A '#' followed only by blanks and tabs.
     (
         b"#\n# \n#\t\n# \t \n# Provides: a\n#   \n",
         Ok(b" a////////"),
     ),
-    // Indented lines that continue no description.
+    // Indented lines that do not continue a description.
     (
         b"#\tx\n#  Provides: b\n# Provides: a\n#  c\n",
         Ok(b" a////////"),
     ),
-    // Indented lines that continue one, empty comments among them.
+    // Indented lines that continue a description, with empty comments among them.
     (
         b"# Provides: a\n# Description:\t one \n#\n#\ttwo\t\n# \t\n#   three: 3\n",
         Ok(b" a////////one two three: 3"),
@@ -42,32 +42,33 @@ const HEADERS: &[Row] = &[
         b"# Provides: a\n# Description:\n#  b\n",
         Ok(b" a//////// b"),
     ),
-    // A line of another keyword ends it.
+    // A line with another keyword ends the description.
     (
         b"# Description: one\n#  two\n# X-End: x\n#  three\n# Provides: a\n",
         Ok(b" a////////one two"),
     ),
-    // Words at blanks and tabs, with none after the colon; a colon among them; any ASCII case.
+    // Words are separated by blanks and tabs, the first may follow the colon directly, and may contain a colon;
+    // keywords are in any ASCII case.
     (
         b"# pROVIDES:web\twww \t a:b\n# SHOULD-STOP:\tc\n",
         Ok(b" web www a:b//// c////"),
     ),
-    // Another keyword is ignored, a second time too.
+    // Other keywords are ignored, even if they occur twice.
     (
         b"# X-Own: b\n# Provides: a\n# X-Own: c\n# Prov: d\n",
         Ok(b" a////////"),
     ),
-    // Words that name no runlevel are ignored, and one that is there twice stays.
+    // Words that are not runlevels are ignored, and one that occurs twice is kept twice.
     (
         b"# Provides: a\n# Default-Start: 3 x 3 10 A 9 -1\n# Default-Stop: S s 0\n",
         Ok(b" a/////339/SS0//"),
     ),
-    // The rest of the line, with its inner blanks.
+    // The rest of the line, including its inner blanks.
     (
         b"# Short-Description: \t short  text: \t\n# Provides: a\n",
         Ok(b" a///////short  text:/"),
     ),
-    // Text that is UTF-8.
+    // Text in UTF-8.
     (
         b"# Provides: \xc3\xa9\n# x\xe2\x82\xac: b\n",
         Ok(b" \xc3\xa9////////"),
@@ -84,7 +85,7 @@ const HEADERS: &[Row] = &[
     ),
 ];
 
-/// Lines of no form that a header has, as its third; the last four are not UTF-8, in each form.
+/// Lines with none of the forms of a header line, as its third line. The last four are not UTF-8, one in each form.
 const BAD_LINES: &[Row] = &[
     (b"", Err(BadLine(3))),
     (b" ", Err(BadLine(3))),
@@ -162,7 +163,7 @@ const WHOLE: &[Row] = &[
         b"### BEGIN INIT INFO\n# Provides: a\n### END INIT INFO",
         Ok(b" a////////"),
     ),
-    // Behind the words of the last line blanks and tabs alone are passed over.
+    // Only blanks and tabs are ignored after the words of the last line.
     (
         b"### BEGIN INIT INFO\n# Provides: a\n### END INIT INFO#\nx\n### END INIT INFO\n",
         Err(BadLine(3)),
@@ -190,7 +191,7 @@ const WHOLE: &[Row] = &[
     ),
 ];
 
-/// What is shown of a header, or its fault behind a mark.
+/// Returns the text of a header, or its fault after a mark.
 fn shown_text(global: Global, read: Result<&[u8], HeaderFault>) -> Result<Vec<u8>, Memory> {
     match read {
         Ok(shown) => Ok(Vec::from_slice(global, shown)?),
@@ -198,7 +199,7 @@ fn shown_text(global: Global, read: Result<&[u8], HeaderFault>) -> Result<Vec<u8
     }
 }
 
-/// In what the header of a text differs from this; nothing where it is read so.
+/// Returns the difference between the header of a text and the expected one; empty if there is none.
 fn header_difference(
     global: Global,
     text: &[u8],
@@ -225,7 +226,7 @@ fn headers_are_read(rt: HostRuntime) -> Result<(), Fail> {
     Ok(())
 }
 
-/// A keyword, as it is written and in capitals.
+/// A keyword, as written and in capitals.
 const KEYWORDS: &[(&str, &[u8], Keyword)] = &[
     ("Provides", b"PROVIDES", Keyword::Provides),
     ("Required-Start", b"REQUIRED-START", Keyword::RequiredStart),
@@ -242,7 +243,8 @@ const KEYWORDS: &[(&str, &[u8], Keyword)] = &[
     ("Description", b"DESCRIPTION", Keyword::Description),
 ];
 
-/// The keyword has these words, and is found where it stands a second time, in line 12 of a text, before a bad line.
+/// Reports whether the keyword is written like this, and is found where it occurs for the second time, in line 12 of a
+/// text, before a bad line.
 fn is_keyword(global: Global, word: &str, shout: &[u8], keyword: Keyword) -> Result<bool, Fail> {
     let text = joined(global, &[NINE, b"# ", word.as_bytes(), b": x\n?\n", END])?;
     let told = format!(in global; "{keyword}")?;
@@ -264,7 +266,7 @@ fn each_keyword_has_its_field(rt: HostRuntime) -> Result<(), Fail> {
     Ok(())
 }
 
-/// A keyword's second line, where it has one.
+/// The second line with a keyword, if there is one.
 const SECOND_LINES: &[(&[u8], Option<usize>)] = &[
     (
         b"#\n### BEGIN INIT INFO\n# Provides: a\n# PROVIDES: b\n# Provides: c\n### END INIT INFO\n",
@@ -301,7 +303,7 @@ const FAULT_TEXTS: &[(HeaderFault, &str)] = &[
         BadLine(12),
         "line 12: neither \"# Keyword: words\" nor \"#  text\" in UTF-8",
     ),
-    (Twice(Keyword::ShouldStart), "Should-Start stands twice"),
+    (Twice(Keyword::ShouldStart), "Should-Start appears twice"),
     (NoProvides, "no name after \"# Provides:\""),
     (HeaderFault::Memory, "out of memory"),
 ];

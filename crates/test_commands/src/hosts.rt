@@ -1,4 +1,4 @@
-//! Scripted hosts: what they are given, and the letters of the calls that were made of them.
+//! Scripted hosts: the replies they are given as text, and the letters of the calls that were made.
 
 use host_calls::{Call, Host, HostFault, Reply};
 use host_scripted::MemoryHost;
@@ -6,7 +6,7 @@ use init_words::{Answer, ChildNumber, Id, Memory, SignalKind, Status};
 use std::alloc::{AllocError, Global};
 use test_support::boxed;
 
-/// The fields of a row, parted by `|`.
+/// Returns the fields of a row, which are separated by `|`.
 pub(crate) fn fields_of<'r>(global: Global, row: &'r str) -> Result<Vec<&'r str>, AllocError> {
     let mut fields = Vec::new(global);
     for field in row.split('|') {
@@ -15,7 +15,8 @@ pub(crate) fn fields_of<'r>(global: Global, row: &'r str) -> Result<Vec<&'r str>
     Ok(fields)
 }
 
-/// The answer of a letter: `b`orn, `n`ot born, `e`nded with 0, `t`hree, `k`illed, `a`live, `o` that a look failed.
+/// Returns the answer for a letter: `b`orn, `n`ot born, `e`nded with 0, `t`hree, `k`illed, `a`live, `o` for a look that
+/// failed.
 fn answer_of(letter: u8) -> Answer {
     match letter {
         b'b' => Answer::Born(ChildNumber(7)),
@@ -69,8 +70,8 @@ fn new_host(global: Global) -> Result<Box<MemoryHost>, AllocError> {
     boxed(global, MemoryHost::new(global))
 }
 
-/// A host that is given this, parted by `/`: replies to starts and to looks, and late answers, each a letter, `l` for
-/// later and `-` for no late answer; and readings of the clock, of which what is no number fails.
+/// Creates a host from lists separated by `/`: replies to starts and to looks, and late answers, each a letter, with
+/// `l` for later and `-` for no late answer; and readings of the clock, of which everything that is not a number fails.
 pub(crate) fn given_host(global: Global, given: &str) -> Option<Box<MemoryHost>> {
     let mut parts = given.split('/');
     let (starts, looks) = (parts.next()?, parts.next()?);
@@ -80,7 +81,7 @@ pub(crate) fn given_host(global: Global, given: &str) -> Option<Box<MemoryHost>>
     Some(host)
 }
 
-/// A call's letter: `S`tart, `L`ook, `P`ause, l`A`te, `C`lock, `T`ERM, `K`ILL.
+/// Returns the letter of a call: `S`tart, `L`ook, `P`ause, l`A`te, `C`lock, `T`ERM, `K`ILL.
 fn letter_of(call: &Call) -> u8 {
     match call {
         Call::Start(_, _, _) => b'S',
@@ -94,7 +95,7 @@ fn letter_of(call: &Call) -> u8 {
     }
 }
 
-/// The letters of the calls that were made of the host.
+/// Returns the letters of the calls that were made to the host.
 pub(crate) fn calls_of(global: Global, host: &MemoryHost) -> Result<Vec<u8>, AllocError> {
     let mut letters = Vec::new(global);
     for call in host.calls().unwrap_or(&[]) {
@@ -103,7 +104,7 @@ pub(crate) fn calls_of(global: Global, host: &MemoryHost) -> Result<Vec<u8>, All
     Ok(letters)
 }
 
-/// The first call that was made of the host starts this command, under the id of rc.
+/// Reports whether the first call to the host starts this command, under the id of rc.
 pub(crate) fn begins_with(host: &MemoryHost, want: &str) -> bool {
     match host.calls().unwrap_or(&[]) {
         [Call::Start(id, command, _), ..] => {

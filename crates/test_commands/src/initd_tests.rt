@@ -1,5 +1,5 @@
-//! Whole command lines of initd over texts that are kept in memory, a scripted host and writers that fail. What else initd
-//! answers to a command line: tools/rows/initd-lines, tools/pages.d/initd-lines.
+//! Complete command lines of initd, with texts that are kept in memory, a scripted host and writers that fail. Other
+//! command lines of initd are tested in tools/rows/initd-lines and tools/pages.d/initd-lines.
 
 ghost use Rattle.std.specs.Prelude.{⊤, None, option_and_then};
 
@@ -14,14 +14,14 @@ use program_io::{ChannelLock, KeptTexts, Reports};
 use std::alloc::Global;
 use std::fs;
 use std::test::Fail;
-use test_support::{Slow, boxed, fields_of, host_of, letters_of, line_words, row_difference};
+use test_support::{Slow, boxed, calls_of, fields_of, host_of, line_words, row_difference};
 use trace_files::OsTraces;
 
-/// A source of one host, which is there again behind the turns.
+/// A source of one host, which is available again after the turns.
 #[derive(Drop)]
 struct OneHost {
     host: Option<MemoryHost>,
-    /// All could be printed.
+    /// Whether everything could be printed.
     printed: bool,
 }
 
@@ -55,67 +55,72 @@ fn source_of(alloc: Global, given: &str, printed: bool) -> Option<Box<OneHost>> 
     boxed(alloc, OneHost { host, printed }).ok()
 }
 
-/// A command line over the inittab `tab` and the script `said`; its status; how many clocks are read, starts made and pauses
-/// made, a pause behind each turn, and whether something can't be printed; the inittab; what the host is given; what is
-/// printed, and what is reported, `?` where that is not asked.
+/// A command line with the inittab `tab` and the script `said`; its status; the numbers of readings of the clock,
+/// starts and pauses, one after each turn, and whether something can't be printed; the inittab; what the host is given;
+/// the output and the report, `?` if they are not checked.
 const ROWS: &[&str] = &[
-    // Each turn reads the clock once, and a pause comes behind it.
+    // Each turn reads the clock once, and a pause follows it.
     "run --inittab tab --initctl host-ctl --level 3 --turns 3 | 3 | 3 1 3 | o:3:once:x\n | start later | - | ?",
-    // A run that ends drained makes no further turn.
+    // A run with --drain makes no further turn once it is drained.
     "run --inittab tab --initctl host-ctl --level 3 --drain --result o | 5 | 2 1 2 | o:3:once:x\n | start birth 7 / \
      look exit 5 | - | ?",
-    // One whose announcements could not be printed goes on to its end, and ends with 4.
-    "run --inittab tab --initctl host-ctl --level 3 --drain | 4 | 2 1 2 unprinted | o:3:once:x\n | start birth 7 / \
-     look exit 0 | - | initd: not all that init announces could be written\n",
-    // A strict run takes an inittab without faults.
+    // A run whose announcements could not be printed continues to its end, and exits with status 4.
+    "run --inittab tab --initctl host-ctl --level 3 --drain | 4 | 2 1 2 unprinted | o:3:once:x\n \
+     | start birth 7 / look exit 0 | - | initd: some announcements could not be written\n",
+    // A strict run accepts an inittab without faults.
     "run --inittab tab --initctl host-ctl --level 3 --turns 3 --strict | 3 | 3 1 3 | o:3:once:x\n | start later | - | \
      ?",
-    // A run that is refused asks nothing: a strict one for a faulty line, one that is to have the result of no entry.
+    // A run that is rejected makes no calls: a strict one because of a faulty line, and one that is to have the result
+    // of no entry.
     "run --inittab tab --initctl host-ctl --level 3 --turns 3 --strict | 1 | 0 0 0 | o:3:once:x\np:3:onse:x\n | start \
      later | ? | ?",
     "run --inittab tab --initctl host-ctl --level 3 --turns 3 --result p | 1 | 0 0 0 | o:3:once:x\n | start later | - \
      | ?",
     "run --inittab absent --initctl host-ctl | 4 | 0 0 0 | - | - | - | initd: cannot read absent: entity not found\n",
     // What init waits for at the limit of turns.
-    "run --inittab tab --initctl host-ctl --level 3 --turns 2 | 3 | 2 1 2 | w:3:wait:x\n | start later | - | initd: \
-     the limit of turns is reached\ninitd: level 3 waits for an answer about w\n",
-    "run --inittab tab --initctl host-ctl --level 3 --turns 2 | 3 | 2 2 2 | o:3:once:x\nw:3:wait:y\n | start later / \
-     start birth 7 | - | initd: the limit of turns is reached\ninitd: still running: w 7\ninitd: level 3 waits for an \
-     answer about o\ninitd: level 3 waits for w: init waits for its end (7)\n",
-    "run --inittab tab --initctl host-ctl --level 3 --turns 2 | 3 | 2 1 2 | b::boot:x\nw:3:wait:y\n | start later | - \
-     | initd: the limit of turns is reached\ninitd: boot waits for an answer about b\n",
-    // A run that is judged, and one that isn't, over a host that breaks a law: a second child of an entry is born. In the
-    // second turn init is asked to re-execute itself, and the state comes back that it is in then, but that the record has
-    // no child.
-    "run --inittab tab --initctl host-ctl --level S --turns 2 --judge | 2 | 2 2 2 | r:S:respawn:x\n | start birth 10 \
-     / start birth 11 / bytes / bytes u / carry initd-state 2|generation 1|clock 0|stage S 5|goal S 5|flags 00|wish \
-     00 - 000 000|table 1|r:S:respawn:x|slot r - - - - 0000 - - -|end 10 | - | initd: the limit of turns is \
-     reached\ninitd: still running: r 11\ninitd: the run was unlawful: happening 14: the id has an unreaped child\n",
-    "run --inittab tab --initctl host-ctl --level S --turns 2 | 3 | 2 2 2 | r:S:respawn:x\n | start birth 10 / start \
-     birth 11 / bytes / bytes u / carry initd-state 2|generation 1|clock 0|stage S 5|goal S 5|flags 00|wish 00 - 000 \
-     000|table 1|r:S:respawn:x|slot r - - - - 0000 - - -|end 10 | - | initd: the limit of turns is reached\ninitd: \
-     still running: r 11\n",
+    "run --inittab tab --initctl host-ctl --level 3 --turns 2 | 3 | 2 1 2 | w:3:wait:x\n | start \
+     later | - | initd: turn limit reached\ninitd: level 3 is waiting for an answer about w\n",
+    "run --inittab tab --initctl host-ctl --level 3 --turns 2 | 3 | 2 2 2 | \
+     o:3:once:x\nw:3:wait:y\n | start later / start birth 7 | - | initd: turn limit \
+     reached\ninitd: still running: w 7\ninitd: level 3 is waiting for an answer about o\ninitd: \
+     level 3 is waiting for w: init waits until it exits (7)\n",
+    "run --inittab tab --initctl host-ctl --level 3 --turns 2 | 3 | 2 1 2 | \
+     b::boot:x\nw:3:wait:y\n | start later | - | initd: turn limit reached\ninitd: boot is \
+     waiting for an answer about b\n",
+    // A run with --judge, and one without, on a host that breaks a law: a second child of an entry is born. In the
+    // second turn init is asked to re-execute itself, and its present state comes back, except that the record has no
+    // child.
+    "run --inittab tab --initctl host-ctl --level S --turns 2 --judge | 2 | 2 2 2 | \
+     r:S:respawn:x\n | start birth 10 / start birth 11 / bytes / bytes u / carry initd-state \
+     2|generation 1|clock 0|stage S 5|goal S 5|flags 00|wish 00 - 000 000|table \
+     1|r:S:respawn:x|slot r - - - - 0000 - - -|end 10 | - | initd: turn limit reached\ninitd: \
+     still running: r 11\ninitd: the run was unlawful: happening 14: the id has an unreaped \
+     child\n",
+    "run --inittab tab --initctl host-ctl --level S --turns 2 | 3 | 2 2 2 | r:S:respawn:x\n | \
+     start birth 10 / start birth 11 / bytes / bytes u / carry initd-state 2|generation 1|clock \
+     0|stage S 5|goal S 5|flags 00|wish 00 - 000 000|table 1|r:S:respawn:x|slot r - - - - 0000 - \
+     - -|end 10 | - | initd: turn limit reached\ninitd: still running: r 11\n",
     // A run without a child.
-    "run --inittab tab --initctl host-ctl --turns 9 --drain | 0 | 1 0 1 | a:S:off:\nb:S:once\n | - | initd: inittab \
-     line 2: too few fields\n | initd: the inittab names no level (initdefault), and --level is not given: init goes \
-     to level S\n",
+    "run --inittab tab --initctl host-ctl --turns 9 --drain | 0 | 1 0 1 | a:S:off:\nb:S:once\n | \
+     - | initd: inittab line 2: too few fields\n | initd: the inittab has no initdefault level \
+     and --level is not given; going to level S\n",
 ];
 
-/// How many clocks, starts and pauses the host was asked for.
+/// Returns the numbers of readings of the clock, starts and pauses that the host was asked for.
 fn counts_of(global: Global, one: &OneHost) -> Option<String> {
-    let letters = letters_of(global, one.host.as_ref()?)?;
-    let clocks = letters.matches('C').count();
-    let starts = letters.matches('S').count();
-    let pauses = letters.matches('P').count();
+    let calls = calls_of(global, one.host.as_ref()?)?;
+    let clocks = calls.matches("clock\n").count();
+    let starts = calls.matches("start ").count();
+    let pauses = calls.matches("pause\n").count();
     format!(in global; "{clocks} {starts} {pauses}").ok()
 }
 
-/// The text that is wanted: what was got, where none is asked.
+/// Returns the expected text, which is the actual one if it is not checked.
 fn wanted<'t>(got: &'t [u8], want: &'t str) -> &'t [u8] {
     if want == "?" { got } else { want.as_bytes() }
 }
 
-/// In what the answer to the line of a row differs from the row; nothing where it is as the row says.
+/// Returns the difference between the answer to a row's command line and the row; empty if there is none.
 fn answer_difference(rt: &HostRuntime, row: &str, out: &mut Slow) -> Option<String> {
     let alloc = rt.alloc();
     let fields = fields_of(alloc, row).ok()?;
@@ -169,7 +174,7 @@ fn lines_are_answered(rt: HostRuntime) -> Result<(), Fail> {
     Ok(())
 }
 
-/// A run of three turns whose trace goes to the file `host-trace`, and that trace.
+/// A run of three turns whose trace is written to the file `host-trace`, and that trace.
 const TRACED: &[(&str, &[u8])] = &[
     (
         "run --inittab tab --initctl host-ctl --level 3 --turns 3 --trace host-trace",
@@ -181,7 +186,7 @@ const TRACED: &[(&str, &[u8])] = &[
     ),
 ];
 
-/// What the file of the trace has behind a run.
+/// Returns the contents of the trace's file after a run.
 fn traced(rt: &HostRuntime, line: &str) -> Result<Vec<u8>, Fail> {
     let alloc = rt.alloc();
     let mut stored = KeptTexts::new(alloc);
@@ -217,7 +222,8 @@ fn the_file_of_a_trace_has_its_text(rt: HostRuntime) -> Result<(), Fail> {
 
 const SCRIPT: &[u8] = b"birth w 10\ntold w\nnudge\n";
 
-/// A run whose trace is written whole, and one of which a write fails: that is reported, and what is written stays.
+/// A run whose trace is written completely, and one during which a write fails: that is reported, and what was written
+/// remains.
 const WRITTEN: &str =
     "simulate tab said | 0 | 0 0 0 | id:3:initdefault:\nw:3:wait:prep\nr:3:respawn:serv\n | - | ? | -";
 
@@ -229,7 +235,7 @@ const TRACE: &[u8] =
     b"use 3\nid:3:initdefault:\nw:3:wait:prep\nr:3:respawn:serv\nenter sysinit 5\nenter boot 5\nenter 3 5\n\
     ask w start\nbirth w 10\ntold w\nnudge\nask w look\n";
 
-/// The room of a writer that fails or takes nothing where it is full, or can't be flushed.
+/// The room of a writer that fails or accepts nothing when it is full, or can't be flushed.
 const ROOMS: &[usize] = &[100_000, 0, 1, 5, 6, 60, 77, 100, 121];
 
 #[test]

@@ -1,4 +1,5 @@
-//! Writers and readers that give or take little at a time, or fail in the middle, and the words of a program.
+//! Tests of writers and readers that accept or return little at a time, or fail in the middle, and of the arguments of
+//! a program.
 
 use program_io::{
     Reports, only_byte, read_all, report_unread_words, unread_status, words, write_texts,
@@ -11,7 +12,7 @@ use std::process::Abort;
 use telinit_command::SHORT_USAGE;
 use test_support::Slow;
 
-/// Room, whether a full writer fails, and how the write of `request` ends and what is taken of it.
+/// The room, whether a full writer fails, how writing `request` ends, and what is written of it.
 const WRITES: &[(usize, bool, Option<ErrorKind>, &[u8])] = &[
     (9, false, None, b"request"),
     (7, false, None, b"request"),
@@ -22,7 +23,7 @@ const WRITES: &[(usize, bool, Option<ErrorKind>, &[u8])] = &[
     (0, true, Some(ErrorKind::BrokenPipe), b""),
 ];
 
-/// How the write of `request` ends, in its parts.
+/// Returns how writing `request` in parts ends.
 fn fault_at(slow: &mut Slow) -> Option<ErrorKind> {
     match write_texts(slow, &["req", "", "uest"]) {
         Ok(()) => None,
@@ -39,7 +40,7 @@ fn slow_writers_take_it_all(rt: HostRuntime) {
     }
 }
 
-/// A reader that gives one byte a read, `x`, `remaining` times. Then it fails, or is at its end.
+/// A reader that returns the byte `x`, one per read, `remaining` times. Then it fails, or is at its end.
 #[derive(Drop)]
 struct Drops {
     remaining: usize,
@@ -63,8 +64,8 @@ impl Read for Drops {
     }
 }
 
-/// How many bytes a reader gives, whether it fails then, and how many are read or how that ends. The last of at most
-/// 1,000,000 reads is the one that gives no byte.
+/// The number of bytes that a reader returns, whether it fails then, and the number of bytes read or the error. The
+/// last of at most 1,000,000 reads is the one that returns no byte.
 const READS: &[(usize, bool, Result<usize, ErrorKind>)] = &[
     (0, false, Ok(0)),
     (7, false, Ok(7)),
@@ -74,7 +75,7 @@ const READS: &[(usize, bool, Result<usize, ErrorKind>)] = &[
     (1_000_000, false, Err(ErrorKind::FileTooLarge)),
 ];
 
-/// How many bytes were read, all `x`, or how that ended.
+/// Returns the number of bytes read, all of which must be `x`, or the error.
 fn count_of(read: io::Result<Vec<u8>>) -> Result<usize, ErrorKind> {
     match read {
         Err(error) => Err(error.kind()),
@@ -108,7 +109,7 @@ fn slow_readers_are_read_to_their_end(rt: HostRuntime) {
     }
 }
 
-/// A command line, with the program's name in front.
+/// A command line, including the program's name.
 #[derive(Clone, Copy, Drop)]
 struct Line(&'static [&'static [u8]]);
 
@@ -133,7 +134,7 @@ impl Env for Line {
     }
 }
 
-/// Command lines and the words after the name; none where a word is no UTF-8.
+/// Command lines and the arguments after the name; none if an argument is not UTF-8.
 const LINES: &[(&[&[u8]], Option<&[&str]>)] = &[
     (
         &[b"telinit", b"-t", b"0", b"", b"\xc3\xa9"],
@@ -144,7 +145,7 @@ const LINES: &[(&[&[u8]], Option<&[&str]>)] = &[
     (&[b"telinit", b"q", b"\xff"], None),
 ];
 
-/// What came of a command line is this.
+/// Reports whether reading a command line had this result.
 fn is_read(read: &io::Result<Vec<String>>, want: Option<&[&str]>) -> bool {
     match (read, want) {
         (Ok(words), Some(want)) => {
@@ -185,14 +186,14 @@ fn only_bytes(rt: HostRuntime) {
     }
 }
 
-/// A program and its usage, why its words can't be had, and the status and the text of it.
+/// A program and its usage, why its arguments are not available, and the status and the message.
 const UNREAD: &[(&str, &str, ErrorKind, u8, &str)] = &[
     (
         "telinit",
         SHORT_USAGE,
         ErrorKind::OutOfMemory,
         4,
-        "telinit: out of memory: nothing was written; free some memory and ask again\n",
+        "telinit: out of memory: nothing was written; free some memory and try again\n",
     ),
     (
         "telinit",
@@ -206,7 +207,7 @@ const UNREAD: &[(&str, &str, ErrorKind, u8, &str)] = &[
         "usage\n",
         ErrorKind::OutOfMemory,
         4,
-        "initd: out of memory: nothing was written; free some memory and ask again\n",
+        "initd: out of memory: nothing was written; free some memory and try again\n",
     ),
     ("initd", "usage\n", ErrorKind::InvalidData, 1, "usage\n"),
 ];

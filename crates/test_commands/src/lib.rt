@@ -1,7 +1,8 @@
-//! The tests of what the programs' commands do: how headers of init scripts are read, scripts numbered and their links made,
-//! and which of them rc runs, in which order, over a scripted host; and where no program shows it, command lines of initd
-//! and telinit over writers and readers that take or give little, fail or end, texts and a channel in memory. Command lines
-//! with real folders and children: tools/pages.d/rclinks-lines, rclinks, rc-lines and rc.
+//! Tests of the programs' commands: reading the headers of init scripts, numbering scripts and creating their links,
+//! and which of them rc runs, in which order, on a scripted host. Where no program can show it, also command lines of
+//! initd and telinit with writers and readers that accept or return little, fail or end, and with texts and a channel
+//! in memory. Command lines with real folders and children are in tools/pages.d/rclinks-lines, rclinks, rc-lines and
+//! rc.
 #![tactic(auto)]
 
 #[cfg(test)]

@@ -1,5 +1,5 @@
-//! Runs of rclinks over texts and folders that are kept in memory, and over writers that fail. Other command lines, and
-//! those over folders of the system: tools/pages.d/rclinks-lines and rclinks.
+//! Runs of rclinks with texts and folders that are kept in memory, and with writers that fail. Other command lines, and
+//! those with real folders, are in tools/pages.d/rclinks-lines and rclinks.
 
 use crate::hosts::fields_of;
 use crate::texts::{NET, or_difference};
@@ -14,7 +14,7 @@ use std::io;
 use std::test::Fail;
 use test_support::{Slow, first_difference, line_words};
 
-/// Paths, and the texts that are kept there. Of two at one path the first stands there.
+/// Paths, and the texts that are kept at them. If a path occurs twice, the first text is at it.
 const TEXTS: &[(&str, &[u8])] = &[
     ("a/run-net", NET),
     ("a/run-net", b"# Provides: net\n"),
@@ -34,9 +34,9 @@ const TEXTS: &[(&str, &[u8])] = &[
     ),
 ];
 
-/// An entry of a runlevel's folder in a directory: a word for it, the directory, the runlevel, its name, and where it
-/// leads. OLD0 and OLD3 are numbered links that no plan has; SWAPPED has the plan's name and leads to the other script;
-/// README and those behind it are changed by no run, but for DB, which has no script.
+/// An entry of a runlevel's folder in a directory: a word for it, the directory, the runlevel, its name, and its
+/// target. OLD0 and OLD3 are numbered links that are in no plan; SWAPPED has the plan's name and points to the other
+/// script; README and those after it are not changed by any run, except DB, which has no script.
 const ENTRIES: &[(&str, &str, Level, &str, &str)] = &[
     ("NET2", "etc", Level::L2, "S01net", "../init.d/net"),
     ("NET3", "etc", Level::L3, "S01net", "../init.d/net"),
@@ -53,9 +53,9 @@ const ENTRIES: &[(&str, &str, Level, &str, &str)] = &[
     ("TAKEN", "etc", Level::L3, "S02web", ""),
 ];
 
-/// Parted by `|`: what the folders hold; a command line; the room of the writer, behind `stuck` of one that can't be
-/// flushed; the status; what is written, VERSION for the version's line, as far as there is room; what is told; and
-/// what the folders hold then.
+/// Separated by `|`: the contents of the folders; a command line; the room of the writer, after `stuck` if it can't be
+/// flushed; the status; the output, VERSION for the version's line, up to the room; the report; and the contents of the
+/// folders afterwards.
 const ROWS: &[&str] = &[
     "|a/run-net|0|4||rclinks: cannot write\n|",
     "|a/run-net|20|4|rc3.d/S01run-net ../|rclinks: cannot write\n|",
@@ -67,9 +67,9 @@ const ROWS: &[&str] = &[
     "|run-db a/run-net|999|0|rc3.d/S01run-net ../init.d/run-net\nrc3.d/S02run-db ../init.d/run-db\n||",
     "|run-bad|999|1||rclinks: bad header: run-bad\nrclinks: run-bad: no line \"### BEGIN INIT INFO\"\n|",
     "|run-db|999|1||rclinks: missing: net\nrclinks: run-db: Required-Start names net, which no file provides\n|",
-    "|run+net|999|1||rclinks: bad header: run+net\n\
-     rclinks: run+net: the name of a script has bytes of A-Z a-z 0-9 . _ - alone\n|",
-    // A path is that of a text only as it was given.
+    "|run+net|999|1||rclinks: bad header: run+net\nrclinks: run+net: the name of a script may \
+     contain only A-Z a-z 0-9 . _ -\n|",
+    // A path is only known exactly as it was given.
     "|run-net|999|4||rclinks: cannot read: run-net\nrclinks: run-net: entity not found\n|",
     "|--write etc init.d/net init.d/web|999|0|||NET0 NET2 NET3 WEB3",
     "NET0 NET2 NET3 WEB3|--write etc init.d/net init.d/web|999|0|||NET0 NET2 NET3 WEB3",
@@ -79,14 +79,16 @@ const ROWS: &[&str] = &[
      make rc2.d/S01net ../init.d/net\nremove rc3.d/S01net ../init.d/web\nmake rc3.d/S01net ../init.d/net\n\
      make rc3.d/S02web ../init.d/web\n||SWAPPED",
     "SWAPPED|--write etc init.d/net init.d/web|999|0|||NET0 NET2 NET3 WEB3",
-    "OLD0 TAKEN|--write etc init.d/net init.d/web|999|1||rclinks: etc/rc3.d/S02web: \
-     it is no link to a planned script, and the plan needs the name: move it away; nothing was changed\n|OLD0 TAKEN",
+    "OLD0 TAKEN|--write etc init.d/net init.d/web|999|1||rclinks: etc/rc3.d/S02web: not a link \
+     to a planned script, but the plan needs this name; nothing was changed: move it away\n|OLD0 \
+     TAKEN",
     "OLD0|--write etc init.d/net run-bad|999|1||\
      rclinks: bad header: run-bad\nrclinks: run-bad: no line \"### BEGIN INIT INFO\"\n|OLD0",
     "OLD0|-n init.d/net|999|0|\
      rc0.d/K01net ../init.d/net\nrc2.d/S01net ../init.d/net\nrc3.d/S01net ../init.d/net\n||OLD0",
-    "OLD0 OLD3|--write etc --skip run-bad init.d/net|999|0||rclinks: bad header: run-bad\n\
-     rclinks: run-bad: no line \"### BEGIN INIT INFO\"\nrclinks: run-bad: left out\n|OLD0 NET0 NET2 NET3",
+    "OLD0 OLD3|--write etc --skip run-bad init.d/net|999|0||rclinks: bad header: \
+     run-bad\nrclinks: run-bad: no line \"### BEGIN INIT INFO\"\nrclinks: run-bad: skipped\n|OLD0 \
+     NET0 NET2 NET3",
     // A script that has links stays in their runlevels.
     "OLD3|--keep --write etc init.d/net init.d/web|999|0|||NET3 WEB3",
     "OLD0 NET2|--keep --write etc -n init.d/net init.d/web|999|0|\
@@ -118,7 +120,7 @@ impl Link {
     }
 }
 
-/// The folders of the runlevels in memory, without `init.d`. Nothing is known of them.
+/// The folders of the runlevels in memory, without `init.d`. The contracts do not know their contents.
 #[derive(Drop)]
 struct Links {
     links: Vec<Link>,
@@ -189,7 +191,8 @@ fn links_of(global: Global, words: &str) -> Result<Links, AllocError> {
     Ok(links)
 }
 
-/// The folder of a runlevel in a directory holds just those of these entries that are its own, in order.
+/// Reports whether the folder of a runlevel in a directory holds exactly those of these entries that belong to it, in
+/// order.
 fn holds(
     global: Global,
     links: &Links,
@@ -224,7 +227,7 @@ fn hold(global: Global, links: &Links, words: &str) -> bool {
     true
 }
 
-/// Each link that the folders hold, a line each.
+/// Returns each link that the folders hold, one per line.
 fn held_text(global: Global, links: &Links) -> Option<String> {
     let mut text = String::from_str(global, "the folders hold:").ok()?;
     for link in &links.links {
@@ -236,8 +239,8 @@ fn held_text(global: Global, links: &Links) -> Option<String> {
     Some(text)
 }
 
-/// In what the run of a row differs from it, with the line of the version where that is written; nothing where it is as
-/// it says.
+/// Returns the difference between the run of a row and the row, with the version's line if that is written; empty if
+/// there is none.
 fn run_difference(global: Global, texts: &KeptTexts, row: &str, version: &str) -> Option<String> {
     let fields = fields_of(global, row).ok()?;
     let [before, line, room, status, out, err, after] = *fields.as_slice() else {

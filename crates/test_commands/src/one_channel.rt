@@ -1,4 +1,4 @@
-//! A channel of requests in memory, whose room is limited.
+//! A channel of requests in memory, with limited room.
 
 use initctl_frame::BLOCK;
 use std::alloc::{AllocError, Global};
@@ -6,17 +6,17 @@ use std::io;
 use std::io::{Error, ErrorKind};
 use telinit_command::{Channels, FoundChannel};
 
-/// A channel at its path. No other one is known.
+/// The channel at its path. No other one is known.
 #[derive(Drop)]
 pub(crate) struct OneChannel {
     path: String,
     bytes: Vec<u8>,
-    /// How many more bytes it takes.
+    /// The number of bytes that it still accepts.
     room: usize,
 }
 
 impl OneChannel {
-    /// A channel of so many bytes of 1, which takes so many more.
+    /// Creates a channel with this number of bytes, all 1, and room for this number of further ones.
     pub(crate) fn new(
         alloc: Global,
         path: &str,

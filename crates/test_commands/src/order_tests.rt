@@ -1,4 +1,4 @@
-//! The scripts that are handed out, by the names in two folders.
+//! Tests of the scripts that are handed out for the names in two folders.
 
 use init_words::{Level, Memory, Status};
 use rc_driver::{Arg, LevelChange, NotAsked, Rc, RcAnswer, RcStep};
@@ -6,8 +6,8 @@ use std::alloc::{Allocator, Global};
 use std::test::Fail;
 use test_support::{boxed, line_words, row_difference};
 
-/// A change of level, as `23` or `N3`, where scripts are run as sysv-rc runs them; the names in the previous folder,
-/// and in the new one; and what is run, `-` for stop and `+` for start.
+/// A change of level, such as `23` or `N3`, if scripts are run as sysv-rc runs them; the names in the previous folder,
+/// and in the new one; and what is run, with `-` for stop and `+` for start.
 type Row = (&'static str, &'static str, &'static str, &'static str);
 
 const ROWS: &[Row] = &[
@@ -18,7 +18,7 @@ const ROWS: &[Row] = &[
         "K05c S10a S20b K90b S30d",
         "-K05c -K90b +S20b +S30d",
     ),
-    // Names that are no links.
+    // Names that are not links.
     (
         "",
         "S10a",
@@ -32,33 +32,34 @@ const ROWS: &[Row] = &[
         "S10.x K05c.sh S00_ S99-",
         "-K05c.sh +S00_ +S10.x +S99-",
     ),
-    // The digits and the rest decide in byte order; capitals come first.
+    // Links are sorted in byte order by the digits and the rest; capitals come first.
     (
         "",
         "",
         "S20a S10b S10B S09z K9Xa K10a K09b",
         "-K09b -K10a +S09z +S10B +S10b +S20a",
     ),
-    // A name that stands twice is run once.
+    // A name that occurs twice is run once.
     ("", "", "S10a K05a S10a K05a S10a", "-K05a +S10a"),
-    // A service runs already, whatever its number was; a K link of the previous level says nothing.
+    // A service that runs already is not started, whatever its number was; a K link of the previous level means
+    // nothing.
     ("", "S99a K01b", "S10a S10b", "+S10b"),
     // Two numbers of one service; it is stopped, and so started again.
     ("", "S10a", "S10a S20a K50a", "-K50a +S10a +S20a"),
     ("", "S10a", "S10a S20a K50b", "-K50b"),
-    // A K link of the new level alone stops; what the previous level started is not stopped by itself.
+    // Only a K link of the new level stops a service; what the previous level started is not stopped by itself.
     ("", "S10a S20b", "S20b", ""),
     ("", "S10ab", "S10a S10b", "+S10a +S10b"),
-    // With no level before no K link is run, and no S link is left out.
+    // If there was no previous level, no K link is run, and no S link is skipped.
     ("N2", "", "K05c S10a S20b", "+S10a +S20b"),
-    // What the level before had stopped is not stopped again, unless it was started there too.
+    // A service that the previous level had stopped is not stopped again, unless that level started it too.
     (
         "23",
         "K01c K02d S80d S10a",
         "K05c K05d K05e S10a S20b",
         "-K05d -K05e +S20b",
     ),
-    // In levels 0 and 6 the S links are stopped, behind the K links and by the same rule.
+    // In levels 0 and 6 the S links are stopped, after the K links and by the same rule.
     (
         "20",
         "S10a K20b",
@@ -70,7 +71,7 @@ const ROWS: &[Row] = &[
     ("6S", "S10a", "S10a S20b K20b", "-K20b +S20b"),
 ];
 
-/// The scripts that are run at a change of level, as LSB has it or as sysv-rc has it.
+/// Returns the scripts that are run at a change of level, by the rules of the LSB or of sysv-rc.
 pub(crate) fn rc_over<'n, A: Allocator + Copy>(
     global: Global,
     alloc: A,
@@ -94,7 +95,7 @@ fn change_of(change: &str) -> Option<LevelChange> {
     })
 }
 
-/// This script is handed out next, once; it is answered when the next was asked for.
+/// Reports whether this script is handed out next, once; it is answered when the next one was requested.
 fn is_handed_out(rc: &mut Rc, run: &str) -> bool {
     let (link, arg) = match run.strip_prefix('-') {
         Some(link) => (link, Arg::Stop),
@@ -105,7 +106,7 @@ fn is_handed_out(rc: &mut Rc, run: &str) -> bool {
         && rc.answer(RcAnswer::NotStarted) == Ok(())
 }
 
-/// The first of these scripts that is not handed out in its turn, or that there is another behind them.
+/// Returns the first of these scripts that is not handed out in order, or that another one follows them.
 fn stray_script<'r>(rc: &mut Rc, runs: &'r str) -> Option<&'r str> {
     for run in runs.split_ascii_whitespace() {
         if !is_handed_out(rc, run) {
@@ -116,7 +117,7 @@ fn stray_script<'r>(rc: &mut Rc, runs: &'r str) -> Option<&'r str> {
     if is_over { None } else { Some("the end") }
 }
 
-/// What is handed out otherwise than a row says; nothing where all is as it says.
+/// Returns the difference between the scripts handed out and a row; empty if there is none.
 fn order_difference(global: Global, row: &Row) -> Result<String, Memory> {
     let previous = line_words(global, row.1)?;
     let new = line_words(global, row.2)?;
@@ -137,7 +138,7 @@ fn scripts_are_handed_out_in_order(rt: HostRuntime) -> Result<(), Fail> {
     Ok(())
 }
 
-/// Of two scripts each is answered once, and where it was handed out alone.
+/// Reports whether each of two scripts is answered once, and only after it was handed out.
 fn are_answered_once(rc: &mut Rc) -> bool {
     let ended = RcAnswer::Ended(Status::Exit(3));
     let is_first = rc.answer(ended) == Err(NotAsked)

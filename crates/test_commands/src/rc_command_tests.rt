@@ -1,5 +1,5 @@
-//! Whole command lines of rc over a scripted host and the folders of a row: which calls a run makes of its host, and what
-//! can't be written.
+//! Complete command lines of rc with a scripted host and the folders of a row: the calls that a run makes to its host,
+//! and output that can't be written.
 
 use crate::hosts::{calls_of, fields_of, given_host};
 use crate::texts::or_difference;
@@ -12,7 +12,7 @@ use std::io::ErrorKind;
 use std::test::Fail;
 use test_support::{Slow, first_difference, line_words};
 
-/// The scripts in the folders `k/rc3.d` and so on, each behind its level. Nothing is known of them.
+/// The scripts in the folders `k/rc3.d` and so on, each after its level. The contracts do not know them.
 #[derive(Drop)]
 struct RowFolders<'r> {
     scripts: &'r str,
@@ -37,7 +37,7 @@ impl<'r> Folders for RowFolders<'r> {
     }
 }
 
-/// The file `level`, or its want. Nothing is known of it.
+/// The file `level`, if it exists. The contracts do not know it.
 #[derive(Drop)]
 struct LevelFile {
     text: Option<Vec<u8>>,
@@ -64,9 +64,9 @@ impl LevelFiles for LevelFile {
     }
 }
 
-/// Parted by `|`: a command line; the scripts in the folders `k/rc3.d` and so on; what the host is given; the room of
-/// the writer; the status; what is written, VERSION for the version's line, as far as there is room; what is told; the
-/// calls; and what the file `level` has then.
+/// Separated by `|`: a command line; the scripts in the folders `k/rc3.d` and so on; what the host is given; the room
+/// of the writer; the status; the output, VERSION for the version's line, up to the room; the report; the calls; and
+/// the contents of the file `level` afterwards.
 const ROWS: &[&str] = &[
     "k N 3|3/K05c 3/S10a 2/S10a|bb/et//|99|0|K05c stop exit 0\nS10a start exit 3\n||SLSL|",
     "--strict k N 3|3/K05c 3/S10a 2/S10a|nb/e//|99|2|K05c stop not started\nS10a start exit 0\n||SSL|",
@@ -77,17 +77,17 @@ const ROWS: &[&str] = &[
     "k 2 3|2/S99a 3/S10a 3/K05c|b/e//|99|0|K05c stop exit 0\n||SL|",
     "--strict k 2 3|3/S10a 3/K05c|b/e//|99|2|K05c stop exit 0\nS10a start not started\n||SLS|",
     "k 2 3|3/S10a 3/K05c|b/e//|99|0|K05c stop exit 0\nS10a start not started\n||SLS|",
-    // Nothing is asked of a host by a dry run, by words that are refused, and by those that ask for the version.
+    // A dry run, rejected arguments and a request for the version make no calls to a host.
     "-n k 2 3|3/K05c 3/S10a 2/S10a|///|99|0|sh k/rc3.d/K05c stop\n|||",
     "-n --strict k 2 3|3/S10a 3/K05c|b/e//|99|0|sh k/rc3.d/K05c stop\nsh k/rc3.d/S10a start\n|||",
-    "k 2|3/K05c 3/S10a 2/S10a|///|99|1||rc: a word is missing\nusage: *||",
+    "k 2|3/K05c 3/S10a 2/S10a|///|99|1||rc: missing argument\nusage: *||",
     "--version||///|99|0|VERSION|||",
     "--version||///|7|4|VERSION|rc: cannot write\n||",
-    // The level stands in its file behind a run of no script.
+    // The file has the level after a run without scripts.
     "--level-file level k 3||///|0|0||||3\n",
 ];
 
-/// Of what is told the part that is asked: the first bytes where what is wanted ends with a star.
+/// Returns the part of the report that is checked: its first bytes if the expected text ends with a star.
 fn asked_of<'t>(err: &'t [u8], want: &'t str) -> (&'t [u8], &'t [u8]) {
     match want.split_once('*') {
         Some((front, _)) => (err.get(..front.len()).unwrap_or(err), front.as_bytes()),
@@ -95,7 +95,7 @@ fn asked_of<'t>(err: &'t [u8], want: &'t str) -> (&'t [u8], &'t [u8]) {
     }
 }
 
-/// The front that the lines have room for, of the text of a row or of the line of the version where that is written.
+/// Returns the prefix for which there is room, of the text of a row or of the version's line if that is written.
 fn wanted_of<'x>(lines: &Slow, out: &'x str, version: &'x str) -> &'x [u8] {
     if out == "VERSION" {
         return lines.front_of(version);
@@ -103,7 +103,8 @@ fn wanted_of<'x>(lines: &Slow, out: &'x str, version: &'x str) -> &'x [u8] {
     lines.front_of(out)
 }
 
-/// In what a run differs from its row, with the line of the version where that is written; nothing where it is as it says.
+/// Returns the difference between a run and its row, with the version's line if that is written; empty if there is
+/// none.
 fn run_difference(global: Global, row: &str, version: &str) -> Option<String> {
     let fields = fields_of(global, row).ok()?;
     let [

@@ -1,4 +1,4 @@
-//! Runs of scripts over a scripted host, and what is printed of them.
+//! Tests of runs of scripts on a scripted host, and of their output.
 
 use crate::hosts::{begins_with, calls_of, fields_of, given_host};
 use crate::order_tests::rc_over;
@@ -11,7 +11,7 @@ use std::alloc::Global;
 use std::test::Fail;
 use test_support::{Slow, first_difference, line_words};
 
-/// By `sh`, and no start is told.
+/// With `sh`, without lines for starts.
 pub(crate) const PLAIN: ScriptOptions = ScriptOptions {
     direct: false,
     verbose: false,
@@ -19,14 +19,14 @@ pub(crate) const PLAIN: ScriptOptions = ScriptOptions {
     levels: None,
 };
 
-/// The scripts themselves, and each start is told.
+/// The scripts themselves, with lines for starts.
 const TOLD: ScriptOptions = ScriptOptions {
     direct: true,
     verbose: true,
     ..PLAIN
 };
 
-/// The scripts themselves, each with three seconds.
+/// The scripts themselves, with a limit of three seconds each.
 const TIMED: ScriptOptions = ScriptOptions {
     direct: true,
     seconds: Some(3),
@@ -43,9 +43,9 @@ const FIRST: ScriptOptions = ScriptOptions {
     ..PLAIN
 };
 
-/// Parted by `|`: how scripts are run or printed, `asked` where the first was asked for before, `stuck` over a writer
-/// that keeps its bytes; what the host is given; the limit of pauses, the room of the writer of lines and of that of
-/// reports; the end of the run, or the script that has not ended; what is written and reported, and the calls.
+/// Separated by `|`: how scripts are run or printed, with `asked` if the first was requested before, and `stuck` for a
+/// writer that keeps its bytes; what the host is given; the limit of pauses, the room of the writer of lines and of
+/// that of reports; the end of the run, or the script that has not ended; the output and the report, and the calls.
 const ROWS: &[&str] = &[
     "plain|bb/oee//|9 99 0|done|K05c stop exit 0\nS10a start exit 0\n||SLPALSL",
     "plain|lb/aek/-b-/|9 99 0|failed|K05c stop exit 0\nS10a start killed\n||SPAPALPALSL",
@@ -58,22 +58,22 @@ const ROWS: &[&str] = &[
     "plain|bb/ee//|9 0 0|write|||SL",
     "asked|///|9 99 0|waiting|||",
     "stuck|///|9 99 0|write|K05c stop not started\n||S",
-    // Each start is told.
+    // There is a line for each start.
     "told|b/e//|9 99 0|failed|K05c stop begins\nK05c stop exit 0\nS10a start begins\nS10a start not started\n||SLS",
     "told|b/e//|9 35 0|write|K05c stop begins\nK05c stop exit 0\nS||SL",
-    // The clock isn't read of a script that has ended at once.
+    // The clock is not read for a script that ends immediately.
     "timed|b/e//|99 99 200|done|S10a start exit 0\n||SL",
-    // Three seconds are within the limit; the first reading is that of its beginning.
+    // Three seconds are within the limit; the first reading is taken as the script's start.
     "timed|b/aae//40 43|99 99 200|done|S10a start exit 0\n||SLCPALCPAL",
     "timed|b/aak//40 44|99 99 200|failed|S10a start killed\n|\
      rc: x/S10a has not ended after 3 s: TERM was sent\n|SLCPALCTPAL",
-    // It is sent each signal once, and KILL behind the grace.
+    // A script is sent each signal once, and SIGKILL after the grace period.
     "timed|b/aaaaat//40 44 49 50 90|99 99 200|failed|S10a start exit 3\n|\
      rc: x/S10a has not ended after 3 s: TERM was sent\n\
      rc: x/S10a has not ended after 5 s more: KILL was sent\n|SLCPALCTPALCPALCKPALCPAL",
-    // No time passes by a clock that can't be read, nor by one that is set back.
+    // No time passes if the clock can't be read, or is set back.
     "timed|b/aaae//none 40 7|99 99 200|done|S10a start exit 0\n||SLCPALCPALCPAL",
-    // A line that can't be told ends nothing.
+    // A message that can't be written does not end the run.
     "timed|b/aaak//40 44 50|99 99 6|failed|S10a start killed\n|rc: x/|SLCPALCTPALCKPAL",
     // What would be run is printed.
     "print|///|9 99 0|done|sh x/K05c stop\nsh x/S10a start\n||",
@@ -102,7 +102,8 @@ fn rooms_of(text: &str) -> Option<(u32, usize, usize)> {
     ))
 }
 
-/// How the run ended, where so much is asked for then as at such an end; the script at which the limit was.
+/// Returns the word for how the run ended, if its next step fits that end; or the script at which the limit was
+/// reached.
 fn end_of<'e>(end: RunEnd<'e>, next: RcStep) -> &'e str {
     let is_over = next == RcStep::Done;
     match end {
@@ -112,11 +113,11 @@ fn end_of<'e>(end: RunEnd<'e>, next: RcStep) -> &'e str {
         RunEnd::Waiting if !is_over => "waiting",
         RunEnd::Write if !is_over => "write",
         RunEnd::Memory => "memory",
-        _ => "something else is asked for",
+        _ => "something else is requested",
     }
 }
 
-/// The scripts are run or printed: in what that differs from the row; nothing where it doesn't.
+/// Runs or prints the scripts. Returns the difference from the row; empty if there is none.
 fn end_difference(
     global: Global,
     rc: &mut Rc,

@@ -1,4 +1,4 @@
-//! What telinit(8) appends to a channel in memory, of which all bytes are known. What else it answers to a command line:
+//! Tests of what telinit(8) appends to a channel in memory, all of whose bytes are known. Other command lines are in
 //! tools/pages.d/telinit.
 
 use crate::one_channel::OneChannel;
@@ -9,8 +9,8 @@ use std::test::Fail;
 use telinit_command::run_words;
 use test_support::line_words;
 
-/// How many bytes a channel has, and how many more it takes; a command line, its status, and how many bytes of the request
-/// for level 3 (initreq.h) the channel has gained.
+/// The number of bytes of a channel, and of those that it still accepts; a command line, its status, and the number of
+/// bytes of the request for level 3 (initreq.h) that were appended.
 type Row = (usize, usize, &'static str, u8, usize);
 
 const ROWS: &[Row] = &[

@@ -1,12 +1,12 @@
-//! Texts of scripts, and what is read of them.
+//! Texts of scripts, and the headers and scripts in them.
 
 use init_words::Memory;
-use rc_header::{Header, HeaderFault};
+use lsb_header::{Header, HeaderFault};
 use rc_links::Script;
 use std::alloc::{Allocator, Global};
 use test_support::{boxed, difference};
 
-/// A header with something of its own for each keyword, but for its last line.
+/// A header with different words for each keyword, without its last line.
 pub(crate) const NINE: &[u8] = b"### BEGIN INIT INFO
 # Provides: a b
 # Required-Start: $c d
@@ -24,19 +24,19 @@ pub(crate) const SHOWN_NINE: &[u8] = b" a b/ $c d/ e/ f g/ h/23/06/i j/k l";
 
 pub(crate) const END: &[u8] = b"### END INIT INFO\n";
 
-/// The text of a header.
+/// Returns the text of a header.
 pub(crate) fn header_of<A: Allocator + Copy>(
     global: Global,
     alloc: A,
     text: &[u8],
 ) -> Result<Box<Header<A>>, HeaderFault> {
-    match boxed(global, rc_header::read(alloc, text)?) {
+    match boxed(global, lsb_header::read(alloc, text)?) {
         Ok(header) => Ok(header),
         Err(_) => Err(HeaderFault::Memory),
     }
 }
 
-/// Lists of words, each word with a blank before it, and a slash behind each list.
+/// Adds lists of words, each word after a blank, with a slash after each list.
 fn add_words<A: Allocator>(text: &mut Vec<u8>, words: &[String<A>]) -> Result<(), Memory> {
     for word in words {
         text.push(b' ')?;
@@ -46,7 +46,7 @@ fn add_words<A: Allocator>(text: &mut Vec<u8>, words: &[String<A>]) -> Result<()
     Ok(())
 }
 
-/// The nine fields of a header, each ended by a slash but the last.
+/// Returns the nine fields of a header, separated by slashes.
 pub(crate) fn shown<A: Allocator>(global: Global, header: &Header<A>) -> Result<Vec<u8>, Memory> {
     let mut text = Vec::new(global);
     add_words(&mut text, header.provides())?;
@@ -66,7 +66,7 @@ pub(crate) fn shown<A: Allocator>(global: Global, header: &Header<A>) -> Result<
     Ok(text)
 }
 
-/// Texts one behind another.
+/// Joins texts.
 pub(crate) fn joined(global: Global, texts: &[&[u8]]) -> Result<Vec<u8>, Memory> {
     let mut all = Vec::new(global);
     for text in texts {
@@ -82,13 +82,14 @@ const WEB: &[u8] =
 pub(crate) const NET: &[u8] =
     b"### BEGIN INIT INFO\n# Provides: net\n# Required-Start: \n# Default-Start: 3\n### END INIT INFO\n";
 
-/// The script of a name and a header; None where there is no room for it.
+/// Returns the script with a name and a header, or `None` if there is no room for it.
 fn script<A: Allocator + Copy>(alloc: A, name: &str, header: &[u8]) -> Option<Script<A>> {
-    let header = rc_header::read(alloc, header).ok()?;
+    let header = lsb_header::read(alloc, header).ok()?;
     Some(Script::new(String::from_str(alloc, name).ok()?, header))
 }
 
-/// Two scripts, of which the first requires the second, to start and to stop; None where there is no room for them.
+/// Returns two scripts, of which the first requires the second for its start and its stop, or `None` if there is no
+/// room for them.
 pub(crate) fn scripts_of<A: Allocator + Copy>(alloc: A) -> Option<Vec<Script<A>, A>> {
     let mut scripts = Vec::new(alloc);
     scripts.push(script(alloc, "web", WEB)?).ok()?;
@@ -96,7 +97,7 @@ pub(crate) fn scripts_of<A: Allocator + Copy>(alloc: A) -> Option<Vec<Script<A>,
     Some(scripts)
 }
 
-/// What was told, or else in what a text differs from the one that is wanted; nothing where it doesn't.
+/// Returns `told`, or otherwise the difference between a text and the expected one; empty if there is none.
 pub(crate) fn or_difference<'x>(
     alloc: Global,
     told: String,

@@ -1,30 +1,30 @@
-//! Turns over a log: what is left of it behind them.
+//! Tests of turns with a log: what remains of the log after them.
 
-use init_turns::Opening;
 use init_words::Level;
 use initd_command::make_turns;
 use initd_options::{RunWords, Words, read_words};
 use program_io::Reports;
 use std::alloc::Global;
 use std::test::Fail;
+use supervisor::Opening;
 use test_support::{boxed, host_of, line_words};
 use trace_log::{EndedLog, StreamLog};
 use trace_log_wrappers::BriefLog;
 
 pub(crate) const INITTAB: &[u8] = b"r:3:respawn:x\n";
 
-/// Three turns: a child is born in the first, and lives at the looks of the others.
+/// Three turns: a child is born in the first, and is alive at the looks of the others.
 pub(crate) const TRACE: &[u8] =
     b"use 1\nr:3:respawn:x\nclock 0\nnudge\nenter sysinit 5\nenter boot 5\nenter 3 5\n\
     ask r start\nbirth r 10\ntold r\nsettle 3\n\
     clock 0\nnudge\nask r look\nstill r\ntold r\nclock 0\nnudge\nask r look\nstill r\ntold r\n";
 
-/// Its brief form: of the idle rounds the last reading of the clock and the last round are left.
+/// The brief form: of the idle rounds the last reading of the clock and the last round remain.
 pub(crate) const BRIEF: &[u8] =
     b"use 1\nr:3:respawn:x\nclock 0\nnudge\nenter sysinit 5\nenter boot 5\nenter 3 5\n\
     ask r start\nbirth r 10\ntold r\nsettle 3\nclock 0\nnudge\n";
 
-/// The words of the run.
+/// Returns the arguments of the run.
 fn run_of(alloc: Global) -> Result<Box<RunWords>, Fail> {
     let words = line_words(alloc, "run --level 3 --turns 3")?;
     match read_words(alloc, words.as_slice()) {
@@ -38,12 +38,12 @@ fn opening_of(alloc: Global) -> Result<Opening, Fail> {
     Ok(Opening::new(alloc, table, Some(Level::L3))?)
 }
 
-/// What is left of the log behind the turns.
+/// Returns what remains of the log after the turns.
 fn left_of<L: EndedLog + Drop>(rt: &HostRuntime, log: L) -> Result<L::Left, Fail> {
     let alloc = rt.alloc();
     let arguments = run_of(alloc)?;
     let opening = opening_of(alloc)?;
-    // The child lives where nothing else is answered.
+    // The child is alive unless something else is answered.
     let host = host_of(alloc, alloc, "start birth 10").ok_or("no host")?;
     let mut err = Reports::to(Vec::<u8>::new(alloc));
     let (_, _, log_end) = make_turns(
@@ -58,7 +58,7 @@ fn left_of<L: EndedLog + Drop>(rt: &HostRuntime, log: L) -> Result<L::Left, Fail
     Ok(log_end)
 }
 
-/// The writer that is left has the trace, or its brief form.
+/// Tests that the remaining writer has the trace, or its brief form.
 #[test]
 fn the_writer_that_is_left_has_the_trace(rt: HostRuntime) -> Result<(), Fail> {
     let alloc = rt.alloc();

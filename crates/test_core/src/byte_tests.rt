@@ -1,34 +1,34 @@
-//! Each byte of three texts, of both versions, is changed to each other: what is left is taken over, and handed over
-//! again as it stands, or refused by the first check that fails. Each proper front of them is cut.
+//! Changes each byte of three texts, of both versions, to each other value: the result is either taken over, and handed
+//! over again unchanged, or rejected by the first check that fails. Each proper prefix of the texts is rejected as cut.
 
 use crate::handed::{handed, is_answered, taken};
 use crate::texts::{OPENING, STARTED, STARTED_OLD, text_of};
-use core_handover::StateFault::{self, Cut, Generation, Line, Unfit, Version};
-use core_steps::Core;
+use level_core::Core;
+use reexec_state::StateFault::{self, Cut, Generation, Line, Unfit, Version};
 use std::alloc::Global;
 use std::process::Abort;
 use std::test::Fail;
 
-/// Bytes that are answered alike.
+/// Bytes with the same answer.
 #[derive(Clone, Copy)]
 enum Bytes {
     These(&'static [u8]),
-    /// Those with which an id may begin.
+    /// Bytes that can begin an id.
     FirstOfId,
-    /// Those that an id may have after its first.
+    /// Bytes that can follow the first one in an id.
     OfId,
-    /// Those that are a process text of their own.
+    /// Bytes that are a process text by themselves.
     Process,
-    /// Those that a process text may have within.
+    /// Bytes that can be in a process text.
     InProcess,
-    /// All others of the line.
+    /// All other bytes for the line.
     Others,
 }
 
 use Bytes::{FirstOfId, InProcess, OfId, Others, Process, These};
 
-/// A line, counted from 1, with its columns, counted from 0: other bytes there, and what is answered. Of two rows with
-/// the byte the first holds.
+/// A line, counted from 1, with its columns, counted from 0; the bytes that replace the one there; and the answer. If
+/// two rows contain the byte, the first one counts.
 type Row = (usize, usize, usize, Bytes, Option<StateFault>);
 
 const ALL: usize = 99;
@@ -41,10 +41,10 @@ const OTHER_SECONDS: &[u8] = b"012346789";
 
 const DIGITS: &[u8] = b"0123456789";
 
-/// Runlevels and letters other than 3 that are written as they stand, and the mark for none of them.
+/// Runlevels and letters other than 3 in their written form, and the mark for none of them.
 const OTHER_MARKS: &[u8] = b"012456789SABC-";
 
-/// The fields of all texts, where no row of a text's own has the byte.
+/// The fields of all texts, for bytes that are in no row of the text itself.
 const OF_HEADS: &[Row] = &[
     (1, 0, ALL, Others, Some(Version)),
     (2, 11, 11, These(b"23456789"), Some(Generation)),
@@ -64,15 +64,15 @@ const OF_HEADS: &[Row] = &[
     (9, 0, ALL, Others, Some(Line(9))),
 ];
 
-/// The stage and the table of a core with two starts open.
+/// The stage and the table of a core with two open starts.
 const OF_TABLE: &[Row] = &[
-    // The level is the goal's.
+    // The level is that of the goal.
     (4, 6, 6, These(OTHER_LEVELS), Some(Unfit)),
     (4, 8, 8, These(OTHER_SECONDS), None),
     (5, 5, 5, These(OTHER_LEVELS), Some(Unfit)),
     (6, 6, 6, These(b"0"), None),
     (6, 7, 7, These(b"1"), None),
-    // With fewer entries the next line is that of none, and with more the first record is no entry.
+    // With fewer entries, the next line is not a record; with more, the first record is not an entry.
     (8, 6, 6, These(b"0"), Some(Line(9))),
     (8, 6, 6, These(b"1"), Some(Line(10))),
     (8, 6, 6, These(b"2"), Some(Line(11))),
@@ -84,29 +84,29 @@ const OF_TABLE: &[Row] = &[
     // Another entry has the id b.
     (10, 0, 0, These(b"b"), Some(Line(11))),
     (10, 0, 0, FirstOfId, Some(Unfit)),
-    // A start is open, and the entry doesn't start in the stage.
+    // A start is open although the entry does not start in the stage.
     (10, 2, 2, These(OTHER_MARKS), Some(Unfit)),
     (10, 12, 12, Process, None),
-    // The next entry becomes a part of the process, and a record stands where it should be.
+    // The next entry becomes part of the process, and a record is in its place.
     (10, 13, 13, InProcess, Some(Line(11))),
     (10, 0, ALL, Others, Some(Line(10))),
     (11, 0, 0, These(b"a"), Some(Line(11))),
     (11, 0, 0, FirstOfId, Some(Unfit)),
     (11, 2, 2, These(OTHER_MARKS), Some(Unfit)),
     (11, 9, 9, Process, None),
-    // The first record becomes a part of the process, and the last line says one line too many.
+    // The first record becomes part of the process, and the last line counts one line too many.
     (11, 10, 10, InProcess, Some(Line(14))),
     (11, 0, ALL, Others, Some(Line(11))),
 ];
 
-/// The records that both versions have.
+/// The records of both versions.
 const OF_RECORDS: &[Row] = &[
     (12, 5, 5, FirstOfId, Some(Unfit)),
     (12, 6, 6, OfId, Some(Unfit)),
     // A child has a number and an action.
     (12, 8, 8, These(DIGITS), Some(Unfit)),
     (12, 16, 16, These(b"1"), None),
-    // Only power and ondemand entries are called; a look and a missed signal are those of a child.
+    // Only power and ondemand entries are called; a look and a missed signal need a child.
     (12, 17, 19, These(b"1"), Some(Unfit)),
     // Only respawn and ondemand entries have starts and holds.
     (12, 21, 21, These(DIGITS), Some(Unfit)),
@@ -114,10 +114,10 @@ const OF_RECORDS: &[Row] = &[
     (12, 0, ALL, Others, Some(Line(12))),
     (13, 5, 5, FirstOfId, Some(Unfit)),
     (13, 7, 7, These(DIGITS), Some(Unfit)),
-    // A start was asked for.
+    // A start was requested.
     (13, 19, 19, These(b"0"), Some(Unfit)),
     (13, 20, 22, These(b"1"), Some(Unfit)),
-    // A hold comes after ten starts, and no start is later than now.
+    // A hold follows ten starts, and no start is later than the present.
     (13, 24, 24, These(DIGITS), Some(Unfit)),
     (13, 26, 26, These(b"123456789"), Some(Unfit)),
     (13, 26, 26, These(b"-"), None),
@@ -135,25 +135,25 @@ const OF_RECORDS: &[Row] = &[
     (15, 0, ALL, Others, Some(Line(15))),
 ];
 
-/// What version 2 alone has, or answers otherwise.
+/// The lines and answers of version 2 only.
 const OF_NEW: &[Row] = &[
-    // Records of version 1 don't say how the last child ended.
+    // Records of version 1 do not have how the last child ended.
     (1, 12, 12, These(b"1"), Some(Line(12))),
     (13, 33, 33, These(b"123456789"), None),
-    // The last line doesn't begin with its word.
+    // The last line does not begin with its word.
     (14, 34, 34, Others, Some(Cut)),
 ];
 
-/// Of version 1.
+/// The lines and answers of version 1 only.
 const OF_OLD: &[Row] = &[
-    // Records of version 2 say how the last child ended.
+    // Records of version 2 have how the last child ended.
     (1, 12, 12, These(b"2"), Some(Line(12))),
     (14, 27, 27, Others, Some(Cut)),
 ];
 
-/// Of a core that entered no stage.
+/// A core that has not entered a stage.
 const OF_OPENING: &[Row] = &[
-    // Without records both versions say the same.
+    // Without records both versions have the same text.
     (1, 12, 12, These(b"1"), None),
     (5, 5, 5, These(OTHER_LEVELS), None),
     // Boot was not entered, and no level is announced.
@@ -165,12 +165,12 @@ const OF_OPENING: &[Row] = &[
     (9, 5, 5, Others, Some(Cut)),
 ];
 
-/// The version and the lines of a text of generation 1, and the rows of its bytes.
+/// The version and the lines of a text of generation 1, and the rows for its bytes.
 type Part = (u64, &'static str, &'static [&'static [Row]]);
 
 const PARTS: &[Part] = &[
     (2, STARTED, &[OF_NEW, OF_TABLE, OF_RECORDS, OF_HEADS]),
-    // It says nothing of how the last children ended.
+    // This text does not have how the last children ended.
     (1, STARTED_OLD, &[OF_OLD, OF_TABLE, OF_RECORDS, OF_HEADS]),
     (2, OPENING, &[OF_OPENING, OF_HEADS]),
 ];
@@ -188,7 +188,7 @@ fn has(bytes: Bytes, byte: u8) -> bool {
     }
 }
 
-/// What is answered where the byte stands at this line and column. A row's columns are counted with its ends.
+/// Returns the answer for a byte at this line and column. The columns of a row include both ends.
 fn wanted(part: &Part, line: usize, column: usize, byte: u8) -> Option<StateFault> {
     for rows in part.2 {
         for (global, first, last, bytes, want) in *rows {
@@ -200,7 +200,7 @@ fn wanted(part: &Part, line: usize, column: usize, byte: u8) -> Option<StateFaul
     None
 }
 
-/// Whether the changed text is answered so, and where it is taken over, handed over again as it stands.
+/// Reports whether the changed text has this answer, and is handed over unchanged if it is taken over.
 fn is_right(global: Global, part: &Part, text: &[u8], want: Option<StateFault>) -> bool {
     let front = text.len().saturating_sub(part.1.len());
     match taken(global, global, text, 1) {
@@ -212,8 +212,8 @@ fn is_right(global: Global, part: &Part, text: &[u8], want: Option<StateFault>) 
     }
 }
 
-/// The first byte, in place of its own at this place, line and column, with which a text is answered otherwise than the
-/// rows say.
+/// Returns the first byte that, in place of the one at this position, line and column, gives a text another answer than
+/// the rows.
 fn wrong_byte(
     global: Global,
     part: &Part,
@@ -235,8 +235,8 @@ fn wrong_byte(
     None
 }
 
-/// The first place of these lines at which the text is answered otherwise than the rows say, and the byte there, or
-/// none where the front before it isn't cut.
+/// Returns the first position in these lines at which a text has another answer than the rows, and the byte there, or
+/// none if the prefix before it is not rejected as cut.
 fn wrong_in(
     global: Global,
     part: &Part,

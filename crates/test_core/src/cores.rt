@@ -1,12 +1,14 @@
-//! A core as what a run is about. Its steps are init's own lines, `reread` and `reexec`, and `then` leaves the next one
-//! for later; `handed` is the end of the wish to be re-executed. `awaits` has the children whose end is awaited, parted
-//! by `, `, or `none`; `last` how the last child of an id ended, with which exit code.
+//! A core as the subject of a run. Its steps are init's own lines, `reread` and `reexec`, and `then` leaves the next
+//! step for later; `handed` ends the wish to be re-executed. `awaits` has the children whose end is awaited, separated
+//! by `, `, or `none`; `last` has how the last child of an id ended, with its exit status.
 
-use crate::runs::{Subject, goes_on, table_of};
-use core_steps::{Core, Goal, Step};
+#[cfg(test)]
+use crate::runs::goes_on;
+use crate::runs::{Subject, steps_difference, steps_of, table_of};
 use core_waiting::{Awaited, AwaitedChildren, WhyAwaited};
 use init_words::{Id, Level, Memory, Refusal, Status};
 use inittab_text::Table;
+use level_core::{Core, Goal, Step};
 use std::alloc::{Allocator, Global};
 use test_support::{answer_of, boxed, happening_of};
 use trace_events::{Happening, HappeningIn};
@@ -16,7 +18,7 @@ use trace_text::words::{read_level, read_stage};
 #[derive(Drop)]
 pub(crate) struct CoreRun<'c, A: Allocator> {
     core: &'c mut Core<A>,
-    /// The step that stays until the next call; none before the first line that is no reader's.
+    /// The step that stays until the next call; none before the first line that is not a reader's.
     stays: Option<Step>,
 }
 
@@ -43,7 +45,7 @@ fn why_text(why: WhyAwaited) -> &'static str {
     }
 }
 
-/// The text is that of the child: `ID NUMBER WHY`.
+/// Reports whether the text describes the child: `ID NUMBER WHY`.
 fn is_text_of(awaited: &Awaited, value: &str) -> Option<bool> {
     let (id, rest) = value.split_once(' ')?;
     let (number, why) = rest.split_once(' ')?;
@@ -54,7 +56,7 @@ fn is_text_of(awaited: &Awaited, value: &str) -> Option<bool> {
     )
 }
 
-/// The core awaits the end of just the children of the text, in their order.
+/// Reports whether the core awaits the end of exactly the children in the text, in order.
 fn awaits<A: Allocator>(core: &Core<A>, text: &str) -> bool {
     let mut remaining = AwaitedChildren::of(core);
     for value in text.split(", ") {
@@ -69,7 +71,7 @@ fn awaits<A: Allocator>(core: &Core<A>, text: &str) -> bool {
     remaining.next().is_none()
 }
 
-/// Whether a reader gives what its line says; none where the line is no reader's.
+/// Reports whether a reader returns what its line says; none if the line is not a reader's.
 fn gives<A: Allocator>(core: &Core<A>, line: &str) -> Option<bool> {
     let (reader, value) = line.split_once(' ').unwrap_or((line, ""));
     match reader {
@@ -95,7 +97,7 @@ fn gives<A: Allocator>(core: &Core<A>, line: &str) -> Option<bool> {
     }
 }
 
-/// The step of a happening that is one.
+/// Returns the step of a happening that is one.
 fn made_by(happening: &HappeningIn<Global>) -> Option<Step> {
     Some(match *happening {
         Happening::Enter(stage, grace) => Step::Enter(stage, grace),
@@ -117,7 +119,7 @@ fn step_of(global: Global, line: &str) -> Option<Step> {
     }
 }
 
-/// How the core answers what it is told; none where that is no call.
+/// Returns how the core answers a call; none if the happening is not a call.
 fn told<A: Allocator>(
     core: &mut Core<A>,
     call: &HappeningIn<Global>,
@@ -125,8 +127,8 @@ fn told<A: Allocator>(
     match *call {
         Happening::NotRead => core.not_read(),
         Happening::Clock(reading) => core.clock(reading),
-        Happening::Nudge => core.begin_round(),
-        Happening::Got(request) => core.receive(request),
+        Happening::Nudge => core.nudge(),
+        Happening::Got(request) => core.got(request),
         Happening::Handed(_) => core.not_handed(),
         _ => {
             let (id, answer) = answer_of(call)?;
@@ -136,7 +138,7 @@ fn told<A: Allocator>(
     Some(Ok(()))
 }
 
-/// How the core answers the call of a line; none where it is no call.
+/// Returns how the core answers the call in a line; none if there is no call in it.
 fn answered<A: Allocator + Copy>(
     global: Global,
     alloc: A,
@@ -178,7 +180,22 @@ impl<A: Allocator + Copy> Subject<A> for CoreRun<'_, A> {
     }
 }
 
-/// What comes of the lines of a run over a core is as they say.
+/// Returns the difference between a run on the core of an inittab and its steps; empty if there is none. The level is
+/// the one that the core is given, or empty.
+pub(crate) fn core_difference(
+    global: Global,
+    level: &str,
+    inittab: &str,
+    run: &str,
+) -> Option<String> {
+    let table = table_of(global, inittab)?;
+    let mut core = core_over(global, global, table, read_level(level.as_bytes())).ok()?;
+    let steps = steps_of(global, run).ok()?;
+    steps_difference(global, global, &mut CoreRun::of(&mut core), &steps)
+}
+
+/// Reports whether the lines of a run on a core have the results that they say.
+#[cfg(test)]
 pub(crate) fn does<A: Allocator + Copy>(
     global: Global,
     alloc: A,
@@ -188,7 +205,8 @@ pub(crate) fn does<A: Allocator + Copy>(
     goes_on(global, alloc, &mut CoreRun::of(core), run)
 }
 
-/// The core of an init that begins with an inittab, behind `>` for a level.
+/// Creates the core of an init that begins with an inittab, with a level after ` > `.
+#[cfg(test)]
 pub(crate) fn opened(global: Global, inittab: &str) -> Option<Box<Core>> {
     let (inittab, level) = inittab.split_once(" > ").unwrap_or((inittab, ""));
     core_over(

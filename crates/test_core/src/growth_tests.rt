@@ -1,16 +1,16 @@
-//! Growths are refused in turn, by less more room from one try to the next than the least growth takes. A refused
-//! adoption changes nothing, and one with room again is made.
+//! Fails allocations one after another; the room grows in steps smaller than the smallest allocation. A failed adoption
+//! changes nothing, and succeeds with enough room.
 
 use crate::cores::{CoreRun, core_over};
 use crate::records::records_over;
 use crate::runs::{Subject, goes_on, table_of};
-use core_records::{Record, Records};
+use child_table::{Slot, Slots};
 use init_words::{Act, Id, Level, Refusal};
 use linked_list_allocator::LocalHeap;
 use std::alloc::Global;
 use test_support::{Outcome, fill, first_unrefused};
 
-/// A run up to an adoption, what is so where that is refused, and what comes of it where it is made.
+/// A run up to an adoption, the state if that fails, and the result if it succeeds.
 struct Scarce<'a> {
     what: &'a str,
     inittab: &'a str,
@@ -30,7 +30,7 @@ const SCARCE: &[Scarce] = &[
         refused: "entries 2 / records 2 / settle S",
         made: "entries 3 / records 4 / ask a term",
     },
-    // Whose end is awaited is told where no memory is left.
+    // The children whose end is awaited are reported even if no memory is left.
     Scarce {
         what: "core",
         inittab: "a:S:once:x\nb:S:wait:y",
@@ -39,21 +39,22 @@ const SCARCE: &[Scarce] = &[
         refused: "awaits b 8 waited for",
         made: "ask a term / awaits b 8 waited for, a 7 excluded",
     },
-    // One child was sent SIGTERM, and a SIGTERM is open for the other; the first, held, is the second of its id.
+    // One child was sent SIGTERM, and a SIGTERM is open for the other; the first, which is held, is the second child of
+    // its id.
     Scarce {
         what: "records",
         inittab: "a:3:respawn:x\nb:3:once:y",
         begun: "ask a start / birth a 701 / ask a look / reaped a 701 exit 3 / ask a start / birth a 4294967295 / \
                 ask b start / birth b 701 / judge 4 / hold a / ask a term / clock 7 / hit a / ask b term",
         call: "use b:3:once:z\nc:3:wait:w",
-        refused: "shows a 5-ta----, b 1tda---- / number a 4294967295 / number b 701 / child 4294967295 a / child 701 b / \
+        refused: "shows a: child 4294967295, stop by term, asked\nb: child 701, term open, stop due, asked / number a 4294967295 / number b 701 / child 4294967295 a / child 701 b / \
                   starts a 1000000000000 1000000000000 / held a 1000000000300 / last a 3 / termed 7",
-        made: "shows b 1tda----, c --------, a 5-t----x / number a 4294967295 / number b 701 / child 4294967295 a / \
+        made: "shows b: child 701, term open, stop due, asked\nc: new\na: child 4294967295, stop by term, no entry / number a 4294967295 / number b 701 / child 4294967295 a / \
                child 701 b / starts a none / held a none / last a 3 / termed 7",
     },
 ];
 
-/// Two heaps: of the first so much is left, the other has ample room.
+/// Two heaps: the first has this room left, and the other has plenty.
 #[derive(Drop)]
 struct Heaps<'a> {
     global: Global,
@@ -62,7 +63,7 @@ struct Heaps<'a> {
     room: usize,
 }
 
-/// Whether an adoption is refused while so much is left, and nothing is changed then.
+/// Reports whether an adoption fails with this room left, and changes nothing then.
 fn is_refused<'a, S: Subject<&'a LocalHeap>>(
     heaps: &Heaps<'a>,
     subject: &mut S,
@@ -76,7 +77,7 @@ fn is_refused<'a, S: Subject<&'a LocalHeap>>(
     goes_on(global, ample, subject, row.refused).then_some(true)
 }
 
-/// Whether an adoption is refused while so much is left; with all of it, it is made.
+/// Reports whether an adoption fails with this room left; with all of the room, it succeeds.
 fn tried_on<'a, S: Subject<&'a LocalHeap>>(
     heaps: &Heaps<'a>,
     subject: &mut S,
@@ -134,10 +135,10 @@ fn a_table_without_room_is_not_adopted(rt: HostRuntime) {
     }
 }
 
-/// Whether the list of one record has room on a heap.
+/// Reports whether the list of one record has room on a heap.
 fn is_rebuilt(heap: &LocalHeap, ample: &LocalHeap) -> Option<bool> {
     let act = Some(Act::Respawn);
-    let slot = Record::of(
+    let slot = Slot::of(
         Id::read(b"a")?,
         act,
         None,
@@ -153,10 +154,10 @@ fn is_rebuilt(heap: &LocalHeap, ample: &LocalHeap) -> Option<bool> {
     );
     let mut given = Vec::new(ample);
     given.push(slot).ok()?;
-    Some(Records::rebuilt(heap, given).is_ok())
+    Some(Slots::rebuilt(heap, given).is_ok())
 }
 
-/// Whether it has room on a heap, over a table that lies in another one.
+/// Reports whether it has room on a heap, for a table in another one.
 fn has_room(global: Global, heap: &LocalHeap, what: &str) -> Option<bool> {
     let ample = LocalHeap::new(global, 16_384).ok()?;
     let table = table_of(&ample, "a:S:respawn:x\nb:S:off:y")?;

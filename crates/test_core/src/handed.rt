@@ -1,14 +1,14 @@
-//! Cores, and what texts say of them, each on the heap.
+//! Cores and the contents of texts, each on the heap.
 
 use crate::texts::text_of;
-use core_handover::{hand_over, take_over};
 use core_model::Parts;
-use core_steps::Core;
 use core_text::{StateFault, read_state};
+use level_core::Core;
+use reexec_state::{hand_over, take_over};
 use std::alloc::{Allocator, Global};
 use test_support::{boxed, difference};
 
-/// The core that a text of this generation gives, over the given memory.
+/// Returns the core in a text of this generation, with the given allocator.
 pub(crate) fn taken<A: Allocator + Copy>(
     global: Global,
     alloc: A,
@@ -18,7 +18,7 @@ pub(crate) fn taken<A: Allocator + Copy>(
     Ok(boxed(global, take_over(alloc, text, generation)?)?)
 }
 
-/// What a text of this generation says, over the given memory.
+/// Returns the contents of a text of this generation, with the given allocator.
 pub(crate) fn parts_of<A: Allocator + Copy>(
     global: Global,
     alloc: A,
@@ -28,7 +28,7 @@ pub(crate) fn parts_of<A: Allocator + Copy>(
     Ok(boxed(global, read_state(alloc, text, generation)?)?)
 }
 
-/// Whether a text of this generation is refused so, or taken over: what isn't read is not taken over, for the same
+/// Reports whether a text of this generation has this answer: if reading it fails, taking it over fails for the same
 /// reason.
 pub(crate) fn is_answered(
     global: Global,
@@ -45,12 +45,13 @@ pub(crate) fn is_answered(
         && taken(global, global, text, generation).err() == want
 }
 
-/// A record of version 1.
+/// Reports whether a line is a record of version 1.
 fn is_old(line: &str) -> bool {
     line.starts_with("slot ") && line.split(' ').count() == 9
 }
 
-/// Whether a text is of a generation and has these lines, each record of version 1 with the mark of no status behind it.
+/// Reports whether a text is of a generation and has these lines; each record of version 1 is given the mark for no
+/// status.
 pub(crate) fn is_text(global: Global, text: &[u8], generation: u64, lines: &str) -> Option<bool> {
     let front = text_of(global, 2, generation, "").ok()?;
     let mut news = str::from_utf8(text)
@@ -66,7 +67,7 @@ pub(crate) fn is_text(global: Global, text: &[u8], generation: u64, lines: &str)
     Some(news.next().is_none())
 }
 
-/// In what a text differs from the one that is so; nothing where it is so itself.
+/// Returns the difference between a text and the expected one; empty if there is none.
 pub(crate) fn text_difference(
     global: Global,
     text: &[u8],
@@ -84,7 +85,7 @@ pub(crate) fn text_difference(
     difference(global, &[("its text", text, want.as_bytes())]).ok()
 }
 
-/// The text that the core hands over, where it is of this generation and has these lines.
+/// Returns the text that the core hands over, if it is of this generation and has these lines.
 pub(crate) fn handed<A: Allocator>(
     global: Global,
     core: &mut Core<A>,

@@ -1,40 +1,40 @@
-//! Cores that are led to a state, that hand it over, and that go on; and cores that took it over and go on as well.
+//! Cores that are brought into a state, hand it over, and continue; and cores that took it over and continue as well.
 
 use crate::cores::{CoreRun, opened};
 use crate::handed::{taken, text_difference};
-use crate::runs::{stray_line, stray_text};
+use crate::runs::{parts_of, steps_difference};
 use crate::texts::{ENDED, SETTLED, STARTED, STARTED_OLD, text_of};
-use core_handover::{StateFault, generation_of, hand_over};
-use core_steps::Core;
+use level_core::Core;
+use reexec_state::{StateFault, generation_of, hand_over};
 use std::alloc::Global;
 use std::test::Fail;
 use test_support::row_difference;
 
-/// The core right after it ordered its second start.
+/// The core directly after it ordered its second start.
 pub(crate) const STARTS: &str =
     "enter sysinit 5 / enter boot 5 / enter 3 5 / ask a start / ask b start";
 
 pub(crate) const STARTED_TABLE: &str = "id:3:initdefault:\na:3:respawn:x\nb:3:once:y\n";
 
-/// The state that `b` comes to where its child was born, as version 1 says it.
+/// The state after the child of `b` was born, in version 1.
 const ENDED_OLD: &str = "clock 0\nstage 3 5\ngoal 3 5\nflags 10\nwish 00 - 000 000\n\
     table 3\nid:3:initdefault:\na:3:respawn:x\nb:3:once:y\n\
     slot id - - - - 0000 - -\nslot a - - start - 1000 - 0,0\nslot b 700 once - - 1000 - -\nend 14\n";
 
-/// No stage yet, and a SIGTERM open for a child whose entry lives in Sysinit.
+/// No stage yet, and an open SIGTERM for a child whose entry lives in Sysinit.
 const SIGNALLED: &str = "clock 7\nstage none 0\ngoal 3 5\nflags 00\nwish 00 - 000 000\n\
     table 1\ns::sysinit:a\nslot s 700 sysinit term due 0000 - -\nend 10\n";
 
-/// An ondemand entry with a child, which is not called, and which is.
+/// An ondemand entry with a child, not called, and called.
 const LIVED: &str = "clock 7\nstage 3 5\ngoal 3 5\nflags 11\nwish 00 - 000 000\n\
     table 1\nd:A:ondemand:x\nslot d 700 ondemand - - 1000 - -\nend 10\n";
 
 const CALLED: &str = "clock 7\nstage 3 5\ngoal 3 5\nflags 11\nwish 00 - 000 000\n\
     table 1\nd:A:ondemand:x\nslot d 700 ondemand - - 1100 - -\nend 10\n";
 
-/// The version of the state of generation 1 with whose lines an init begins, or 0 where it begins with an inittab, behind `>`
-/// for a level; what it does then, the lines that it hands over, and what is done behind that by it, and by the init that
-/// takes them over. What is done are lines of a run of a core.
+/// The version of the state of generation 1 with whose lines an init begins, or 0 if it begins with an inittab, with a
+/// level after ` > `; what it does then; the lines that it hands over; and what it does after that, which the init that
+/// takes them over does as well. All actions are lines of a run of a core.
 type Run = (u64, &'static str, &'static str, &'static str, &'static str);
 
 const RUNS: &[Run] = &[
@@ -42,7 +42,7 @@ const RUNS: &[Run] = &[
     (0, STARTED_TABLE, STARTS, STARTED_OLD, "idle"),
     (1, STARTED_OLD, "", STARTED_OLD, "idle"),
     (2, STARTED, "", STARTED, "idle"),
-    // How the last children ended goes along, and version 1 says nothing of it.
+    // How the last children ended is handed over, except in version 1.
     (
         0,
         STARTED_TABLE,
@@ -53,7 +53,7 @@ const RUNS: &[Run] = &[
     ),
     (2, ENDED, "", ENDED, "last a 0 / last b none"),
     (1, ENDED_OLD, "", ENDED_OLD, "last a none"),
-    // Init is re-executed, once and again.
+    // Init is re-executed, twice.
     (
         0,
         "w:3:wait:a\nr:3:respawn:b > 3",
@@ -63,8 +63,8 @@ const RUNS: &[Run] = &[
         "idle",
     ),
     (2, SETTLED, "idle", SETTLED, "idle"),
-    // Sysinit is entered at a quiet point alone: the signal is answered first, and until then what is handed over is
-    // taken.
+    // Sysinit is entered only at a quiet point: the signal is answered first, and until then the state that is handed
+    // over is accepted.
     (
         1,
         SIGNALLED,
@@ -72,7 +72,7 @@ const RUNS: &[Run] = &[
         SIGNALLED,
         "idle / hit s / enter sysinit 5",
     ),
-    // A child that lived on is called again.
+    // A child that stayed alive is called again.
     (
         1,
         LIVED,
@@ -89,7 +89,7 @@ const RUNS: &[Run] = &[
     ),
 ];
 
-/// The core with which a run begins.
+/// Returns the core with which a run begins.
 fn begun(global: Global, version: u64, from: &str) -> Option<Box<Core>> {
     if version == 0 {
         return opened(global, from);
@@ -98,16 +98,20 @@ fn begun(global: Global, version: u64, from: &str) -> Option<Box<Core>> {
     taken(global, global, text.as_bytes(), 1).ok()
 }
 
-/// What of these lines is otherwise than they say, done by a core; nothing where none is, or there are none.
+/// Returns the difference between these lines and what a core does; empty if there is none, or there are no lines.
 fn core_difference(global: Global, core: &mut Core, what: &str, run: &str) -> Option<String> {
     if run.is_empty() {
         return Some(String::new(global));
     }
-    let stray = stray_line(global, global, &mut CoreRun::of(core), run);
-    stray_text(global, what, stray)
+    let steps = parts_of(global, run).ok()?;
+    let told = steps_difference(global, global, &mut CoreRun::of(core), &steps)?;
+    if told.is_empty() {
+        return Some(told);
+    }
+    format!(in global; "{what}: {told}").ok()
 }
 
-/// What of a run is otherwise than it says. Its generation is the first behind an inittab, and else the second.
+/// Returns the difference between a run and what it says. Its generation is 1 after an inittab, and otherwise 2.
 fn run_difference(global: Global, run: &Run) -> Option<String> {
     let (version, from, before, lines, after) = *run;
     let generation = if version == 0 { 1 } else { 2 };
@@ -122,14 +126,14 @@ fn run_difference(global: Global, run: &Run) -> Option<String> {
         return format!(in global; "of generation {generation}: {told}").ok();
     }
     let mut next = taken(global, global, &text, generation).ok()?;
-    let told = core_difference(global, &mut core, "what it does behind it", after)?;
+    let told = core_difference(global, &mut core, "what it does after it", after)?;
     if !told.is_empty() {
         return Some(told);
     }
     core_difference(global, &mut next, "what who takes it over does", after)
 }
 
-/// Whether the core of the last generation that there is hands nothing over, and stays as it is.
+/// Reports whether the core of the last possible generation hands nothing over, and stays as it is.
 fn is_worn(global: Global) -> Option<bool> {
     let text = text_of(global, 2, u64::MAX, SETTLED).ok()?;
     let mut core = taken(global, global, text.as_bytes(), u64::MAX).ok()?;

@@ -1,5 +1,5 @@
-//! Lines of texts are replaced by others, and the texts are taken over or refused; so are whole texts, and tables of
-//! many entries.
+//! Replaces lines of texts, which are then taken over or rejected; likewise complete texts, and tables with many
+//! entries.
 
 use crate::handed::is_answered;
 use crate::texts::{ENDED, OPENING, SETTLED, STARTED, STARTED_OLD, text_of};
@@ -10,8 +10,8 @@ use std::fmt::Write;
 use std::test::Fail;
 use test_support::row_difference;
 
-// Rows of a text: a line, counted from 1, or the first and the last of some; what is answered; and what stands in their
-// place, each of which is tried, parted by `|`. There `/` parts lines, and nothing is no line.
+// The rows of a text: a line, counted from 1, or the first and the last of several; the answer; and the replacements,
+// each of which is tried, separated by `|`. In a replacement `/` separates lines, and an empty one is no line.
 
 const OF_STARTED_OLD: &str = "\
 # Each version has lines of its own.
@@ -109,7 +109,7 @@ const OF_STARTED_OLD: &str = "\
 3 taken:clock 7
 14 unfit:slot b 5 - start - 1000 - -";
 
-/// Most are of the last status.
+/// Most rows are about the last status.
 const OF_STARTED: &str = "\
 1 line 12:initd-state 1
 13 line 13:slot a - - start - 1000 - 0|slot a - - start - 1000 - 0 |slot a - - start - 1000 - 0  -
@@ -164,7 +164,7 @@ const OF_CALLED: &str = "\
 10 taken:slot d - - - - 1100 307 0,1,2,3,4,5,6,7,7,7
 10 unfit:slot d - - - - 1100 308 0,1,2,3,4,5,6,7,7,7|slot d - - - - 1100 307 0,1,2|slot d - - - - 1100 - 8";
 
-/// The first check that fails counts, that of the generation behind those of the lines.
+/// The first check that fails counts; that of the generation follows those of the lines.
 const OF_OPENING: &str = "\
 1-9 cut:|/|end /|initd-state 1|initd-state 9/generation 1|initd-state 1/generation 1
 1-9 version:end 0|end |initd-state 9/end 1|initd-state 1\r/end 1|initd-state 1\0/end 1
@@ -186,7 +186,7 @@ const CHANGES: &[(u64, &str, &str)] = &[
     (1, OPENING, OF_OPENING),
 ];
 
-/// The text with these lines in place of its own, from a first to a last.
+/// Returns the text with these lines in place of those between two positions.
 fn replaced(global: Global, whole: &str, places: (usize, usize), lines: &str) -> Option<String> {
     let mut text = String::new(global);
     for (at, line) in whole.lines().enumerate() {
@@ -200,7 +200,7 @@ fn replaced(global: Global, whole: &str, places: (usize, usize), lines: &str) ->
     Some(text)
 }
 
-/// What is answered by the word for it, nothing where a text is taken over.
+/// Returns the answer for a word; none if the text is taken over.
 fn answer_of(word: &str) -> Option<StateFault> {
     match word {
         "cut" => Some(Cut),
@@ -211,7 +211,7 @@ fn answer_of(word: &str) -> Option<StateFault> {
     }
 }
 
-/// The first lines of a row with which a text is answered otherwise than the row says; nothing where there are none.
+/// Returns the first lines of a row that give a text another answer than the row; empty if there are none.
 fn lines_difference(global: Global, whole: &str, row: &str) -> Option<String> {
     if row.starts_with('#') {
         return Some(String::new(global));
@@ -242,7 +242,7 @@ fn lines_are_replaced(rt: HostRuntime) -> Result<(), Fail> {
     Ok(())
 }
 
-/// A text, the generation that is asked for, what is answered, and the generation that its second line names.
+/// A text, the requested generation, the answer, and the generation in its second line.
 const TEXTS: &[(&str, u64, Option<StateFault>, Option<u64>)] = &[
     ("", 0, Some(Cut), None),
     ("", 1, Some(Cut), None),
@@ -269,7 +269,7 @@ const TEXTS: &[(&str, u64, Option<StateFault>, Option<u64>)] = &[
     ("generation 7\n", 7, Some(Cut), None),
 ];
 
-/// A version and lines, the generation that is asked for of a text of generation 1, and what is answered.
+/// A version and lines, the generation that is requested of a text of generation 1, and the answer.
 const ASKED: &[(u64, &str, u64, Option<StateFault>)] = &[
     (1, STARTED_OLD, 1, None),
     (1, STARTED_OLD, 2, Some(Generation)),
@@ -279,7 +279,7 @@ const ASKED: &[(u64, &str, u64, Option<StateFault>)] = &[
     (2, SETTLED, 2, Some(Generation)),
 ];
 
-/// A text of a version, of so many entries, and none of their records.
+/// Returns a text of a version, with this number of entries and none of their records.
 fn large(global: Global, version: u64, entries: u64) -> Result<String, Fail> {
     let mut text = text_of(global, version, 1, "")?;
     let (fields, _) = OPENING.split_once("table").ok_or("no table")?;
@@ -291,7 +291,7 @@ fn large(global: Global, version: u64, entries: u64) -> Result<String, Fail> {
     Ok(text)
 }
 
-/// A version, and how many entries there are: the first that is too many is refused. No init comes to a table whose
+/// A version and a number of entries: the first number that is too great is rejected. No init gets to a table whose
 /// entries have no record.
 const LARGEST: &[(u64, u64, Option<StateFault>)] = &[
     (1, 512, Some(Unfit)),

@@ -1,21 +1,21 @@
-//! Records as what a run is about. The calls are those of a core and those that a core makes: `ask`, `hold`, `called` an
-//! id, `enter` a stage, and `judge` by the table and a level. Each order is given at the limit of the clock, and each
-//! answer there too, until a `clock` says when.
+//! Records as the subject of a run. The calls are those of a core and those that a core makes: `ask`, `hold`, `called`
+//! with an id, `enter` with a stage, and `judge` by the table and a level. Each order and each answer is given at the
+//! maximum of the clock, until a `clock` line sets the time.
 
-use crate::runs::{Subject, stray_line, stray_text, table_of};
-use core_records::{Record, Records, Stop};
+use crate::runs::{Subject, steps_difference, steps_of, table_of};
+use child_table::{Slot, Slots, Stop};
 use init_words::{ChildNumber, Id, Memory, OrderKind, Refusal, Stage, Status};
 use inittab_text::Table;
 use respawn_limit::CLOCK_LIMIT;
-use std::alloc::{Allocator, Global};
+use std::alloc::{AllocError, Allocator, Global};
 use test_support::{answer_of, boxed, happening_of};
 use trace_events::{Happening, HappeningIn};
 use trace_text::words::read_level;
 
-/// Records within a run, with the table that they were last under.
+/// Records within a run, with the last table.
 #[derive(Drop)]
 pub(crate) struct RecordsRun<A: Allocator> {
-    slots: Records<A>,
+    slots: Slots<A>,
     table: Table<A>,
     time: u64,
 }
@@ -25,7 +25,7 @@ pub(crate) fn records_over<A: Allocator + Copy>(
     alloc: A,
     table: Table<A>,
 ) -> Result<Box<RecordsRun<A>>, Memory> {
-    let slots = Records::new(alloc, &table)?;
+    let slots = Slots::new(alloc, &table)?;
     let run = RecordsRun {
         slots,
         table,
@@ -34,69 +34,84 @@ pub(crate) fn records_over<A: Allocator + Copy>(
     Ok(boxed(global, run)?)
 }
 
-fn order_code(order: Option<OrderKind>) -> u8 {
+fn order_words(order: OrderKind) -> &'static str {
     match order {
-        None => b'-',
-        Some(OrderKind::Start) => b's',
-        Some(OrderKind::Look) => b'l',
-        Some(OrderKind::Term) => b't',
-        Some(OrderKind::Kill) => b'k',
+        OrderKind::Start => "start open",
+        OrderKind::Look => "look open",
+        OrderKind::Term => "term open",
+        OrderKind::Kill => "kill open",
     }
 }
 
-fn stop_code(stop: Option<Stop>) -> u8 {
+fn stop_words(stop: Stop) -> &'static str {
     match stop {
-        None => b'-',
-        Some(Stop::Due) => b'd',
-        Some(Stop::Termed(_)) => b't',
-        Some(Stop::Killed(_)) => b'k',
+        Stop::Due => "stop due",
+        Stop::Termed(_) => "stop by term",
+        Stop::Killed(_) => "stop by kill",
     }
 }
 
-fn flag_code(flag: bool, code: u8) -> u8 {
-    if flag { code } else { b'-' }
+/// Appends a part of the words of a record.
+fn add_part(words: &mut String, part: &str) -> Result<(), AllocError> {
+    words.push_str(if words.ends_with(":") { " " } else { ", " })?;
+    words.push_str(part)
 }
 
-/// The last digit of the child's number, the order and the stop; what is on of asked, called, look and missed; and
-/// whether the table doesn't have the id.
-fn codes_of(slot: &Record) -> [u8; 8] {
-    [
-        match slot.child() {
-            None => b'-',
-            Some(number) => b'0' + (number.0 % 10) as u8,
-        },
-        order_code(slot.order()),
-        stop_code(slot.stop()),
-        flag_code(slot.asked(), b'a'),
-        flag_code(slot.called(), b'c'),
-        flag_code(slot.look(), b'l'),
-        flag_code(slot.missed(), b'm'),
-        flag_code(slot.table_act().is_none(), b'x'),
-    ]
-}
-
-fn is_shown(slot: &Record, value: &str) -> bool {
-    let (id, codes) = value.split_once(' ').unwrap_or((value, ""));
-    id.as_bytes() == slot.id().as_bytes() && codes.as_bytes() == codes_of(slot).as_slice()
-}
-
-/// The records are those of the text, in their order; `none` where there are none.
-fn shows<A: Allocator>(slots: &Records<A>, text: &str) -> bool {
-    if slots.as_slice().is_empty() {
-        return text == "none";
-    }
-    let mut remaining = text.split(", ");
-    for slot in slots.as_slice() {
-        match remaining.next() {
-            Some(value) if is_shown(slot, value) => {}
-            _ => return false,
+/// Appends those of the parts that are true.
+fn add_flags(words: &mut String, slot: &Slot) -> Result<(), AllocError> {
+    let flags = [
+        (slot.asked(), "asked"),
+        (slot.called(), "called"),
+        (slot.look(), "to look at"),
+        (slot.missed(), "missed"),
+        (slot.table_act().is_none(), "no entry"),
+    ];
+    for (is_set, part) in flags {
+        if is_set {
+            add_part(words, part)?;
         }
     }
-    remaining.next().is_none()
+    Ok(())
 }
 
-/// The starts that are counted are at these times.
-fn has_starts(slot: &Record, times: &str) -> bool {
+/// Returns the id and what the record has, in words: `a: child 700, stop due, asked`, or `a: new`.
+fn words_of(global: Global, slot: &Slot) -> Result<String, AllocError> {
+    let id = slot.id();
+    let mut words = format!(in global; "{}:", id.as_str())?;
+    if let Some(number) = slot.child() {
+        let number = number.0;
+        add_part(&mut words, &format!(in global; "child {number}")?)?;
+    }
+    if let Some(order) = slot.order() {
+        add_part(&mut words, order_words(order))?;
+    }
+    if let Some(stop) = slot.stop() {
+        add_part(&mut words, stop_words(stop))?;
+    }
+    add_flags(&mut words, slot)?;
+    if words.ends_with(":") {
+        words.push_str(" new")?;
+    }
+    Ok(words)
+}
+
+/// Reports whether the records are those of the lines, in order; `none` if there are none.
+fn shows<A: Allocator>(global: Global, slots: &Slots<A>, text: &str) -> Option<bool> {
+    if slots.as_slice().is_empty() {
+        return Some(text == "none");
+    }
+    let mut remaining = text.lines();
+    for slot in slots.as_slice() {
+        let words = words_of(global, slot).ok()?;
+        if remaining.next() != Some(words.as_str()) {
+            return Some(false);
+        }
+    }
+    Some(remaining.next().is_none())
+}
+
+/// Reports whether the starts that count are at these times.
+fn has_starts(slot: &Slot, times: &str) -> bool {
     let mut remaining = slot.starts().iter();
     for time in times.split(' ') {
         if remaining.next().copied() != time.parse::<u64>().ok() {
@@ -106,8 +121,8 @@ fn has_starts(slot: &Record, times: &str) -> bool {
     remaining.next().is_none()
 }
 
-/// Whether a record has what the reader's line says; none where the line is no reader's.
-fn has(slot: &Record, reader: &str, value: &str) -> Option<bool> {
+/// Reports whether a record has what the reader's line says; none if the line is not a reader's.
+fn has(slot: &Slot, reader: &str, value: &str) -> Option<bool> {
     match reader {
         "number" => Some(slot.child() == Some(ChildNumber(value.parse::<u32>().ok()?))),
         "starts" => Some(has_starts(slot, value)),
@@ -117,8 +132,8 @@ fn has(slot: &Record, reader: &str, value: &str) -> Option<bool> {
     }
 }
 
-/// Whether a reader gives what its line says; none where the line is no reader's.
-fn gives<A: Allocator>(slots: &Records<A>, line: &str) -> Option<bool> {
+/// Reports whether a reader returns what its line says; none if the line is not a reader's.
+fn gives<A: Allocator>(global: Global, slots: &Slots<A>, line: &str) -> Option<bool> {
     let (reader, value) = line.split_once(' ').unwrap_or((line, ""));
     match reader {
         "quiet" => Some(slots.quiet()),
@@ -131,7 +146,7 @@ fn gives<A: Allocator>(slots: &Records<A>, line: &str) -> Option<bool> {
             let number = ChildNumber(number.parse::<u32>().ok()?);
             Some(slots.by_child(number) == Id::read(id.as_bytes()))
         }
-        "shows" => Some(shows(slots, value)),
+        "shows" => shows(global, slots, value),
         _ => {
             let (id, value) = value.split_once(' ')?;
             has(slots.by_id(&Id::read(id.as_bytes())?)?, reader, value)
@@ -139,7 +154,7 @@ fn gives<A: Allocator>(slots: &Records<A>, line: &str) -> Option<bool> {
     }
 }
 
-fn asked<A: Allocator>(slots: &mut Records<A>, id: Id, order: OrderKind) -> Option<()> {
+fn asked<A: Allocator>(slots: &mut Slots<A>, id: Id, order: OrderKind) -> Option<()> {
     if slots.len() == 0 || !slots.can_ask(&id, order, CLOCK_LIMIT) {
         return None;
     }
@@ -147,7 +162,7 @@ fn asked<A: Allocator>(slots: &mut Records<A>, id: Id, order: OrderKind) -> Opti
     Some(())
 }
 
-/// How the records answer what they are told; none where that is no call.
+/// Returns how the records answer a call; none if the happening is not a call.
 fn told<A: Allocator>(
     run: &mut RecordsRun<A>,
     call: &HappeningIn<Global>,
@@ -158,7 +173,7 @@ fn told<A: Allocator>(
             run.slots.by_id(&id)?;
             run.slots.hold(id, CLOCK_LIMIT);
         }
-        Happening::Nudge => run.slots.begin_round(),
+        Happening::Nudge => run.slots.nudge(),
         Happening::Enter(_, _) => run.slots.entered(),
         Happening::Clock(time) => run.time = time.min(CLOCK_LIMIT),
         _ => {
@@ -175,7 +190,7 @@ fn adopted<A: Allocator + Copy>(run: &mut RecordsRun<A>, table: Table<A>) -> Res
     Ok(())
 }
 
-/// How the records answer the call of a line; none where it is no call.
+/// Returns how the records answer the call in a line; none if there is no call in it.
 fn answered<A: Allocator + Copy>(
     global: Global,
     alloc: A,
@@ -201,7 +216,7 @@ fn answered<A: Allocator + Copy>(
 
 impl<A: Allocator + Copy> Subject<A> for RecordsRun<A> {
     fn goes(&mut self, global: Global, alloc: A, line: &str, want: Result<(), Refusal>) -> bool {
-        match gives(&self.slots, line) {
+        match gives(global, &self.slots, line) {
             Some(is_so) => is_so,
             None => answered(global, alloc, self, line) == Some(want),
         }
@@ -212,9 +227,9 @@ impl<A: Allocator + Copy> Subject<A> for RecordsRun<A> {
     }
 }
 
-/// In what a run over the records of an inittab is otherwise than its lines say; nothing where it isn't.
+/// Returns the difference between a run on the records of an inittab and its lines; empty if there is none.
 pub(crate) fn records_difference(global: Global, inittab: &str, run: &str) -> Option<String> {
     let mut subject = records_over(global, global, table_of(global, inittab)?).ok()?;
-    let stray = stray_line::<Global, RecordsRun<Global>>(global, global, &mut subject, run);
-    stray_text(global, "its run", stray)
+    let steps = steps_of(global, run).ok()?;
+    steps_difference::<Global, RecordsRun<Global>>(global, global, &mut subject, &steps)
 }

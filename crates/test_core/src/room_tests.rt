@@ -1,35 +1,34 @@
-//! Growths are refused in turn, on heaps of more and more room. A refused call leaves the core as it was.
+//! Fails allocations one after another, on heaps with more and more room. A failed call leaves the core unchanged.
 
 use crate::handed::{handed, is_text, parts_of, taken};
 use crate::texts::{SETTLED, text_of};
-use core_handover::{StateFault, hand_over};
 use core_model::Parts;
-use core_steps::{Core, Rebuild};
 use init_words::Refusal;
+use level_core::{Core, Rebuild};
 use linked_list_allocator::LocalHeap;
+use reexec_state::{StateFault, hand_over};
 use std::alloc::Global;
 use std::test::Fail;
 use test_support::Outcome::{self, Done, Refused, Unmade};
 use test_support::{boxed, first_unrefused};
 
-/// A child, an order about it that is open, a signal that is due, a wish for another level, times, and ends of
-/// children.
+/// A child, an open order about it, a due signal, a wish for another level, times, and ends of children.
 const BUSY: &str = "clock 700\nstage 3 5\ngoal 3 5\nflags 11\nwish 10 4:8 101 010\n\
     table 3\nw:3:wait:a\nr:3:respawn:b\nd:3A:ondemand:c\n\
     slot w - - - - 1000 - - exit:3\nslot r 700 respawn look - 1010 - 6,7,600 -\nslot d - - - - 0100 - - killed\n\
     slot x 701 once term due 0011 - - exit:255\nend 15\n";
 
-/// A child, a look at it that is open, a child that was sent SIGTERM, a hold, a wish for another level, times, and ends
-/// of children.
+/// A child, an open look at it, a child that was sent SIGTERM, a hold, a wish for another level, times, and ends of
+/// children.
 const QUIET: &str = "clock 700\nstage 3 5\ngoal 3 5\nflags 11\nwish 10 4:8 101 010\n\
     table 2\nw:3:wait:a\nr:3:respawn:b\n\
     slot w - - - - 1000 - - exit:3\nslot r 700 respawn look - 1010 900 6,7,8,9,10,11,12,13,14,600 -\n\
     slot x 701 once - term:650 0011 - - exit:255\nend 13\n";
 
-/// An inittab that is adopted by it.
+/// An inittab that it adopts.
 const NEXT: &[u8] = b"r:3:respawn:b\nn:3:once:c\nm:3:off:\nl:3:wait:d\n";
 
-/// The core hands its state over. Where there is no room for it, it hands the same over with room.
+/// Hands the state of a core over. If there is no room for it, the core hands the same over once there is.
 fn hand_over_on(global: Global, heap: &LocalHeap, text: &[u8]) -> Option<Outcome> {
     let mut core = taken(global, global, text, 1).ok()?;
     match hand_over(heap, &mut core) {
@@ -61,7 +60,7 @@ fn rebuild_on(global: Global, heap: &LocalHeap, text: &[u8]) -> Option<Outcome> 
     }
 }
 
-/// A core adopts a table. Where it has no room for it, it hands over what it would have before.
+/// Adopts a table. If there is no room for it, the core hands over the same state as before.
 fn adopt_on(global: Global, heap: &LocalHeap, text: &[u8]) -> Option<Outcome> {
     let Ok(mut core) = taken(global, heap, text, 1) else {
         return Some(Unmade);
@@ -92,7 +91,7 @@ fn outcome_on(global: Global, heap: &LocalHeap, what: &str, text: &[u8]) -> Opti
     }
 }
 
-/// States, what needs room for each, and how many heaps at least have none for it.
+/// States, the calls that need room for each, and a number of heaps: the call must fail on more heaps than that.
 const REFUSED: &[(&str, &[(&str, usize)])] = &[
     (BUSY, &[("hand over", 8), ("take over", 8)]),
     (SETTLED, &[("rebuild", 3)]),

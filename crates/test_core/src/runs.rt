@@ -1,18 +1,20 @@
-//! Runs as text, their lines parted by ` / `: calls, what init does after them, and what readers give.
+//! Runs as text: calls, what init does after them, and what readers return. In a row each has a line; an indented line
+//! belongs to the one before it. In a test they are separated by ` / `.
 //!
-//! The calls are lines of a trace. What the system does for an order, `birth` to `miss`, is told at once as its answer;
-//! `use` has the lines of the table that is adopted. A call that is refused has the reason behind ` ! `.
+//! The calls are lines of a trace. What the system does for an order, `birth` to `miss`, is told immediately as its
+//! answer; `use` has the lines of the table that is adopted. A call that is rejected has the reason after ` ! `.
 
 use init_words::Refusal;
 use inittab_text::Table;
-use std::alloc::{Allocator, Global};
+use std::alloc::{AllocError, Allocator, Global};
 
-/// What a run is about: a core, or records by themselves, in memory of an allocator.
+/// The subject of a run: a core, or records alone, in the memory of an allocator.
 pub(crate) trait Subject<A: Allocator + Copy> {
-    /// Whether a line goes as it says: what it reads is so, it is done next, or its call is answered so.
+    /// Reports whether a line has the result that it says: what it reads is true, it is the next step, or its call is
+    /// answered like this.
     fn goes(&mut self, global: Global, alloc: A, line: &str, want: Result<(), Refusal>) -> bool;
 
-    /// Nothing is done next but what the run says.
+    /// Reports whether no step is next that is not in the run.
     fn rests(&mut self) -> bool;
 }
 
@@ -31,48 +33,86 @@ fn want_of(refusal: &str) -> Result<(), Refusal> {
     }
 }
 
-/// The first line of the run that doesn't go as it says; nothing where all do. Behind the last one nothing else is done.
-pub(crate) fn stray_line<'r, A: Allocator + Copy, S: Subject<A>>(
+/// Reports whether a step of a run has the result that it says.
+fn has_result<A: Allocator + Copy, S: Subject<A>>(
     global: Global,
     alloc: A,
     subject: &mut S,
-    run: &'r str,
-) -> Option<(usize, &'r str)> {
-    let mut count = 0usize;
-    for step in run.split(" / ") {
-        count = count.saturating_add(1);
-        let (line, refusal) = step.split_once(" ! ").unwrap_or((step, ""));
-        if !subject.goes(global, alloc, line, want_of(refusal)) {
-            return Some((count, step));
+    step: &str,
+) -> bool {
+    let (line, refusal) = step.split_once(" ! ").unwrap_or((step, ""));
+    subject.goes(global, alloc, line, want_of(refusal))
+}
+
+/// Appends an indented line to a step: a line of its table, one of its records, or the reason why it is rejected.
+fn add_line(step: &mut String, line: &str) -> Result<(), AllocError> {
+    let is_next = step.contains(' ') && !line.starts_with("! ");
+    step.push(if is_next { '\n' } else { ' ' })?;
+    step.push_str(line)
+}
+
+/// Returns the steps of a row's run.
+pub(crate) fn steps_of(global: Global, run: &str) -> Result<Vec<String>, AllocError> {
+    let mut steps: Vec<String> = Vec::new(global);
+    for line in run.lines() {
+        match (line.strip_prefix("  "), steps.last_mut()) {
+            (Some(more), Some(step)) => add_line(step, more)?,
+            _ => steps.push(String::from_str(global, line)?)?,
+        }
+    }
+    Ok(steps)
+}
+
+/// Returns the message about a step of this number that has another result.
+fn stray_text(global: Global, number: usize, step: &str) -> Option<String> {
+    format!(in global; "step {number} has another result: {step}").ok()
+}
+
+/// Returns a message about the first step that does not have the result that it says, or about a further step after the
+/// last one; empty if there is none.
+pub(crate) fn steps_difference<A: Allocator + Copy, S: Subject<A>>(
+    global: Global,
+    alloc: A,
+    subject: &mut S,
+    steps: &[String],
+) -> Option<String> {
+    let mut number = 0usize;
+    for step in steps {
+        number = number.saturating_add(1);
+        if !has_result(global, alloc, subject, step) {
+            return stray_text(global, number, step);
         }
     }
     if subject.rests() {
-        None
+        Some(String::new(global))
     } else {
-        Some((count, "something else is done behind it"))
+        stray_text(global, number, "another step follows it")
     }
 }
 
-/// The run goes as its lines say.
+/// Returns the steps of a test's run.
+#[cfg(test)]
+pub(crate) fn parts_of(global: Global, run: &str) -> Result<Vec<String>, AllocError> {
+    let mut parts = Vec::new(global);
+    for part in run.split(" / ") {
+        parts.push(String::from_str(global, part)?)?;
+    }
+    Ok(parts)
+}
+
+/// Reports whether all steps of a test's run have the results that they say, and no other step follows.
+#[cfg(test)]
 pub(crate) fn goes_on<A: Allocator + Copy, S: Subject<A>>(
     global: Global,
     alloc: A,
     subject: &mut S,
     run: &str,
 ) -> bool {
-    stray_line(global, alloc, subject, run).is_none()
-}
-
-/// What is told of that line of a text of this name; nothing where there is none.
-pub(crate) fn stray_text(
-    global: Global,
-    what: &str,
-    stray: Option<(usize, &str)>,
-) -> Option<String> {
-    match stray {
-        None => Some(String::new(global)),
-        Some((number, step)) => {
-            format!(in global; "{what}, line {number}, goes otherwise: {step}").ok()
-        }
+    match parts_of(global, run) {
+        Ok(steps) => match steps_difference(global, alloc, subject, &steps) {
+            Some(told) => told.is_empty(),
+            None => false,
+        },
+        Err(AllocError) => false,
     }
 }

@@ -1,23 +1,23 @@
-//! The lines of states from the third on, and whole texts of them.
+//! The lines of states, from the third on, and complete texts with them.
 
 use std::alloc::{AllocError, Global};
 
-/// Two starts are under way in runlevel 3; a record says how the last child ended.
+/// Two starts are open in runlevel 3; a record has how the last child ended.
 pub(crate) const STARTED: &str = "clock 0\nstage 3 5\ngoal 3 5\nflags 10\nwish 00 - 000 000\n\
     table 3\nid:3:initdefault:\na:3:respawn:x\nb:3:once:y\n\
     slot id - - - - 0000 - - -\nslot a - - start - 1000 - 0 exit:0\nslot b - - start - 1000 - - killed\nend 14\n";
 
-/// As version 1 says it.
+/// The same in version 1.
 pub(crate) const STARTED_OLD: &str = "clock 0\nstage 3 5\ngoal 3 5\nflags 10\nwish 00 - 000 000\n\
     table 3\nid:3:initdefault:\na:3:respawn:x\nb:3:once:y\n\
     slot id - - - - 0000 - -\nslot a - - start - 1000 - 0\nslot b - - start - 1000 - -\nend 14\n";
 
-/// The child of `a` ended before that of `b` was born, with its number.
+/// The child of `a` ended before that of `b` was born, with the same number.
 pub(crate) const ENDED: &str = "clock 0\nstage 3 5\ngoal 3 5\nflags 10\nwish 00 - 000 000\n\
     table 3\nid:3:initdefault:\na:3:respawn:x\nb:3:once:y\n\
     slot id - - - - 0000 - - -\nslot a - - start - 1000 - 0,0 exit:0\nslot b 700 once - - 1000 - - -\nend 14\n";
 
-/// No stage was entered yet, and there is no entry.
+/// No stage has been entered, and there is no entry.
 pub(crate) const OPENING: &str =
     "clock 0\nstage none 0\ngoal 3 5\nflags 00\nwish 00 - 000 000\ntable 0\nend 8\n";
 
@@ -25,7 +25,7 @@ pub(crate) const OPENING: &str =
 pub(crate) const SETTLED: &str = "clock 7\nstage 3 5\ngoal 3 5\nflags 11\nwish 00 - 000 000\n\
     table 2\nw:3:wait:a\nr:3:respawn:b\nslot w - - - - 1000 - - exit:0\nslot r 700 respawn - - 1000 - 7 -\nend 12\n";
 
-/// The text of a version and a generation, with these lines.
+/// Returns the text of a version and a generation, with these lines.
 pub(crate) fn text_of(
     global: Global,
     version: u64,

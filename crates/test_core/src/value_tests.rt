@@ -1,18 +1,18 @@
-//! What is written of a core, and the values that a text is read as.
+//! Tests of the text that is written for a core, and of the values that are read from a text.
 
 use crate::cores::{does, opened};
 use crate::handed::{is_text, parts_of};
 use crate::handover_tests::{STARTED_TABLE, STARTS};
 use crate::texts::{STARTED_OLD, text_of};
-use core_model::{CoreFields, Parts, PlainRecord};
-use core_records::Stop;
+use child_table::Stop;
+use core_model::{CoreFields, Parts, PlainSlot};
 use core_text::{StateFault, write_state};
 use init_words::{Act, ChildNumber, Level, OrderKind, Stage, Status};
 use std::alloc::Global;
 use trace_events::{CallSet, Goal};
 
-/// A record: its id, child, action, order and stop, its flags in the order asked, called, look, missed, the end of its hold,
-/// its starts, and how its last child ended.
+/// A record: its id, child, action, order and stop, its flags in the order asked, called, look, missed, the end of its
+/// hold, its starts, and how its last child ended.
 type Kept = (
     &'static str,
     (Option<u32>, Option<Act>, Option<OrderKind>),
@@ -71,7 +71,7 @@ const STARTED_HEADS: CoreFields = CoreFields {
     },
 };
 
-/// Each word says something else.
+/// Each word has a different value.
 const BUSY: &str = "clock 700\nstage S 3600\ngoal 0 0\nflags 01\nwish 10 9:8 101 010\n\
     table 1\np:S012:powerokwait:+run it: now\n\
     slot p 4294967295 powerokwait look term:690 0111 1000 0,1,2,3,4,5,6,7,8,600 exit:255\n\
@@ -79,7 +79,7 @@ const BUSY: &str = "clock 700\nstage S 3600\ngoal 0 0\nflags 01\nwish 10 9:8 101
 
 const BUSY_TABLE: &str = "p:S012:powerokwait:+run it: now\n";
 
-/// The fields of that text with no entry.
+/// The fields of that text without an entry.
 const BUSY_ALONE: &str =
     "clock 700\nstage S 3600\ngoal 0 0\nflags 01\nwish 10 9:8 101 010\ntable 0\nend 8\n";
 
@@ -152,7 +152,7 @@ fn are_fields(fields: &CoreFields, want: &CoreFields) -> bool {
         && fields.pending == want.pending
 }
 
-fn is_kept(record: &PlainRecord, want: &Kept) -> bool {
+fn is_kept(record: &PlainSlot, want: &Kept) -> bool {
     let (id, of_child, flags, of_end, starts) = *want;
     let child = match record.child {
         Some(ChildNumber(number)) => Some(number),
@@ -174,7 +174,7 @@ fn are_parts(parts: &Parts, fields: &CoreFields, rows: &[Kept]) -> bool {
     are_fields(&parts.fields, fields) && parts.records.len() == rows.len()
 }
 
-/// The lines of a version, what they say: the fields, the table and the records.
+/// The lines of a version, and their contents: the fields, the table and the records.
 type Said = (u64, &'static str, CoreFields, &'static str, &'static [Kept]);
 
 const SAID: &[Said] = &[
@@ -196,8 +196,8 @@ fn is_said(global: Global, row: &Said) -> Result<bool, StateFault> {
     Ok(are_parts(&parts, fields, rows) && written.as_slice() == table.as_bytes())
 }
 
-/// An inittab, what a core over it does, where it does anything, and the fields at which it is then, or others; and the lines
-/// that are written of it with them.
+/// An inittab, what a core for it does, if anything, the fields that it has then, or others; and the lines that are
+/// written for it with them.
 type Written = (&'static str, &'static str, CoreFields, &'static str);
 
 const WRITTEN: &[Written] = &[

@@ -1,6 +1,5 @@
-//! Runs of init over a row.
+//! Runs init on a row. A difference from the row is a text, which is empty if there is none.
 
-use crate::rows::Row;
 use init_words::Memory;
 use simulator::{SimFault, Untold, simulate};
 use std::alloc::{AllocError, Global};
@@ -11,14 +10,20 @@ use trace_text::first_happening;
 /// The line of a hand-over in a script and in a trace.
 const HANDED: &[u8] = b"handed whole\n";
 
-/// A run that is as its row says, or in which way it isn't.
+/// A run that was worked out by hand.
 #[derive(Drop)]
-pub(crate) enum Outcome {
-    Same,
-    Other(String),
+pub(crate) struct Row<'t> {
+    /// The inittab(5).
+    pub(crate) inittab: &'t [u8],
+    /// What the system did.
+    pub(crate) script: &'t [u8],
+    /// The expected trace.
+    pub(crate) trace: &'t [u8],
+    /// Why the run ends before the script does; empty if it does not.
+    pub(crate) fault: &'t [u8],
 }
 
-/// Why a run ended before its script; nothing where it didn't.
+/// Returns why a run ended before its script; empty if it did not.
 fn end_text(alloc: Global, ended: Result<(), SimFault>) -> Result<String, AllocError> {
     match ended {
         Ok(()) => Ok(String::new(alloc)),
@@ -26,7 +31,7 @@ fn end_text(alloc: Global, ended: Result<(), SimFault>) -> Result<String, AllocE
     }
 }
 
-/// A trace without its hand-overs.
+/// Returns a trace without its hand-overs.
 fn without_handed(alloc: Global, trace: &[u8]) -> Result<Vec<u8>, AllocError> {
     let mut text = Vec::new(alloc);
     for line in trace.split_inclusive(|byte| *byte == b'\n') {
@@ -37,20 +42,20 @@ fn without_handed(alloc: Global, trace: &[u8]) -> Result<Vec<u8>, AllocError> {
     Ok(text)
 }
 
-/// A run over a script, of which the trace without its hand-overs is wanted where `is_handed`.
+/// Runs a script. If `is_handed` is set, the trace without its hand-overs is expected.
 fn run_over(
     alloc: Global,
     row: &Row<'_>,
     script: &[u8],
     is_handed: bool,
-) -> Result<Outcome, AllocError> {
+) -> Result<String, AllocError> {
     let mut out = Vec::new(alloc);
     let ended = simulate::<Global, Vec<u8>, Untold>(alloc, row.inittab, None, script, &mut out);
     let end = end_text(alloc, ended)?;
     if is_handed {
         let text = without_handed(alloc, &out)?;
         if text.len().saturating_add(HANDED.len()) != out.len() {
-            return Ok(Outcome::Other(String::from_str(alloc, "its trace has no such line")?));
+            return String::from_str(alloc, "its trace has no such line");
         }
         out = text;
     }
@@ -58,64 +63,57 @@ fn run_over(
         ("its trace", out.as_slice(), row.trace),
         ("its end", end.as_bytes(), row.fault),
     ];
-    let other = difference(alloc, &texts)?;
-    Ok(if other.is_empty() {
-        Outcome::Same
-    } else {
-        Outcome::Other(other)
-    })
+    difference(alloc, &texts)
 }
 
-/// With a hand-over between these parts of its script the rest of the row's trace is the same.
-fn tried_between(
+/// Inserts a hand-over between these parts of the row's script. The rest of its trace must be the same.
+fn difference_between(
     alloc: Global,
     row: &Row<'_>,
     front: &[u8],
-    behind: &[u8],
-) -> Result<Outcome, AllocError> {
+    rest: &[u8],
+) -> Result<String, AllocError> {
     let mut script = Vec::from_slice(alloc, front)?;
     script.extend_from_slice(HANDED)?;
-    script.extend_from_slice(behind)?;
-    Ok(match run_over(alloc, row, &script, true)? {
-        Outcome::Same => Outcome::Same,
-        Outcome::Other(other) => {
-            let lines = newlines(front);
-            Outcome::Other(format!(in alloc;
-                "with a hand-over behind line {lines} of its script, {other}"
-            )?)
-        }
-    })
+    script.extend_from_slice(rest)?;
+    let told = run_over(alloc, row, &script, true)?;
+    if told.is_empty() {
+        return Ok(told);
+    }
+    let lines = newlines(front);
+    format!(in alloc; "with a hand-over after line {lines} of its script, {told}")
 }
 
-/// With a hand-over behind any happening of the row's script, or before them, the rest of its trace is the same.
-fn handed(alloc: Global, row: &Row<'_>) -> Result<Outcome, Memory> {
+/// Inserts a hand-over after each happening of the row's script, and before all of them. The rest of its trace must be
+/// the same.
+fn handed_difference(alloc: Global, row: &Row<'_>) -> Result<String, Memory> {
     let script = row.script;
     let mut rest = script;
     for _ in 0..=script.len() {
-        let (front, behind) = script.split_at(script.len().saturating_sub(rest.len()));
-        if let Outcome::Other(other) = tried_between(alloc, row, front, behind)? {
-            return Ok(Outcome::Other(other));
+        let (front, more) = script.split_at(script.len().saturating_sub(rest.len()));
+        let told = difference_between(alloc, row, front, more)?;
+        if !told.is_empty() {
+            return Ok(told);
         }
         match first_happening(alloc, rest)? {
             Some((_, more)) => rest = more,
-            None => return Ok(Outcome::Same),
+            None => return Ok(told),
         }
     }
-    Ok(Outcome::Same)
+    Ok(String::new(alloc))
 }
 
-/// Runs the row, and then with each hand-over. A script that has some of its own, or doesn't come to its end, gets none.
-pub(crate) fn tried(alloc: Global, row: &Row<'_>) -> Result<Outcome, Memory> {
-    if let Outcome::Other(other) = run_over(alloc, row, row.script, false)? {
-        return Ok(Outcome::Other(other));
+/// Runs the row, and then the row with each hand-over. None is inserted into a script that has some of its own, or does
+/// not reach its end.
+pub(crate) fn difference_of(alloc: Global, row: &Row<'_>) -> Result<String, Memory> {
+    let told = run_over(alloc, row, row.script, false)?;
+    if !told.is_empty() || !row.fault.is_empty() || has_handed(row.script) {
+        return Ok(told);
     }
-    if !row.fault.is_empty() || has_handed(row.script) {
-        return Ok(Outcome::Same);
-    }
-    handed(alloc, row)
+    handed_difference(alloc, row)
 }
 
-/// A line of the script tells of a hand-over.
+/// Reports whether a line of the script is a hand-over.
 fn has_handed(script: &[u8]) -> bool {
     script
         .split(|byte| *byte == b'\n')

@@ -1,30 +1,30 @@
-//! A test that runs itself again, with its streams in files, and with or without programs to be found.
+//! Runs a test again as a child, with its streams in files, and with or without programs in its path.
 
 use std::alloc::Global;
 use std::process::{Command, Processes};
 use std::rt::{Env, Files};
 use std::{env, fs, io};
 
-/// A run of a test by itself, and what it writes.
+/// A run of a test as a child, and what it must write.
 pub struct Again {
-    /// The name of the test, after its crate's.
+    /// The name of the test, after that of its crate.
     pub test: &'static str,
-    /// Where programs are looked for.
+    /// The path in which programs are searched for.
     pub path: &'static str,
-    /// The files of its standard output and its standard error.
+    /// The files for its standard output and its standard error.
     pub out: &'static str,
     pub err: &'static str,
-    /// The files that are looked at, with the lines in front of each one's text. A line may have one star, for any
+    /// The files that are checked, with the lines that each begins with. A line may have one star, which stands for any
     /// characters.
     pub said: &'static [(&'static str, &'static str)],
 }
 
-/// This run is one that a test made of itself.
+/// Reports whether this run was started by a test.
 pub fn is_again<R: Env + Alloc>(rt: &R) -> bool {
     env::var(rt, "AGAIN").is_ok()
 }
 
-/// A line that runs the test again.
+/// Returns a command line that runs the test again.
 fn line_of<R: Env + Alloc>(rt: &R, alloc: Global, again: &Again) -> io::Result<String> {
     let Some(program) = env::args(rt)?.next() else {
         return Err(io::Error::other("no program"));
@@ -44,7 +44,7 @@ fn run_line<R: Processes>(rt: &R, command: &mut Command, line: &str) -> io::Resu
     Ok(())
 }
 
-/// The line is this one, or begins and ends as this one does at its star.
+/// Reports whether a line is the expected one, or begins and ends like it around its star.
 fn is_line(line: &str, want: &str) -> bool {
     match want.split_once('*') {
         Some((start, end)) => line.starts_with(start) && line.ends_with(end),
@@ -52,7 +52,7 @@ fn is_line(line: &str, want: &str) -> bool {
     }
 }
 
-/// The text has these lines in front, and after them at most what ends the run of a test.
+/// Reports whether a text begins with these lines, and has nothing after them except the end of a test run.
 fn has_lines(text: &str, want: &str) -> bool {
     let mut lines = text.lines();
     for line in want.lines() {
@@ -64,7 +64,7 @@ fn has_lines(text: &str, want: &str) -> bool {
     true
 }
 
-/// The file has these lines in front.
+/// Reports whether a file begins with these lines.
 fn is_text<R: Files + Alloc>(rt: &R, path: &str, want: &str) -> bool {
     match fs::read_to_string(rt, path) {
         Ok(text) => has_lines(text.as_str(), want) && fs::remove_file(rt, path).is_ok(),
@@ -81,7 +81,7 @@ fn are_texts<R: Files + Alloc>(rt: &R, said: &[(&str, &str)]) -> bool {
     true
 }
 
-/// Runs the test again, and gives whether it wrote that.
+/// Runs the test again, and reports whether it wrote the expected text.
 pub fn is_said<R: Processes + Files + Env + Alloc>(
     rt: &R,
     alloc: Global,
@@ -93,5 +93,5 @@ pub fn is_said<R: Processes + Files + Env + Alloc>(
     Ok(are_texts(rt, again.said))
 }
 
-/// The system's programs are found.
+/// A path in which the system's programs are found.
 pub const SYSTEM: &str = "/bin:/usr/bin";

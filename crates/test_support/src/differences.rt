@@ -1,4 +1,4 @@
-//! In what texts differ from those that a row says, for who reads a failed test.
+//! Differences between texts and those of a row, for the reader of a failed test.
 
 use std::alloc::{AllocError, Global};
 use std::str;
@@ -38,8 +38,8 @@ fn line_difference(
     format!(in alloc; "{what} ends with a newline, or doesn't")
 }
 
-/// Of names, each with a text that was got and the one that is wanted, the first where these differ, by the first line that
-/// does; nothing where none do.
+/// Returns the first name whose actual and expected texts differ, with the first line that does; empty if all are
+/// equal.
 pub fn difference(alloc: Global, texts: &[(&str, &[u8], &[u8])]) -> Result<String, AllocError> {
     for (what, got, want) in texts {
         if got != want {
@@ -49,8 +49,8 @@ pub fn difference(alloc: Global, texts: &[(&str, &[u8], &[u8])]) -> Result<Strin
     Ok(String::new(alloc))
 }
 
-/// What differs from a row, behind the place of the row, counted from 0, and its first words; nothing where nothing does.
-/// None stands for a row that can't be read, or for lack of memory.
+/// Returns a difference from a row after the position of the row, counted from 0, and its first words; empty if there
+/// is none. `None` stands for a row that can't be parsed, or lack of memory.
 pub fn row_difference(
     alloc: Global,
     position: usize,
@@ -72,7 +72,7 @@ pub fn row_difference(
     }
 }
 
-/// The first row that isn't run as it says, and in what.
+/// Returns the first row whose run differs from it, and the difference.
 pub fn first_difference<F: Fn(Global, &str) -> Option<String>>(
     alloc: Global,
     rows: &[&str],

@@ -1,20 +1,20 @@
-//! Growths that are refused one after another, on heaps of more and more room.
+//! Fails allocations one after another, on heaps with more and more room.
 
 use init_words::Memory;
 use linked_list_allocator::LocalHeap;
 use std::alloc::Global;
 
-/// What comes of a call on a heap.
+/// The outcome of a call on a heap.
 #[derive(Clone, Copy, PartialEq, Eq)]
 pub enum Outcome {
-    /// There was no room for what it is called with.
+    /// There was no room for its arguments.
     Unmade,
     Refused,
     Done,
 }
 
 impl Outcome {
-    /// Of a call that was done, or refused.
+    /// Returns the outcome of a call that succeeded or failed.
     pub fn of(is_done: bool) -> Outcome {
         if is_done {
             Outcome::Done
@@ -23,7 +23,7 @@ impl Outcome {
         }
     }
 
-    /// Of a call that answers whether what it gives is right.
+    /// Returns the outcome of a call that answers whether its result is right.
     pub fn of_answer(answer: Result<bool, Memory>) -> Option<Outcome> {
         match answer {
             Ok(true) => Some(Outcome::Done),
@@ -33,8 +33,8 @@ impl Outcome {
     }
 }
 
-/// On how many heaps a call is refused, each with less more room than the least growth takes, before the first on which
-/// it is done; None where anything else comes of it.
+/// Returns the number of heaps on which a call fails before the first on which it succeeds. The heaps grow in steps
+/// smaller than the smallest allocation. Returns `None` if there is any other outcome.
 pub fn refusals<F: Fn(Global, &LocalHeap) -> Option<Outcome>>(
     global: Global,
     call: F,
@@ -53,7 +53,7 @@ pub fn refusals<F: Fn(Global, &LocalHeap) -> Option<Outcome>>(
     None
 }
 
-/// The first row whose call isn't refused on more heaps than the row says, and done on the next.
+/// Returns the first row whose call does not fail on more heaps than the number in the row before it succeeds.
 pub fn first_unrefused<'r, F: Fn(Global, &LocalHeap, &str) -> Option<Outcome>>(
     global: Global,
     rows: &[(&'r str, usize)],

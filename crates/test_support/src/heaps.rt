@@ -1,11 +1,11 @@
-//! Heaps that are full but for some bytes.
+//! Heaps that are full except for some bytes.
 
 use linked_list_allocator::LocalHeap;
 use std::alloc::Global;
 
 const SIZES: &[usize] = &[4096, 256, 64, 16];
 
-/// Takes what a heap has left but the given number of bytes, in blocks of falling sizes, up to 64 of each.
+/// Allocates what a heap has left except the given number of bytes, in blocks of decreasing sizes, up to 64 of each.
 pub fn fill<'a>(
     global: Global,
     heap: &'a LocalHeap,

@@ -1,6 +1,6 @@
-//! What tests share: words of a command line, texts of rows and in what others differ from them, what a scripted host is
-//! given as text, values on the heap, heaps that are full but for some bytes, and a writer that takes one byte a write until
-//! it is full, then fails or takes none, and may not be flushed.
+//! Shared parts of tests: arguments of a command line, rows of texts and differences from them, programs that play the
+//! rows of standard input, the replies of a scripted host as text, values on the heap, heaps that are full except for some bytes, and a writer that accepts one
+//! byte per write until it is full, then fails or accepts none, and may fail to flush.
 #![tactic(auto)]
 
 mod again;
@@ -9,6 +9,7 @@ mod differences;
 mod growths;
 mod heaps;
 mod replies;
+mod rows;
 mod texts;
 mod words;
 mod writers;
@@ -19,8 +20,9 @@ pub use differences::{difference, first_difference, row_difference};
 pub use growths::{Outcome, first_unrefused, refusals};
 pub use heaps::fill;
 pub use replies::{
-    blocks_of, bytes_of, give, given, host_of, late_of, letters_of, part_of, reply_of, table_of,
+    blocks_of, bytes_of, calls_of, give, given, host_of, late_of, part_of, reply_of, table_of,
 };
+pub use rows::play_rows;
 pub use texts::{answer_of, fields_of, happening_of, lines_of};
 pub use words::line_words;
 pub use writers::Slow;

@@ -1,18 +1,18 @@
-//! What a scripted host is given, as text, its items parted by ` / `: the queue's name, and its item in the words of a
-//! trace; and the letters of the calls that were made of it.
+//! The replies that a scripted host is given, as text with items separated by ` / `: the name of the queue, and its
+//! item in the words of a trace; and the calls that were made, in words.
 //!
 //! `start`, `look` and `signal` have a reply: an answer, or `later`. `late` has the id before the answer, or nothing
-//! for the end of a round; `lates` has a number of answers that nobody asked for. `clock` has a reading, `table` the
-//! files of an inittab parted by ` + `, the lines of each parted by `|` and its name before an `@`, or `none`, or `long`
-//! for one file that is a byte too long, or `many` for 257 files. `carry` has the lines of what comes back of a state
-//! text, and `bytes` the requests of a piece. A text behind a `=` stands as it is. A reading, a piece, a table and what
-//! comes back can be `fails`, or `lacks` where there is no memory.
+//! for the end of a round; `lates` has a number of answers that nobody asked for. `clock` has a reading. `table` has
+//! the files of an inittab separated by ` + `, the lines of each separated by `|` and its name before an `@`; or
+//! `none`; or `long` for one file that is a byte too long; or `many` for 257 files. `carry` has the lines of the state
+//! text that comes back, and `bytes` the requests of a piece. A text after a `=` is taken literally. A reading, a
+//! piece, a table and a state text can be `fails`, or `lacks` if there is no memory.
 
 use crate::boxes::boxed;
 use crate::texts::lines_of;
 use host_calls::{Bytes, Call, HostFault, PartList, Reply};
 use host_scripted::MemoryHost;
-use init_words::{Answer, ChildNumber, Id, Memory, Part, Status};
+use init_words::{Answer, ChildNumber, Id, Memory, Part, SignalKind, Status};
 use initctl_frame::{BLOCK, Request, Sign, encode};
 use std::alloc::{Allocator, Global};
 
@@ -30,7 +30,7 @@ fn answer_of(text: &str) -> Option<Answer> {
     }
 }
 
-/// The reply of an item.
+/// Returns the reply for an item.
 pub fn reply_of(text: &str) -> Option<Reply> {
     if text == "later" {
         return Some(Reply::Later);
@@ -38,7 +38,7 @@ pub fn reply_of(text: &str) -> Option<Reply> {
     Some(Reply::Now(answer_of(text)?))
 }
 
-/// The late answer of an item.
+/// Returns the late answer for an item.
 pub fn late_of(text: &str) -> Option<Option<(Id, Answer)>> {
     if text.is_empty() {
         return Some(None);
@@ -47,7 +47,7 @@ pub fn late_of(text: &str) -> Option<Option<(Id, Answer)>> {
     Some(Some((Id::read(id.as_bytes())?, answer_of(answer)?)))
 }
 
-/// What an item that can be a fault gives, where it is none what was made of it.
+/// Returns the fault for an item that is one, and otherwise the given value.
 pub fn given<T: Drop>(item: &str, made: Option<T>) -> Option<Result<T, HostFault>> {
     match item {
         "fails" => Some(Err(HostFault::Device)),
@@ -56,8 +56,8 @@ pub fn given<T: Drop>(item: &str, made: Option<T>) -> Option<Result<T, HostFault
     }
 }
 
-/// The bytes of requests, by their characters of telinit(8), or of zeros. A `-` behind a character leaves of its block the
-/// first 200 bytes, and one before it the others.
+/// Returns the bytes of requests, given by their characters of telinit(8), or of zeros. A `-` after a character takes
+/// only the first 200 bytes of its block, and one before it the others.
 pub fn blocks_of(alloc: Global, words: &str) -> Option<Vec<u8>> {
     let mut bytes = Vec::new(alloc);
     for word in words.split_ascii_whitespace() {
@@ -84,7 +84,7 @@ fn text_of(global: Global, queue: &str, item: &str) -> Option<Vec<u8>> {
     }
 }
 
-/// The bytes of an item of a queue, in memory of an allocator.
+/// Returns the bytes of an item, in the memory of an allocator.
 pub fn bytes_of<A: Allocator + Copy>(
     global: Global,
     alloc: A,
@@ -95,7 +95,7 @@ pub fn bytes_of<A: Allocator + Copy>(
     given(item, Bytes::copy_of(alloc, text.as_slice()).ok())
 }
 
-/// A file of this name and text.
+/// Returns a file with this name and text.
 pub fn part_of<A: Allocator + Copy>(alloc: A, name: &str, text: &[u8]) -> Result<Part<A>, Memory> {
     Ok(Part {
         name: String::from_str(alloc, name)?,
@@ -131,7 +131,7 @@ fn parts_of<A: Allocator + Copy>(global: Global, alloc: A, text: &str) -> Option
     Some(PartList::of(parts))
 }
 
-/// The files of an item, in memory of an allocator.
+/// Returns the files of an item, in the memory of an allocator.
 pub fn table_of<A: Allocator + Copy>(
     global: Global,
     alloc: A,
@@ -185,7 +185,7 @@ fn give_all<A: Allocator + Copy>(
     Some(())
 }
 
-/// A host that is given all items of a text.
+/// Creates a host that is given all items of a text.
 pub fn host_of<A: Allocator + Copy>(
     global: Global,
     alloc: A,
@@ -196,30 +196,44 @@ pub fn host_of<A: Allocator + Copy>(
     Some(host)
 }
 
-/// The letters of the calls that a host tells: `C`lock, `B`ytes, `L`ate answer, `T`able or none (`t`), `S`tart behind its
-/// command, l`O`ok, si`G`nal, carry `H`, a`N`nouncement, `P`ause.
-pub fn letters_of(global: Global, host: &MemoryHost) -> Option<String> {
-    let mut letters = String::new(global);
-    for call in host.calls()? {
-        if let Call::Start(_, command, _) = call {
-            letters
-                .push_str(str::from_utf8(command.as_slice()).ok()?)
-                .ok()?;
+/// Returns the call in words, without its answer.
+fn call_words(global: Global, call: &Call) -> Option<String> {
+    match call {
+        Call::Start(id, command, _) => {
+            let (id, command) = (id.as_str(), str::from_utf8(command.as_slice()).ok()?);
+            format!(in global; "start {id}: {command}")
         }
-        let letter = match call {
-            Call::Clock(_) => 'C',
-            Call::TakeBytes(_, _) => 'B',
-            Call::Late(_) => 'L',
-            Call::ReadTables(Ok(_)) => 'T',
-            Call::ReadTables(Err(_)) => 't',
-            Call::Start(_, _, _) => 'S',
-            Call::Look(_, _) => 'O',
-            Call::Signal(_, _, _) => 'G',
-            Call::Carry(_, _) => 'H',
-            Call::Announce(_) => 'N',
-            Call::Pause => 'P',
-        };
-        letters.push(letter).ok()?;
+        Call::Look(id, _) => {
+            let id = id.as_str();
+            format!(in global; "look {id}")
+        }
+        Call::Signal(id, signal, _) => {
+            let id = id.as_str();
+            let signal = match signal {
+                SignalKind::Term => "term",
+                SignalKind::Kill => "kill",
+            };
+            format!(in global; "signal {id} {signal}")
+        }
+        Call::Clock(_) => String::from_str(global, "clock"),
+        Call::TakeBytes(_, _) => String::from_str(global, "take bytes"),
+        Call::Late(_) => String::from_str(global, "late"),
+        Call::ReadTables(Ok(_)) => String::from_str(global, "read tables"),
+        Call::ReadTables(Err(_)) => String::from_str(global, "read tables: failed"),
+        Call::Carry(_, _) => String::from_str(global, "carry"),
+        Call::Announce(_) => String::from_str(global, "announce"),
+        Call::Pause => String::from_str(global, "pause"),
     }
-    Some(letters)
+    .ok()
+}
+
+/// Returns the calls that were made to a host, oldest first, a line each: the name of the call, with its id, and for a
+/// start the command. `None` if the host had no memory for its record.
+pub fn calls_of(global: Global, host: &MemoryHost) -> Option<String> {
+    let mut lines = String::new(global);
+    for call in host.calls()? {
+        lines.push_str(&call_words(global, call)?).ok()?;
+        lines.push('\n').ok()?;
+    }
+    Some(lines)
 }

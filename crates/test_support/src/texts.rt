@@ -1,11 +1,11 @@
-//! Texts of rows, and what they say.
+//! Parses texts of rows.
 
 use init_words::{Answer, Id};
 use std::alloc::{AllocError, Global};
 use trace_events::{Happening, HappeningIn};
 use trace_text::first_happening;
 
-/// The fields of a row, parted by ` | `; one that is `-` has nothing.
+/// Returns the fields of a row, which are separated by ` | `; a field `-` is empty.
 pub fn fields_of<'r>(global: Global, row: &'r str) -> Result<Vec<&'r str>, AllocError> {
     let mut fields = Vec::new(global);
     for field in row.split(" | ") {
@@ -14,8 +14,8 @@ pub fn fields_of<'r>(global: Global, row: &'r str) -> Result<Vec<&'r str>, Alloc
     Ok(fields)
 }
 
-/// The lines of a text, which are parted so, each ended by a newline; none of an empty one. A part `N x LINE, LINE` has its
-/// lines so often.
+/// Returns the lines of a text, which are separated by `parted`, each with a newline; none for an empty text. A part `N
+/// x LINE, LINE` repeats its lines N times.
 pub fn lines_of(global: Global, text: &str, parted: &str) -> Result<String, AllocError> {
     let mut lines = String::new(global);
     if text.is_empty() {
@@ -33,14 +33,14 @@ pub fn lines_of(global: Global, text: &str, parted: &str) -> Result<String, Allo
     Ok(lines)
 }
 
-/// The happening of a line, if it is one.
+/// Returns the happening in a line, if there is one.
 pub fn happening_of(global: Global, line: &str) -> Option<HappeningIn<Global>> {
     let text = lines_of(global, line, " / ").ok()?;
     let (happening, _) = first_happening(global, text.as_bytes()).ok()??;
     Some(happening)
 }
 
-/// The answer that a happening tells of, if it does.
+/// Returns the answer in a happening, if it has one.
 pub fn answer_of(happening: &HappeningIn<Global>) -> Option<(Id, Answer)> {
     Some(match *happening {
         Happening::Birth(id, number) => (id, Answer::Born(number)),

@@ -7,7 +7,7 @@ fn add_line(alloc: Global, words: &mut Vec<String>, line: &str) -> Result<(), Al
     Ok(())
 }
 
-/// The words of a command line, parted by single blanks; an empty line has none.
+/// Returns the arguments of a command line, which are separated by single blanks; an empty line has none.
 pub fn line_words(alloc: Global, line: &str) -> Result<Vec<String>, AllocError> {
     let mut words = Vec::new(alloc);
     if !line.is_empty() {

@@ -2,20 +2,20 @@ use std::alloc::Global;
 use std::io;
 use std::io::{ErrorKind, Write};
 
-/// A writer that takes one byte a write. Once it has `room` bytes it fails, or takes none.
+/// A writer that accepts one byte per write. Once it has `room` bytes it fails, or accepts none.
 #[derive(Drop)]
 pub struct Slow {
-    /// What it took.
+    /// The bytes that it accepted.
     pub taken: Vec<u8>,
-    /// How many bytes it takes.
+    /// The number of bytes that it accepts.
     pub room: usize,
     fails: bool,
-    /// It can't be flushed.
+    /// Whether it can't be flushed.
     is_stuck: bool,
 }
 
 impl Slow {
-    /// A writer that took nothing yet.
+    /// Creates a writer that has accepted nothing.
     pub fn new(alloc: Global, room: usize, fails: bool, is_stuck: bool) -> Slow {
         Slow {
             taken: Vec::new(alloc),
@@ -25,7 +25,7 @@ impl Slow {
         }
     }
 
-    /// The front of a line for which it has room.
+    /// Returns the prefix of a line for which it has room.
     pub fn front_of<'l>(&self, line: &'l str) -> &'l [u8] {
         line.as_bytes().get(..self.room).unwrap_or(line.as_bytes())
     }

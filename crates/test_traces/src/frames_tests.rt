@@ -1,4 +1,4 @@
-//! Request blocks by their bytes (initreq.h), and what they ask for (telinit(8)).
+//! Tests of request blocks as bytes (initreq.h), and of the requests in them (telinit(8)).
 
 use init_words::{Letter, Level, PowerKind};
 use initctl_frame::{
@@ -6,22 +6,22 @@ use initctl_frame::{
 };
 use std::test::Fail;
 
-/// The ints of the block that asks to read inittab again: magic, RUNLVL, `q`, 5 seconds.
+/// The ints of the block that asks init to read inittab again: magic, RUNLVL, `q`, 5 seconds.
 const RELOAD: [u8; 16] = [
     0x69, 0x19, 0x09, 0x03, 1, 0, 0, 0, 0x71, 0, 0, 0, 5, 0, 0, 0,
 ];
 
-/// The ints of the block that says that the power is back: magic, POWEROK, and zeros.
+/// The ints of the block that reports that the power is back: magic, POWEROK, and zeros.
 const POWER_BACK: [u8; 16] = [0x69, 0x19, 0x09, 0x03, 4, 0, 0, 0, 0, 0, 0, 0, 0, 0, 0, 0];
 
-/// The block of these ints, with zeros after them.
+/// Returns the block with these ints, followed by zeros.
 fn block_of(ints: &[u8; 16]) -> [u8; BLOCK] {
     let mut block = [0; BLOCK];
     block[..16].copy_from_slice(ints);
     block
 }
 
-/// The block of these ints after the magic.
+/// Returns the block with these ints after the magic.
 fn block_of_ints(command: i32, runlevel: i32, sleeptime: i32) -> [u8; BLOCK] {
     let mut block = block_of(&RELOAD);
     block[4..8].copy_from_slice(&command.to_le_bytes());
@@ -30,7 +30,7 @@ fn block_of_ints(command: i32, runlevel: i32, sleeptime: i32) -> [u8; BLOCK] {
     block
 }
 
-/// Command, runlevel and sleeptime, and what their block asks for.
+/// Command, runlevel and sleeptime, and the request in their block.
 const ROWS: &[(i32, i32, i32, HeardRequest)] = &[
     (0, 113, 5, HeardRequest::Nothing(Cause::LeftOut)),
     (2, 113, 5, HeardRequest::Power(PowerKind::Fail)),
@@ -62,13 +62,14 @@ fn ints_are_read(rt: HostRuntime) {
     }
 }
 
-/// A character of telinit(8) or news of the power, the ints of its block, and what that asks for.
+/// A character of telinit(8) or news of the power, the ints of its block, and the request in it.
 const WRITTEN: &[(Option<u8>, &[u8; 16], HeardRequest)] = &[
     (Some(b'q'), &RELOAD, HeardRequest::Reload),
     (None, &POWER_BACK, HeardRequest::Power(PowerKind::Ok)),
 ];
 
-/// The request of a character, for 5 seconds, or that the power is back, has this block and asks for this.
+/// Reports whether the request for a character, for 5 seconds, or that the power is back, has this block, which
+/// contains this request.
 fn is_written(code: Option<u8>, ints: &[u8; 16], want: HeardRequest) -> Option<bool> {
     let request = match code {
         Some(code) => Request::Runlvl(Sign::read(code)?, 5),
@@ -89,10 +90,11 @@ fn requests_are_written(rt: HostRuntime) {
     assert!(rt; Sign::read(b'x').is_none());
 }
 
-/// A piece, how many of its bytes are taken and what is got, and how many bytes of a block are kept then.
+/// A piece, the number of its bytes that are taken and the request, and the number of bytes of a block that are kept
+/// then.
 type Piece<'a> = (&'a [u8], (usize, Option<HeardRequest>), usize);
 
-/// What a reader takes of these pieces, one after the other; its copy goes on after the third.
+/// What a reader takes of these pieces, one after another; its copy continues after the third.
 const PIECES: &[Piece<'static>] = &[
     (&[], (0, None), 0),
     (&RELOAD, (16, None), 16),
@@ -120,7 +122,7 @@ fn are_fed(blocks: &mut Blocks, pieces: &[Piece]) -> bool {
     true
 }
 
-/// The block is one request, whatever its bytes are, and nothing of it is kept.
+/// Reports whether the block is read as one request, whatever its bytes are, and nothing of it is kept.
 fn is_one(blocks: &mut Blocks, block: &[u8; BLOCK], want: HeardRequest) -> bool {
     are_fed(blocks, &[(block.as_slice(), (BLOCK, Some(want)), 0)])
 }
@@ -136,7 +138,7 @@ fn a_block_comes_in_pieces(rt: HostRuntime) -> Result<(), Fail> {
     Ok(())
 }
 
-/// A good block, a bad one in which a whole good one begins at its second byte, and one for level 3.
+/// Returns a good block, a bad one in which a complete good one begins at the second byte, and one for level 3.
 fn three_blocks() -> [u8; 1152] {
     let mut bytes = [0; 1152];
     bytes[..16].copy_from_slice(&RELOAD);
@@ -153,7 +155,7 @@ const THREE_GOT: [HeardRequest; 4] = [
     HeardRequest::Reexec,
 ];
 
-/// Whether the blocks are got however they are cut in three.
+/// Reports whether the requests are the same however the blocks are cut into three pieces.
 fn are_heard_of_cuts(bytes: &[u8; 1152]) -> bool {
     for first in 0..1153 {
         for second in first..1153 {
@@ -170,13 +172,14 @@ fn are_heard_of_cuts(bytes: &[u8; 1152]) -> bool {
 #[test]
 fn cuts_change_nothing(rt: HostRuntime) {
     assert!(rt; are_heard_of_cuts(&three_blocks()));
-    // What is past the room is left out.
+    // Requests for which there is no room are omitted.
     let block = block_of(&RELOAD);
     let mut room = [HeardRequest::Reexec];
     assert!(rt; read_pieces(&[&block, &block], &mut room) == 1 && room == [HeardRequest::Reload]);
 }
 
-/// A block of this byte alone has no magic number, and each block with this byte in it is what its own bytes ask for.
+/// Reports whether a block that consists of this byte has no magic number, and each block with this byte in it contains
+/// the request of its own bytes.
 fn are_ones(byte: u8) -> bool {
     for position in 0..BLOCK {
         let mut block = block_of(&RELOAD);

@@ -1,5 +1,5 @@
-//! Growths are refused in turn, on heaps of more and more room, until a call meets no refusal: what is answered is lack
-//! of memory, and what was written is a front of the trace. A writer that is full ends a log in the same way.
+//! Fails allocations one after another, on heaps with more and more room, until a call has enough: the answer is lack
+//! of memory, and what was written is a prefix of the trace. A full writer ends a log in the same way.
 
 use crate::verdicts::{finished, found, hand_over, judge_over};
 use init_words::{Id, Memory};
@@ -9,10 +9,9 @@ use simulator::{SimFault, Untold, simulate};
 use std::alloc::Global;
 use std::test::Fail;
 use test_support::{Outcome, Slow, boxed, first_unrefused, lines_of};
-use trace_check::Law;
+use trace_check::{Law, Verdict};
 use trace_events::{HappeningIn, happening_copy};
 use trace_log::{ListLog, StreamLog};
-use trace_pass::Verdict;
 use trace_text::ReadFault;
 use trace_view::{LastLines, ObservedTrace, TraceObserver};
 
@@ -28,7 +27,7 @@ const TRACE: &str =
      ask r start / got reload / birth r 11 / told r / use 1 / r:3:respawn:serv / settle 3 / handed whole / \
      got call A / call A";
 
-/// A child is born while an excluded one is unreaped.
+/// A child is born while an excluded one is not reaped.
 const BREACH: &str =
     "use 2 / a:3:once:x / b:1:once:y / enter 3 5 / ask a start / birth a 10 / told a / enter 1 5 / ask b start / birth b 11";
 
@@ -46,7 +45,7 @@ const BRIEF: &[u8] = b"use 1\na:3:respawn:x\nenter 3 5\nask a start\nbirth a 10\
 clock 101\nnudge\nask a look\ndeath 10\n\
 reaped a 10 killed\ntold a\nask a start\nbirth a 11\ntold a\nclock 102\nnudge\nask a look\nstill a\n";
 
-/// A run writes the trace, or a front of it where a heap has no room for it.
+/// Writes the trace of a run, or a prefix of it if there is no room for it on a heap.
 fn runs(global: Global, heap: &LocalHeap, trace: &[u8]) -> Result<bool, Memory> {
     let mut out: Vec<u8> = Vec::new(global);
     match simulate::<&LocalHeap, Vec<u8>, Untold>(heap, INITTAB, None, SCRIPT, &mut out) {
@@ -74,7 +73,7 @@ fn judges(global: Global, heap: &LocalHeap, text: &[u8]) -> Result<bool, Memory>
     Ok(is_found && judge.answer().1.is_none())
 }
 
-/// What sees the trace, handed over in pieces.
+/// Returns an observer of the trace, which it is given in pieces.
 fn seen_by<'h, S: TraceObserver<&'h LocalHeap> + Drop>(
     global: Global,
     heap: &'h LocalHeap,
@@ -102,7 +101,7 @@ fn sees_marks(global: Global, heap: &LocalHeap) -> Result<bool, Memory> {
     Ok(text.seen().as_slice().len() == 6 && text.end().0.is_none())
 }
 
-/// A log on a heap takes the whole brief form, or has a front of it.
+/// Reports whether a log on a heap takes the complete brief form; otherwise it must have a prefix of it.
 fn lists(global: Global, heap: &LocalHeap, trace: &[HappeningIn<Global>]) -> Result<bool, Memory> {
     let (list, all) = finished(ListLog::new(heap), trace);
     let text = trace_text::print(global, list.as_slice())?;
@@ -115,7 +114,7 @@ fn lists(global: Global, heap: &LocalHeap, trace: &[HappeningIn<Global>]) -> Res
 
 const TABLE: &[u8] = b"use 3\nid:3:initdefault:\nw:3:wait:prep\nr:3:respawn:serv\n";
 
-/// The first happening of the trace, a table, is copied.
+/// Copies the first happening of the trace, a table.
 fn copies(global: Global, heap: &LocalHeap, trace: &[HappeningIn<Global>]) -> Result<bool, Memory> {
     let [first, ..] = trace else {
         return Ok(false);
@@ -124,7 +123,7 @@ fn copies(global: Global, heap: &LocalHeap, trace: &[HappeningIn<Global>]) -> Re
     Ok(printed.as_slice() == TABLE)
 }
 
-/// What a call on a heap gives of a trace, and of its text, is right.
+/// Reports whether the result of a call on a heap, for a trace and its text, is right.
 fn is_right(
     global: Global,
     heap: &LocalHeap,
@@ -137,7 +136,7 @@ fn is_right(
         "print" => Ok(trace_text::print(heap, trace)?.as_slice() == text),
         "copy" => copies(global, heap, trace),
         "read" => reads(heap, text),
-        "check" => Ok(trace_pass::check(heap, trace)? == Verdict::Breach(7, Law::BesideExcluded)),
+        "check" => Ok(trace_check::check(heap, trace)? == Verdict::Breach(7, Law::BesideExcluded)),
         "judge" => judges(global, heap, text),
         "lines" => sees_lines(global, heap),
         "marks" => sees_marks(global, heap),
@@ -145,7 +144,7 @@ fn is_right(
     }
 }
 
-/// Traces, what needs room over each, and how many heaps at least have none for it.
+/// Traces, the calls that need room for each, and a number of heaps: the call must fail on more heaps than that.
 const REFUSED: &[(&str, &[(&str, usize)])] = &[
     (TRACE, &[("run", 8), ("print", 2), ("copy", 2)]),
     (BREACH, &[("read", 8), ("check", 3), ("judge", 8)]),
@@ -165,7 +164,8 @@ fn what_has_no_room_is_refused(rt: HostRuntime) -> Result<(), Fail> {
     Ok(())
 }
 
-/// The writer took of the brief form what it has room for, and the log all where that is the whole text.
+/// Reports whether the writer took as much of the brief form as it has room for, and the log took everything if that is
+/// the whole text.
 fn is_streamed(global: Global, room: usize, fails: bool) -> Option<bool> {
     let text = lines_of(global, LONG, " / ").ok()?;
     let trace = trace_text::read(global, text.as_bytes()).ok()?;

@@ -1,5 +1,5 @@
-//! Growths are refused in turn, on heaps of more and more room, until a call meets no refusal: what is answered is lack
-//! of memory, and a table that was there is as it was.
+//! Fails allocations one after another, on heaps with more and more room, until a call has enough: the answer is lack
+//! of memory, and an existing table is unchanged.
 
 use init_words::{Memory, Part};
 use inittab_lint::{LineWarning, Warning, warnings};
@@ -9,7 +9,7 @@ use std::alloc::{Allocator, Global};
 use std::test::Fail;
 use test_support::{Outcome, first_unrefused, part_of};
 
-/// A text with two entries and two faults, and the two entries as they are written.
+/// A text with two entries and two faults, and the two entries in their written form.
 const TEXT: &[u8] = b"id:3:initdefault:\nnothing\na:3:respawn:/bin/x 1\na:3:once:twice\n";
 
 const WRITTEN: &[u8] = b"id:3:initdefault:\na:3:respawn:/bin/x 1\n";
@@ -35,12 +35,12 @@ const WARNINGS: [LineWarning; 3] = [
     },
 ];
 
-/// The table has these entries.
+/// Reports whether the table has these entries.
 fn is_table<A: Allocator>(global: Global, table: &Table<A>) -> Result<bool, Memory> {
     Ok(inittab_text::write(global, table)?.as_slice() == WRITTEN)
 }
 
-/// The answer of a call over two parts of the text is right.
+/// Reports whether the answer of a call for two parts of the text is right.
 fn is_read(
     global: Global,
     heap: &LocalHeap,
@@ -55,7 +55,7 @@ fn is_read(
     Ok(faults.len() == 2 && is_table(global, &table)?)
 }
 
-/// The answer of a call over a table is right, and leaves it as it was.
+/// Reports whether the answer of a call for a table is right, and leaves the table unchanged.
 fn is_kept(
     global: Global,
     heap: &LocalHeap,
@@ -74,7 +74,7 @@ fn is_kept(
     }
 }
 
-/// The warnings about the files are right.
+/// Reports whether the warnings about the files are right.
 fn is_warned(heap: &LocalHeap, files: &[Part]) -> Result<bool, TableFault> {
     match warnings(heap, files) {
         Ok(found) => Ok(found.as_slice() == WARNINGS.as_slice()),
@@ -82,7 +82,7 @@ fn is_warned(heap: &LocalHeap, files: &[Part]) -> Result<bool, TableFault> {
     }
 }
 
-/// What the calls are over.
+/// The arguments of the calls.
 #[derive(Clone, Copy)]
 struct Given<'a> {
     table: &'a Table,
@@ -90,7 +90,7 @@ struct Given<'a> {
     files: &'a [Part],
 }
 
-/// The calls that grow, and how many heaps at least have no room for each.
+/// The calls that allocate, and a number of heaps: each call must fail on more heaps than that.
 const CALLS: &[(&str, usize)] = &[
     ("read", 1),
     ("read_parts", 1),
@@ -100,7 +100,7 @@ const CALLS: &[(&str, usize)] = &[
     ("warnings", 1),
 ];
 
-/// The call's answer on a heap is right.
+/// Reports whether the call's answer on a heap is right.
 fn is_answered(
     global: Global,
     heap: &LocalHeap,

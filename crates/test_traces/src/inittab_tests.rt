@@ -1,4 +1,4 @@
-//! Texts and files that are read as one table, and tables that are written. The cases are rows.
+//! Tests of texts and files that are read as one table, and of tables that are written. The cases are rows.
 
 use crate::verdicts::or_difference;
 use init_words::{Act, Id, Level, Memory, Part};
@@ -9,14 +9,14 @@ use std::test::Fail;
 use test_support::{boxed, part_of};
 use text_lines::cut;
 
-/// Parts whose lines say what becomes of them, and the default level of their table. A line is written as it stands, or as
-/// stands behind its `>`; with `>` alone it is none of an entry, and with `>!` a fault.
+/// Parts whose lines say what becomes of them, and the default level of their table. A line is written unchanged, or as
+/// the text after its `>`; with `>` only it is not the line of an entry, and with `>!` it has a fault.
 type Row = (&'static [&'static [u8]], Option<Level>);
 
 const ROWS: &[Row] = &[
     // No parts are an empty table.
     (&[], None),
-    // A last line without a newline ends with its part; an id of a part before is not taken again.
+    // A last line without a newline ends with its part; an id of an earlier part is not accepted again.
     (
         &[
             b"id:3:initdefault:\na:3:once:x\n",
@@ -36,7 +36,7 @@ const ROWS: &[Row] = &[
         ],
         None,
     ),
-    // The default level is that of the first initdefault that names one, in whichever part.
+    // The default level is that of the first initdefault that names one, in any part.
     (
         &[
             b"i::initdefault:>i:-:initdefault:",
@@ -62,7 +62,7 @@ const ROWS: &[Row] = &[
         Some(Level::L3),
     ),
     (&[b"a:3:wait:x"], None),
-    // Faulty lines are left out, and each kind of fault is there.
+    // Faulty lines are ignored, and each kind of fault occurs.
     (&[FIVE], None),
     (&[RESPAWNS], None),
     (&[CHECKED], None),
@@ -70,7 +70,7 @@ const ROWS: &[Row] = &[
     (&[IN_USE], Some(Level::L2)),
 ];
 
-/// Three of the five lines are left out.
+/// Three of the five lines are ignored.
 const FIVE: &[u8] = b"toolong:3:once:x
 a:3:bogus:x>!unknown action
 a:3:once:>!no process
@@ -146,7 +146,7 @@ po::powerokwait:/etc/init.d/powerfail stop>po:S0123456789:powerokwait:/etc/init.
 #T0:23:respawn:/sbin/getty -L ttyS0 9600 vt100>
 ";
 
-/// What a row says: its parts, what is written of their table, and their faults.
+/// The contents of a row: its parts, the written form of their table, and their faults.
 #[derive(Drop)]
 struct Want {
     parts: Vec<Part>,
@@ -155,7 +155,7 @@ struct Want {
     level: Option<Level>,
 }
 
-/// Adds what becomes of a line of a part, by its number.
+/// Adds what becomes of a line of a part, with its number.
 fn add_outcome(
     want: &mut Want,
     position: usize,
@@ -208,7 +208,7 @@ fn want_of(alloc: Global, (parts, level): &Row) -> Result<Box<Want>, Fail> {
     Ok(want)
 }
 
-/// The faults, one a line.
+/// Returns the faults, one per line.
 fn report_of<T: Display>(alloc: Global, faults: &[T]) -> Result<String, Fail> {
     let mut report = String::new(alloc);
     for fault in faults {
@@ -225,7 +225,7 @@ fn head_text(alloc: Global, entries: usize, level: Option<Level>) -> Result<Stri
     Ok(format!(in alloc; "{entries} entries, default level {code}")?)
 }
 
-/// In what the table and the faults differ from those of the row; nothing where they are the same.
+/// Returns the difference between the table and the faults and those of the row; empty if there is none.
 fn table_difference<T: Display>(
     alloc: Global,
     table: &Table,
@@ -256,7 +256,7 @@ fn parts_difference(alloc: Global, want: &Want) -> Result<String, Fail> {
     table_difference(alloc, &table, faults.as_slice(), want)
 }
 
-/// The text is one that is written, and is written again of the copy of its table.
+/// Reports whether the text is a written form, and the copy of its table is written in the same form.
 fn is_written(alloc: Global, text: &[u8]) -> Result<bool, Memory> {
     match read_written(alloc, text)? {
         Some(table) => {
@@ -267,7 +267,8 @@ fn is_written(alloc: Global, text: &[u8]) -> Result<bool, Memory> {
     }
 }
 
-/// The same of the one text of a row, if it has one, which is also read as one that is written just where it is.
+/// Returns the difference for the only text of a row, if it has one. It must be read as a written form exactly if it is
+/// one.
 fn text_difference(alloc: Global, want: &mut Want) -> Result<String, Fail> {
     let [part] = want.parts.as_slice() else {
         return Ok(String::new(alloc));
@@ -307,7 +308,7 @@ const FOUND: &[(&[u8], Option<Act>)] = &[
     (b"a", None),
 ];
 
-/// Its entries are found, by place and by id.
+/// Tests that its entries are found, by position and by id.
 #[test]
 fn entries_are_found(rt: HostRuntime) -> Result<(), Fail> {
     let want = want_of(rt.alloc(), &(&[FIVE], None))?;
@@ -325,7 +326,7 @@ fn entries_are_found(rt: HostRuntime) -> Result<(), Fail> {
     Ok(())
 }
 
-/// The lines of as many wait entries, each with an id of its own and a process of so many bytes.
+/// Returns the lines of this number of wait entries, each with a different id and a process of this length.
 fn lines_of(alloc: Global, count: u32, length: u32) -> Result<String, Fail> {
     let mut text = String::new(alloc);
     for number in 0..count {
@@ -338,14 +339,15 @@ fn lines_of(alloc: Global, count: u32, length: u32) -> Result<String, Fail> {
     Ok(text)
 }
 
-/// How many lines, how long the process of each, how many entries are read of them, and the faults.
+/// The number of lines, the length of the process of each, the number of entries that are read, and the faults.
 const LINE_LIMITS: &[(u32, u32, usize, &str)] = &[
     (1, 128, 0, "inittab line 1: process too long\n"),
     (4_097, 1, 4_096, "inittab line 4097: too many entries\n"),
     (4_096, 127, 4_096, ""),
 ];
 
-/// So many entries are read of the lines, with these faults; where there are none, the lines are as they are written.
+/// Reports whether this number of entries is read from the lines, with these faults; if there are none, the lines must
+/// be in their written form.
 fn are_lines(alloc: Global, lines: &[u8], len: usize, want: &str) -> Result<bool, Fail> {
     let (table, faults) = inittab_text::read(alloc, lines)?;
     let report = report_of(alloc, faults.as_slice())?;
@@ -368,7 +370,7 @@ fn lines_have_limits(rt: HostRuntime) -> Result<(), Fail> {
     Ok(())
 }
 
-/// Parts of as many bytes, of comments.
+/// Returns parts of this size, which consist of comments.
 fn comments(alloc: Global, count: u32, bytes: u32) -> Result<Vec<Part>, Fail> {
     let mut text = Vec::new(alloc);
     for _ in 0..bytes {
@@ -385,7 +387,7 @@ const TOO_LONG: &str = "inittab is longer than 1048576 bytes";
 
 const TOO_MANY: &str = "inittab has more than 256 files";
 
-/// How many parts of how many bytes, and why they are refused, where they are.
+/// The number of parts, their size, and why they are rejected, if they are.
 const LIMITS: &[(u32, u32, &str)] = &[
     (256, 0, ""),
     (257, 0, TOO_MANY),
@@ -397,7 +399,7 @@ const LIMITS: &[(u32, u32, &str)] = &[
     (2, 524_289, TOO_LONG),
 ];
 
-/// A reading is refused for this reason; without one, it gives no entry.
+/// Reports whether a reading is rejected for this reason; without a reason, it must have no entries.
 fn is_told<T>(
     alloc: Global,
     given: &Result<(Table, Vec<T>), TableFault>,

@@ -1,11 +1,11 @@
-//! Starts of one entry in time, and what the limit of 10 in 120 seconds answers (init(8)).
+//! Tests of starts of one entry at given times, and what the limit of 10 in 120 seconds allows (init(8)).
 
 ghost use Rattle.std.specs.Prelude.{◌≤◌};
 ghost use Rattle.respawn_limit.specs.declared.TheConstants.{CLOCK_LIMIT};
 
 use respawn_limit::{CLOCK_LIMIT, Limiter, May};
 
-/// A call of a limiter, or what it gives.
+/// A call to a limiter, or a check of its state.
 enum Call {
     /// Starts that it allows.
     Starts(&'static [u64]),
@@ -13,13 +13,13 @@ enum Call {
     Clear,
     /// The starts that it keeps, and when its hold ends.
     Kept(&'static [u64], Option<u64>),
-    /// What it answers at a time, and whether it is held then.
+    /// Its answer at a time, and whether the entry is held then.
     At(u64, May, bool),
 }
 
 const AT_ONCE: &[u64] = &[0; 10];
 
-/// Ten starts at most are kept, and a hold stands five minutes.
+/// It keeps at most ten starts, and a hold lasts five minutes.
 const RUNS: &[&[Call]] = &[
     &[
         Call::Starts(AT_ONCE),
@@ -39,7 +39,7 @@ const RUNS: &[&[Call]] = &[
         Call::At(60, May::HoldUntil(360), false),
         Call::At(119, May::HoldUntil(419), false),
         Call::At(120, May::Yes, false),
-        // The next start is free at 180.
+        // The next start is allowed at 180.
         Call::Starts(&[120]),
         Call::Kept(&[60, 60, 60, 60, 60, 60, 60, 60, 60, 120], None),
         Call::At(120, May::HoldUntil(420), false),
@@ -54,7 +54,7 @@ const RUNS: &[&[Call]] = &[
     ],
 ];
 
-/// Notes the starts, as a caller that asks first; gives whether each may be made.
+/// Records the starts, as a caller that asks first. Reports whether all of them are allowed.
 fn are_noted(limiter: &mut Limiter, times: &[u64]) -> bool {
     for &time in times {
         if time > CLOCK_LIMIT || !limiter.starts().iter().all(|start| *start <= time) {
@@ -78,7 +78,7 @@ fn is_alike(limiter: &Limiter, again: &Limiter, now: u64, may: May, held: bool) 
         && again == limiter
 }
 
-/// The limiter answers this now, and so do one made of its parts and its copy.
+/// Reports whether the limiter gives this answer now, and so do its copy and one created from its parts.
 fn answers(limiter: &Limiter, now: u64, may: May, held: bool) -> bool {
     let again = Limiter::of(limiter.starts(), limiter.held_until());
     let is_copied = match limiter.clone() {

@@ -1,27 +1,28 @@
-//! Lines that are said to what tells them: each stands behind those before it.
+//! Tests that lines written to an output follow the earlier ones.
 
-use initview_lines::{Line, SayFault, Says, Zone, text_line, words_of};
+use initview_lines::{Line, LineSink, SinkFault, Zone, text_line, words_of};
 use jiff::Error;
 use std::alloc::{AllocError, Global};
 use std::test::Fail;
 
-/// Keeps the lines that are said.
+/// An output that keeps its lines.
 #[derive(Drop)]
 struct Kept {
     lines: Vec<Line>,
     is_local: bool,
 }
 
-impl Says for Kept {
+impl LineSink for Kept {
     ghost use Rattle.std.specs.Prelude.{Some, false};
 
-    ghost said = { λ kept. record { lines = Some kept.lines.items; unread = false; local = kept.is_local } };
+    ghost said = { λ kept.
+        record { lines = Some kept.lines.items; unread = false; local = kept.is_local } };
 
     #[tactic(auto, using(initview_lines::proofs::SayingLemmas::front_none))]
-    fn say(&mut self, _alloc: Global, mut lines: Vec<Line>) -> Result<(), SayFault> {
+    fn say(&mut self, _alloc: Global, mut lines: Vec<Line>) -> Result<(), SinkFault> {
         match self.lines.append(&mut lines) {
             Ok(()) => Ok(()),
-            Err(_) => Err(SayFault::Memory),
+            Err(_) => Err(SinkFault::Memory),
         }
     }
 

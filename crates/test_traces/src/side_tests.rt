@@ -1,4 +1,5 @@
-//! The system's side below a run of `simulate`: what it allows, what it objects to, and the answers that are under way.
+//! Tests of the simulated system of a run of `simulate`: what it allows, what it objects to, and the answers that are
+//! on their way.
 
 use simulator::SimulatedSystem;
 use std::alloc::Global;
@@ -6,15 +7,16 @@ use std::test::Fail;
 use test_support::{answer_of, boxed, first_difference, happening_of};
 use trace_events::{Happening, HappeningIn};
 
-/// Lines that it takes, orders of init among them; behind ` ! ` what is objected to one. `owes` has the answer about an id
-/// that is under way.
+/// Lines that it is given, including orders of init; after ` ! ` the objection to a line. `owes` has the answer about
+/// an id that is on its way.
 const RUNS: &[&str] = &[
-    // The children born for a and b take the number 7 in turn: it is free only once the first is reaped.
-    "birth a 7 ! no start of a is open / ask a start / birth a 7 / nobirth a ! no start of a is open / owes birth a 7 / \
-     told a / told a ! nothing is to be told of a / ask a look / \
+    // The children of a and b have the number 7 one after the other: it is free only after the first is reaped.
+    "birth a 7 ! no start of a is open / ask a start / birth a 7 / nobirth a ! no start of a is \
+     open / owes birth a 7 / told a / told a ! there is nothing to tell of a / ask a look / \
      reaped a 7 killed ! a has no dead child with the number 7 / nolook a / told a / death 7 / \
-     death 7 ! no living child has the number 7 / ask b start / birth b 7 ! an unreaped child has the number 7 / \
-     ask a look / reaped a 7 killed / owes reaped a 7 killed / birth b 7 / owes birth b 7",
+     death 7 ! no living child has the number 7 / ask b start / birth b 7 ! an unreaped child has \
+     the number 7 / ask a look / reaped a 7 killed / owes reaped a 7 killed / birth b 7 / owes \
+     birth b 7",
     // Two children live at once: one is reaped while the other lives, and then the other.
     "ask a start / ask b start / birth a 7 / birth b 7 ! an unreaped child has the number 7 / birth b 8 / told a / told b / \
      ask a look / ask b look / death 7 / reaped b 7 exit 0 ! b has no dead child with the number 7 / \
@@ -22,25 +24,25 @@ const RUNS: &[&str] = &[
      reaped a 8 exit 0 ! a has no dead child with the number 8 / reaped a 7 exit 0 / owes reaped a 7 exit 0 / \
      death 7 ! no living child has the number 7 / death 8 / reaped b 8 killed / owes reaped b 8 killed",
     // What may not come next, and why: each objection, and what is never objected to.
-    "birth a 7 ! no start of a is open / nobirth a ! no start of a is open / told a ! nothing is to be told of a / \
-     death 7 ! no living child has the number 7 / ask a start / ask b~!c start / still a ! no look of a is open / \
-     birth a 4294967295 / nobirth a ! no start of a is open / \
-     birth b~!c 4294967295 ! an unreaped child has the number 4294967295 / told a / \
-     reaped a 4294967295 exit 0 ! no look of a is open / nolook a ! no look of a is open / ask a look / \
-     reaped a 4294967295 exit 0 ! a has no dead child with the number 4294967295 / death 4294967295 / \
-     death 4294967295 ! no living child has the number 4294967295 / \
-     birth b~!c 4294967295 ! an unreaped child has the number 4294967295 / \
-     reaped a 8 killed ! a has no dead child with the number 8 / \
-     reaped b~!c 4294967295 killed ! no look of b~!c is open / reaped a 4294967295 killed / told a / \
-     hit a ! no term or kill of a is open / miss b~!c ! no term or kill of b~!c is open / ask a term / hit a / \
-     miss a ! no term or kill of a is open / told a / ask a kill / miss a / \
-     enter S 5 ! this is a step of init itself / call A ! this is a step of init itself / \
-     power ok ! this is a step of init itself / ask a look ! this is a step of init itself / \
-     hold a ! this is a step of init itself / settle 2 ! this is a step of init itself / \
-     use 0 ! inittab is not to be read now / handed whole / notread / got reload / clock 5 / nudge",
+    "birth a 7 ! no start of a is open / nobirth a ! no start of a is open / told a ! there is \
+     nothing to tell of a / death 7 ! no living child has the number 7 / ask a start / ask b~!c \
+     start / still a ! no look of a is open / birth a 4294967295 / nobirth a ! no start of a is \
+     open / birth b~!c 4294967295 ! an unreaped child has the number 4294967295 / told a / reaped \
+     a 4294967295 exit 0 ! no look of a is open / nolook a ! no look of a is open / ask a look / \
+     reaped a 4294967295 exit 0 ! a has no dead child with the number 4294967295 / death \
+     4294967295 / death 4294967295 ! no living child has the number 4294967295 / birth b~!c \
+     4294967295 ! an unreaped child has the number 4294967295 / reaped a 8 killed ! a has no dead \
+     child with the number 8 / reaped b~!c 4294967295 killed ! no look of b~!c is open / reaped a \
+     4294967295 killed / told a / hit a ! no term or kill of a is open / miss b~!c ! no term or \
+     kill of b~!c is open / ask a term / hit a / miss a ! no term or kill of a is open / told a / \
+     ask a kill / miss a / enter S 5 ! this is a step of init itself / call A ! this is a step of \
+     init itself / power ok ! this is a step of init itself / ask a look ! this is a step of init \
+     itself / hold a ! this is a step of init itself / settle 2 ! this is a step of init itself / \
+     use 0 ! init is not reading the inittab now / handed whole / notread / got reload / clock 5 \
+     / nudge",
 ];
 
-/// This is objected to the happening.
+/// Reports whether this is the objection to the happening.
 fn is_refused(
     global: Global,
     side: &SimulatedSystem,
@@ -52,7 +54,8 @@ fn is_refused(
     Some(!side.allows(happening) && told.as_str() == text)
 }
 
-/// The line goes as it says: its answer is under way, it is objected to, or it is an order or allowed, and taken.
+/// Reports whether the line has the result that it says: its answer is on its way, there is this objection, or it is an
+/// order or allowed, and accepted.
 fn goes(global: Global, side: &mut SimulatedSystem, line: &str) -> Option<bool> {
     if let Some(owed) = line.strip_prefix("owes ") {
         let (id, answer) = answer_of(&happening_of(global, owed)?)?;
@@ -67,7 +70,7 @@ fn goes(global: Global, side: &mut SimulatedSystem, line: &str) -> Option<bool> 
     Some(may_come && side.take(&happening).is_ok())
 }
 
-/// The first line of a run that doesn't go as it says; nothing where all do.
+/// Returns the first line of a run that does not have the result that it says; empty if all have it.
 fn run_difference(global: Global, run: &str) -> Option<String> {
     let mut side = boxed(global, SimulatedSystem::new(global)).ok()?;
     for (position, line) in run.split(" / ").enumerate() {

@@ -3,7 +3,7 @@ use std::alloc::Global;
 use trace_events::Happening;
 use trace_text::{ReadFault, print_one, print_table};
 
-/// Texts of traces, and texts that are none with the number of the line at which no happening begins.
+/// Texts of traces, and texts that are not traces, with the number of the line at which no happening begins.
 const TEXTS: &[(&str, u64)] = &[
     ("", 0),
     (
@@ -33,13 +33,13 @@ const TEXTS: &[(&str, u64)] = &[
     ),
     ("use 0\nuse 2\na:3:once:x\nb:1:respawn:y\nnudge\n", 0),
     ("use 2\nr:0123456789:respawn:getty\nk:S:off:\n", 0),
-    // No last newline, and a line of no byte.
+    // No newline at the end, and an empty line.
     ("nudge", 1),
     ("nudge\nnudge\nnudge", 3),
     ("use 2\na:3:once:x\nb:1:once:y", 1),
     ("\n", 1),
     ("nudge\n\nnudge\n", 2),
-    // Blanks, tabs and bytes that no line has.
+    // Blanks, tabs and bytes that are in no line.
     ("nudge \n", 1),
     (" nudge\n", 1),
     ("told  r\n", 1),
@@ -47,7 +47,7 @@ const TEXTS: &[(&str, u64)] = &[
     ("birth r  7\n", 1),
     ("nudge\r\n", 1),
     ("told r\0\n", 1),
-    // Numbers with a sign or a zero in front, and past their range.
+    // Numbers with a sign or a leading zero, and out of range.
     ("death 07\n", 1),
     ("death +7\n", 1),
     ("birth r 4294967296\n", 1),
@@ -57,7 +57,7 @@ const TEXTS: &[(&str, u64)] = &[
     ("got level 3 3601\n", 1),
     ("got nothing 0\n", 1),
     ("got nothing 5\n", 1),
-    // Words that are none, too few or too many.
+    // Unknown words, too few or too many.
     ("death\n", 1),
     ("told\n", 1),
     ("told ninebytes\n", 1),
@@ -75,7 +75,7 @@ const TEXTS: &[(&str, u64)] = &[
     ("handed cut\n", 1),
     ("Nudge\n", 1),
     ("nudge\nbye\n", 2),
-    // Tables with a line too few, an entry that is not in its written form, or too large a number of entries.
+    // Tables with a line too few, an entry that is not in its written form, or too many entries.
     ("use\n", 1),
     ("use 2\na:3:once:x\n", 1),
     ("nudge\nuse 2\na:3:once:x\na:3:once:y\n", 2),
@@ -87,8 +87,8 @@ const TEXTS: &[(&str, u64)] = &[
     ("use 1\na:3:once:x\nb:3:once:y\n", 3),
 ];
 
-/// The number of the line at which the text is no trace's, 0 where it is one's, which is printed again, whole and each
-/// happening by itself.
+/// Returns the number of the line at which the text is not that of a trace, or 0 if it is one. A trace must print as
+/// the same text, as a whole and happening by happening.
 fn fault_in(global: Global, text: &str) -> Option<u64> {
     let trace = match trace_text::read(global, text.as_bytes()) {
         Ok(trace) => trace,

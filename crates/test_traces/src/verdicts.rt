@@ -1,12 +1,13 @@
-//! What is said of a text: read whole, in pieces, and in its brief form.
+//! The verdicts on a text: read as a whole, in pieces, and in its brief form. A difference from a row is a text, which is
+//! empty if there is none.
 
 use init_words::Memory;
 use std::alloc::{AllocError, Allocator, Global};
-use test_support::{boxed, difference, lines_of};
+use test_support::{boxed, difference};
+use trace_check::Verdict;
 use trace_events::HappeningIn;
 use trace_log::{EndedLog, ListLog, Log};
 use trace_log_wrappers::BriefLog;
-use trace_pass::Verdict;
 use trace_text::ReadFault;
 use trace_verdict::{Finding, TextJudge};
 
@@ -16,21 +17,17 @@ enum Change {
     None,
     Dropped,
     Doubled,
-    /// With the next one.
+    /// It is exchanged with the next one.
     Exchanged,
 }
 
-const CHANGES: [Change; 4] = [
-    Change::None,
-    Change::Dropped,
-    Change::Doubled,
-    Change::Exchanged,
-];
+/// The changes in the order of the columns of a row.
+const CHANGES: [Change; 3] = [Change::Dropped, Change::Doubled, Change::Exchanged];
 
 impl Change {
     fn words(self) -> &'static str {
         match self {
-            Change::None => "as it is",
+            Change::None => "unchanged",
             Change::Dropped => "dropped",
             Change::Doubled => "doubled",
             Change::Exchanged => "exchanged with the next",
@@ -48,7 +45,7 @@ fn add_changed(text: &mut String, line: &str, change: Change) -> Result<(), Allo
     Ok(())
 }
 
-/// A text with its line at a place changed.
+/// Returns a text with its line at a position changed.
 fn changed(
     global: Global,
     text: &str,
@@ -71,7 +68,7 @@ fn changed(
     Ok(made)
 }
 
-/// Hands the log the happenings of a trace: whether it took them all.
+/// Passes the happenings of a trace to the log. Reports whether it took all of them.
 fn takes_all<L: Log>(log: &mut L, trace: &[HappeningIn<Global>]) -> bool {
     for happening in trace {
         if log.failed() || log.take(happening).is_err() {
@@ -81,7 +78,7 @@ fn takes_all<L: Log>(log: &mut L, trace: &[HappeningIn<Global>]) -> bool {
     true
 }
 
-/// What is left of a log after the brief form of a trace, and whether it took it whole.
+/// Returns what remains of a log after the brief form of a trace, and whether it took all of it.
 pub(crate) fn finished<L: EndedLog>(log: L, trace: &[HappeningIn<Global>]) -> (L::Left, bool) {
     let mut brief = BriefLog::new(log);
     let all = takes_all(&mut brief, trace);
@@ -89,16 +86,16 @@ pub(crate) fn finished<L: EndedLog>(log: L, trace: &[HappeningIn<Global>]) -> (L
     (left, all && whole)
 }
 
-/// How many happenings of the brief form of a trace are written before its end.
+/// Returns the number of happenings of the brief form of a trace that are written before its end.
 fn written_before(global: Global, trace: &[HappeningIn<Global>]) -> usize {
     let mut brief = BriefLog::new(ListLog::new(global));
     takes_all(&mut brief, trace);
     brief.into_log().list().len()
 }
 
-/// `.` for a lawful trace, else the place of the first breach and its law.
+/// Returns `.` for a lawful trace, otherwise the position of the first breach and its law.
 fn verdict_on(global: Global, trace: &[HappeningIn<Global>]) -> Result<String, Memory> {
-    match trace_pass::check(global, trace)? {
+    match trace_check::check(global, trace)? {
         Verdict::Lawful => Ok(String::from_str(global, ".")?),
         Verdict::Breach(position, law) => {
             let number = law.number();
@@ -107,14 +104,15 @@ fn verdict_on(global: Global, trace: &[HappeningIn<Global>]) -> Result<String, M
     }
 }
 
-/// The brief form of a trace breaks the same law first as the trace itself, of which this is the verdict, or none.
+/// Reports whether the first law that the brief form of a trace breaks is that of the trace, whose verdict is given, or
+/// none.
 fn is_alike(global: Global, trace: &[HappeningIn<Global>], verdict: &str) -> Result<bool, Memory> {
     let (brief, all) = finished(ListLog::new(global), trace);
     let given = verdict_on(global, brief.as_slice())?;
     Ok(all && brief.len() <= trace.len() && given.split(':').last() == verdict.split(':').last())
 }
 
-/// The trace prints as the text.
+/// Reports whether the trace prints as the text.
 pub(crate) fn is_printed(
     global: Global,
     trace: &[HappeningIn<Global>],
@@ -123,8 +121,8 @@ pub(crate) fn is_printed(
     Ok(trace_text::print(global, trace)?.as_slice() == text.as_bytes())
 }
 
-/// What of a text isn't so: that its verdict is this, its trace prints as the text, and has a brief form like it; `?` and
-/// the number of a line that is none. Nothing where all is so.
+/// Returns what is not true of a text: that it has this verdict, and that its trace prints as the text and has a brief
+/// form with the same verdict. A verdict `?` with a number is that of a line of no trace. Empty if all is true.
 fn judged_difference(global: Global, text: &str, want: &str) -> Option<String> {
     match trace_text::read(global, text.as_bytes()) {
         Ok(trace) => {
@@ -150,7 +148,7 @@ fn judged_difference(global: Global, text: &str, want: &str) -> Option<String> {
     Some(String::new(global))
 }
 
-/// A judge over the given memory, in plain memory itself.
+/// Returns a judge with the given allocator, itself in plain memory.
 pub(crate) fn judge_over<A: Allocator + Copy>(
     global: Global,
     memory: A,
@@ -158,7 +156,7 @@ pub(crate) fn judge_over<A: Allocator + Copy>(
     boxed(global, TextJudge::new(memory))
 }
 
-/// Hands a text to a judge in pieces of a size.
+/// Passes a text to a judge in pieces of a size.
 pub(crate) fn hand_over<A: Allocator + Copy>(
     judge: &mut TextJudge<A>,
     text: &[u8],
@@ -170,7 +168,8 @@ pub(crate) fn hand_over<A: Allocator + Copy>(
     Ok(())
 }
 
-/// What a judge found: `.`, the place of the first breach, its law, its line and its text, or `?` and a line.
+/// Returns what a judge found: `.`, the position of the first breach, its law, its line and its text, or `?` and a
+/// line.
 pub(crate) fn found<A: Allocator + Copy>(global: Global, judge: &TextJudge<A>) -> Option<String> {
     match judge.answer().0 {
         Finding::Lawful => String::from_str(global, ".").ok(),
@@ -183,14 +182,15 @@ pub(crate) fn found<A: Allocator + Copy>(global: Global, judge: &TextJudge<A>) -
     }
 }
 
-/// What is found of a text in pieces of a size, and the line at which its last happening isn't finished, 0 for none.
+/// Returns what is found in a text that comes in pieces of a size, and the line at which its last happening is
+/// incomplete, 0 for none.
 pub(crate) fn found_of(global: Global, text: &str, size: usize) -> Option<(String, u64)> {
     let mut judge = judge_over(global, global).ok()?;
     hand_over(&mut judge, text.as_bytes(), size).ok()?;
     Some((found(global, &judge)?, judge.answer().1.unwrap_or(0)))
 }
 
-/// In what a text is judged otherwise than wanted, read whole and in pieces.
+/// Returns the difference between the verdict on a text, read as a whole and in pieces, and the expected one.
 fn text_difference(global: Global, text: &str, want: &str) -> Option<String> {
     let told = judged_difference(global, text, want)?;
     if !told.is_empty() {
@@ -203,33 +203,84 @@ fn text_difference(global: Global, text: &str, want: &str) -> Option<String> {
     format!(in global; "in pieces {found}").ok()
 }
 
-/// The first line of the trace of a row with whose change it is judged otherwise than the row says; nothing where there is
-/// none.
-pub(crate) fn verdict_difference(global: Global, row: &str) -> Option<String> {
-    let (trace, verdicts) = row.split_once("| ")?;
-    let lines = lines_of(global, trace.trim_ascii_end(), " / ").ok()?;
-    for (change, verdicts_of) in CHANGES.iter().zip(verdicts.split(" | ")) {
-        for (position, want) in verdicts_of.split(' ').enumerate() {
-            let text = changed(global, lines.as_str(), position, *change).ok()?;
-            let told = text_difference(global, text.as_str(), want)?;
+/// Splits a line of a row into the line of the trace and its columns.
+fn parts(line: &str) -> (&str, &str) {
+    line.split_once("  ").unwrap_or((line, ""))
+}
+
+/// Returns the trace of a row, without its columns.
+fn text_of(global: Global, trace: &str) -> Result<String, AllocError> {
+    let mut text = String::new(global);
+    for line in trace.lines() {
+        text.push_str(parts(line).0)?;
+        text.push('\n')?;
+    }
+    Ok(text)
+}
+
+/// Returns a verdict in the form of a column.
+fn short_of(global: Global, verdict: &str) -> Option<String> {
+    if verdict == "lawful" {
+        return String::from_str(global, ".").ok();
+    }
+    let (position, law) = verdict
+        .strip_prefix("happening ")?
+        .split_once(" breaks law ")?;
+    format!(in global; "{position}:{law}").ok()
+}
+
+/// Returns the difference between the verdict on a trace with this line changed and the one in its column, if it has
+/// one.
+fn line_difference(
+    global: Global,
+    text: &str,
+    position: usize,
+    line: &str,
+    column: usize,
+) -> Option<String> {
+    let (line, columns) = parts(line);
+    let (Some(want), Some(change)) = (
+        columns.split_ascii_whitespace().nth(column),
+        CHANGES.get(column),
+    ) else {
+        return Some(String::new(global));
+    };
+    let text = changed(global, text, position, *change).ok()?;
+    let told = text_difference(global, text.as_str(), want)?;
+    if told.is_empty() {
+        return Some(told);
+    }
+    let words = change.words();
+    format!(in global; "{line}, {words}: {told}, not {want}").ok()
+}
+
+/// Returns the difference from a row: in the verdict on its trace, or on the trace with one line changed.
+pub(crate) fn verdict_difference(global: Global, verdict: &str, trace: &str) -> Option<String> {
+    let text = text_of(global, trace).ok()?;
+    let want = short_of(global, verdict.trim_ascii_end())?;
+    let told = text_difference(global, text.as_str(), want.as_str())?;
+    if !told.is_empty() {
+        return Some(told);
+    }
+    for (position, line) in trace.lines().enumerate() {
+        for column in 0..CHANGES.len() {
+            let told = line_difference(global, text.as_str(), position, line, column)?;
             if !told.is_empty() {
-                let line = lines.lines().nth(position).unwrap_or("");
-                let words = change.words();
-                return format!(in global; "{position}, {line}, {words}: {told}, not {want}").ok();
+                return Some(told);
             }
         }
     }
-    Some(String::new(global))
+    Some(told)
 }
 
-/// The lines of a trace, and those of its brief form, which are all but what stands in brackets.
-fn both_of(global: Global, row: &str) -> Option<(Vec<HappeningIn<Global>>, String)> {
+/// Returns a trace, and its brief form, which is everything outside the brackets.
+fn both_of(global: Global, trace: &str) -> Option<(Vec<HappeningIn<Global>>, String)> {
     let (mut whole, mut brief) = (String::new(global), String::new(global));
     let mut is_left = false;
-    for part in row.split(" / ") {
+    for part in trace.lines() {
         let line = part.strip_prefix('[').unwrap_or(part);
         is_left = is_left || line.len() < part.len();
-        let line = lines_of(global, line.strip_suffix(']').unwrap_or(line), " / ").ok()?;
+        let line = format!(in global; "{}\n", line.strip_suffix(']').unwrap_or(line)).ok()?;
         whole.push_str(&line).ok()?;
         if !is_left {
             brief.push_str(&line).ok()?;
@@ -239,10 +290,18 @@ fn both_of(global: Global, row: &str) -> Option<(Vec<HappeningIn<Global>>, Strin
     Some((trace_text::read(global, whole.as_bytes()).ok()?, brief))
 }
 
-/// What is otherwise than a row says: the brief form of its trace, or the verdict on either and how many happenings are
-/// held back at the end; nothing where nothing is.
-pub(crate) fn brief_difference(global: Global, row: &str) -> Option<String> {
-    let (verdict, trace) = row.split_once(" | ")?;
+/// Returns the difference from a row: in the brief form of its trace, or in the verdicts on both, a line each, and the
+/// number of happenings that are held back at the end.
+pub(crate) fn brief_difference(
+    global: Global,
+    verdicts: &str,
+    held: &str,
+    trace: &str,
+) -> Option<String> {
+    let (whole, short) = verdicts.trim_ascii_end().split_once('\n')?;
+    let (whole, short) = (short_of(global, whole)?, short_of(global, short)?);
+    let held = held.trim_ascii_end();
+    let want = format!(in global; "{whole} {short} {held}").ok()?;
     let (trace, brief) = both_of(global, trace)?;
     let (list, all) = finished(ListLog::new(global), &trace);
     let text = trace_text::print(global, list.as_slice()).ok()?;
@@ -267,12 +326,12 @@ pub(crate) fn brief_difference(global: Global, row: &str) -> Option<String> {
         told,
         "its verdicts",
         got.as_bytes(),
-        verdict.as_bytes(),
+        want.as_bytes(),
     )
     .ok()
 }
 
-/// What was told, or else in what a text differs from the one that is wanted; nothing where it doesn't.
+/// Returns `told`, or otherwise the difference between a text and the expected one; empty if there is none.
 pub(crate) fn or_difference<'x>(
     alloc: Global,
     told: String,

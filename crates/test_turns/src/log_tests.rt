@@ -1,35 +1,45 @@
-//! A log that fails at each place: it has a prefix of the trace, and init goes on.
+//! Tests of a log that fails at each position: it has a prefix of the trace, and init continues.
 
-use crate::runs::{Bench, bench_of, log_of, serve_on};
+use crate::runs::{Bench, bench_of, serve_on};
 use host_calls::Host;
-use init_turns::Served;
 use init_words::{Id, Status};
 use linked_list_allocator::LocalHeap;
 use std::alloc::{Allocator, Global};
+use supervisor::Served;
 use test_support::{Slow, host_of};
 use trace_log::{ListLog, Log, StreamLog};
 use trace_log_wrappers::NotingLog;
 
-const INITTAB: &str = "id:3:initdefault:|r:3:respawn:serv";
+pub(crate) const INITTAB: &[u8] = b"id:3:initdefault:\nr:3:respawn:serv\n";
 
-const GIFTS: &str =
+pub(crate) const ANSWERS: &str =
     "start birth 10 / clock 100 / clock 101 / clock 106 / clock 107 / bytes / bytes 1 / \
      table id:3:initdefault:|r:3:respawn:serv / signal hit / signal hit / look still / look nolook / look killed";
 
-const TRACE: &[u8] =
+pub(crate) const TRACE: &[u8] =
     b"clock 100\nnudge\nenter sysinit 5\nenter boot 5\nenter 3 5\nask r start\nbirth r 10\ntold r\nsettle 3\n\
 clock 101\ngot level 1 5\nnudge\nuse 2\nid:3:initdefault:\nr:3:respawn:serv\nenter 1 5\nask r term\nhit r\ntold r\n\
 ask r look\nstill r\ntold r\nclock 106\nnudge\nask r kill\nhit r\ntold r\nask r look\nnolook r\ntold r\n\
 clock 107\nnudge\nask r look\ndeath 10\nreaped r 10 killed\ntold r\nsettle 1\n";
 
-/// Makes the run, of four turns and 31 calls, one of which fails, and gives how it ended.
+/// Returns its log.
+fn log_of<A: Allocator + Copy, B: Allocator, L: Log>(bench: Box<Bench<A, B, L>>) -> L {
+    let Bench { core, edge, .. } = Box::into_inner(bench);
+    drop(core);
+    let (host, log) = edge.into_parts();
+    drop(host);
+    log
+}
+
+/// Makes the run, with four turns and 31 calls, one of which fails, and returns how it ended.
 fn served<L: Log>(global: Global, bench: &mut Bench<Global, Global, L>) -> Option<Served> {
     let served = serve_on(global, bench, 9, true);
     let calls = bench.edge.host().calls()?;
     (bench.edge.host().faults() == 1 && calls.len() == 31).then_some(served)
 }
 
-/// How many bytes a log has of the trace; None where it has others, or the run did not end as one of which it has so many.
+/// Returns the number of bytes of the trace in a log, or `None` if it has others, or the run did not end like one with
+/// this number of bytes.
 fn taken(text: &[u8], served: Served) -> Option<usize> {
     let want = Served {
         turns: 4,
@@ -39,7 +49,8 @@ fn taken(text: &[u8], served: Served) -> Option<usize> {
     (TRACE.starts_with(text) && served == want).then_some(text.len())
 }
 
-/// How many bytes a log writes to a writer of so much room, each happening's text in memory of an allocator.
+/// Returns the number of bytes that a log writes to a writer with this room; the text of each happening is in the
+/// memory of an allocator.
 fn streamed<A: Allocator + Copy>(
     global: Global,
     alloc: A,
@@ -49,7 +60,7 @@ fn streamed<A: Allocator + Copy>(
     let log = StreamLog::new(alloc, Slow::new(global, room, fails, false));
     let mut bench = bench_of(
         global,
-        host_of(global, global, GIFTS)?,
+        host_of(global, global, ANSWERS)?,
         global,
         INITTAB,
         log,
@@ -68,11 +79,11 @@ fn a_writer_that_is_full_ends_the_log(rt: HostRuntime) {
     }
 }
 
-/// How many bytes there are of the list of a log on a heap.
+/// Returns the number of bytes in the list of a log on a heap.
 fn listed(global: Global, heap: &LocalHeap) -> Option<usize> {
     let mut bench = bench_of(
         global,
-        host_of(global, global, GIFTS)?,
+        host_of(global, global, ANSWERS)?,
         global,
         INITTAB,
         ListLog::new(heap),
@@ -82,13 +93,13 @@ fn listed(global: Global, heap: &LocalHeap) -> Option<usize> {
     taken(text.as_slice(), served)
 }
 
-/// Whether notes on a heap in front of a log are complete; None where they say anything false, or the log behind them has
-/// not the whole trace.
+/// Reports whether notes on a heap before a log are complete. Returns `None` if they contain anything false, or the log
+/// after them does not have the whole trace.
 fn noted(rt: &impl Eprint, global: Global, heap: &LocalHeap) -> Option<bool> {
     let log = NotingLog::new(rt, heap, ListLog::new(global), Id::read(b"r"), false);
     let mut bench = bench_of(
         global,
-        host_of(global, global, GIFTS)?,
+        host_of(global, global, ANSWERS)?,
         global,
         INITTAB,
         log,
@@ -106,8 +117,8 @@ fn noted(rt: &impl Eprint, global: Global, heap: &LocalHeap) -> Option<bool> {
     }
 }
 
-/// Whether a log has room on a heap: a list of happenings, notes in front of one, or one that writes. None where something
-/// else is said than that it has none.
+/// Reports whether a log has room on a heap: a list of happenings, notes before such a list, or a log that writes.
+/// Returns `None` if it reports anything else than that it has none.
 pub(crate) fn is_whole(
     rt: &impl Eprint,
     global: Global,

@@ -1,11 +1,11 @@
-//! Hosts over the operating system, on the heap of the tests, whatever their own memory is, and what they are asked for
-//! as text.
+//! Hosts of the operating system, on the heap of the tests, whatever their own memory is, and the calls to them as
+//! text.
 //!
-//! A step is a call and, behind ` = `, what it answers, where that is not what it is to do; a call that reads `fails` or
-//! `lacks` memory, and counts a fault just then. All orders are about one id.
+//! A step is a call, and after ` = ` its answer if that is not the usual one. A call that reads `fails`, or `lacks`
+//! memory, and exactly then counts a fault. All orders are about one id.
 
 use host_calls::{Host, HostFault, Reply};
-use host_lines::{ChildMessage, HostLine, TellingRuntime, Tells};
+use host_lines::{ChildMessage, HostLine, MessageSink, TellingRuntime};
 use host_system::{HostOptions, OsHost, OsSystem, Pace};
 use init_words::{Answer, Id, Memory, Part, SignalKind, Stage};
 use inittab_text::PartFault;
@@ -22,22 +22,22 @@ pub(crate) type Paths = (
     Option<&'static str>,
 );
 
-/// A host over the system that the tests run on.
+/// A host of the system on which the tests run.
 pub(crate) type SystemHost<A> = OsHost<
     TellingRuntime<HostRuntime, Brief>,
     OsSystem<HostRuntime>,
     A,
 >;
 
-/// What stands for each announcement: as many bytes as most have.
+/// The text of each announcement: as many bytes as most of them have.
 const SAID: &[u8] = b"what init says of a happening\n";
 
-/// What says which line comes, of some, in a word and what it is of: the words of programs are for their scenes. Stages
-/// are announced, all alike.
+/// Writes, for each of some lines, a word for its kind and its subject; the wording of the programs is tested with
+/// their runs. Stages are announced, all with the same text.
 #[derive(Clone, Copy)]
 pub(crate) struct Brief(HostRuntime);
 
-impl Tells for Brief {
+impl MessageSink for Brief {
     fn tell(&self, line: &HostLine<'_>) {
         let rt = &self.0;
         let _ = match *line {
@@ -82,8 +82,8 @@ impl Tells for Brief {
     }
 }
 
-/// A host of these paths: that passes over what stands in its channel, tells of its children, has logs, or pauses by what
-/// a turn costs; none of these where nothing is said.
+/// Creates a host with these paths. The kind says whether it skips the existing contents of its channel, reports on its
+/// children, has logs, or pauses by the cost of a turn; by default it does none of these.
 pub(crate) fn host_of<A: Allocator + Copy>(
     rt: &HostRuntime,
     alloc: A,
@@ -135,10 +135,10 @@ fn right(is_right: bool) -> &'static str {
     if is_right { "yes" } else { "no" }
 }
 
-/// A text of an inittab, and of init's state.
+/// A text of an inittab, or of init's state.
 pub(crate) const TEXT: &str = "id:3:initdefault:\nr:3:respawn:/bin/serv with its words\n";
 
-/// The files have these names, and the first the text that it has.
+/// Reports whether the files have these names, and the first has the text.
 fn are_files<A: Allocator>(rt: &HostRuntime, parts: &[Part<A>], names: &str) -> bool {
     let mut names = names.split(' ');
     for part in parts {
@@ -155,7 +155,7 @@ fn are_files<A: Allocator>(rt: &HostRuntime, parts: &[Part<A>], names: &str) -> 
     }
 }
 
-/// Whether a call that reads gives what it is to give.
+/// Reports whether a call that reads returns the expected result.
 fn is_read<A: Allocator + Copy, B: Allocator + Copy>(
     rt: &HostRuntime,
     alloc: A,
@@ -196,10 +196,10 @@ fn reads<A: Allocator + Copy, B: Allocator + Copy>(
 
 const ZEROS: &[u8] = &[0; 800];
 
-/// An inittab of more than one read's bytes.
+/// An inittab that needs more than one read.
 const LONG: &[u8] = &[b'#'; 20_000];
 
-/// Does this to a file.
+/// Changes a file.
 fn change(rt: &HostRuntime, word: &str, what: &str) -> Option<()> {
     match word {
         "zeros" => fs::write(rt, "k.ctl", ZEROS.get(..what.parse::<usize>().ok()?)?).ok(),
@@ -210,7 +210,7 @@ fn change(rt: &HostRuntime, word: &str, what: &str) -> Option<()> {
     }
 }
 
-/// The child of the id has ended within a while.
+/// Reports whether the child of the id ends within some time.
 fn is_ended<B: Allocator + Copy>(host: &mut SystemHost<B>, id: Id) -> bool {
     for _ in 0..10_000usize {
         if host.look(id) != Reply::Now(Answer::Alive) {
@@ -221,7 +221,7 @@ fn is_ended<B: Allocator + Copy>(host: &mut SystemHost<B>, id: Id) -> bool {
     false
 }
 
-/// Announces a stage, and what is not announced.
+/// Announces a stage, and something that is not announced.
 fn announce<B: Allocator + Copy>(host: &mut SystemHost<B>) -> &'static str {
     let boot: Happening = Happening::Enter(Stage::Boot, 5);
     let unsaid: Happening = Happening::Nudge;
@@ -230,7 +230,7 @@ fn announce<B: Allocator + Copy>(host: &mut SystemHost<B>) -> &'static str {
     "yes"
 }
 
-/// What a call answers, which takes memory of this allocator.
+/// Returns the answer of a call, which allocates its result with this allocator.
 pub(crate) fn said<A: Allocator + Copy, B: Allocator + Copy>(
     rt: &HostRuntime,
     alloc: A,
@@ -261,7 +261,7 @@ pub(crate) fn said<A: Allocator + Copy, B: Allocator + Copy>(
     }
 }
 
-/// The steps go as they say.
+/// Reports whether all steps have the answers that they say.
 pub(crate) fn all_go<A: Allocator + Copy, B: Allocator + Copy>(
     rt: &HostRuntime,
     alloc: A,

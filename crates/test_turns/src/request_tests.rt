@@ -1,4 +1,4 @@
-//! Blocks of requests that are cut at any place, by which the turns divide them.
+//! Tests of blocks of requests that are cut at any position, at which the turns divide them.
 
 use crate::runs::{Bench, bench_of, serve_on};
 use host_calls::Bytes;
@@ -10,14 +10,14 @@ use test_support::{blocks_of, host_of};
 use trace_events::{Happening, HappeningIn};
 use trace_log::ListLog;
 
-/// The requests of a good block, a bad one and a good one: `q bad 2`.
+/// The requests in a good block, a bad one and a good one: `q bad 2`.
 const REQUESTS: &[HeardRequest] = &[
     HeardRequest::Reload,
     HeardRequest::Nothing(Cause::Magic),
     HeardRequest::Level(Level::L2, 5),
 ];
 
-/// The log has the first requests, the given number of them, and no others.
+/// Reports whether the log has exactly the first requests, up to the given number.
 fn has_requests(list: &[HappeningIn<Global>], count: usize) -> bool {
     let mut position = 0;
     for happening in list {
@@ -31,8 +31,8 @@ fn has_requests(list: &[HappeningIn<Global>], count: usize) -> bool {
     position == count
 }
 
-/// Gives the host the bytes of the requests: those up to a place, and the others in pieces of one length, each in a turn
-/// of its own.
+/// Gives the host the bytes of the requests: those up to a position, and the others in pieces of one length, each in a
+/// turn of its own.
 fn give_pieces(
     global: Global,
     host: &mut MemoryHost,
@@ -50,15 +50,15 @@ fn give_pieces(
     host.give_bytes(Ok(Bytes::new(global)))
 }
 
-/// After a turn over the bytes up to a place, those of whole blocks were heard, and no step is due; where there are none,
-/// there are five happenings: the time, the round, two stages, and the settled level.
+/// Reports whether, after a turn on the bytes up to a position, the requests in complete blocks were read, and no step
+/// is due. If there are none, there are five happenings: the time, the round, two stages, and the settled level.
 fn hears_whole_blocks(
     global: Global,
     bench: &mut Bench<Global, Global, ListLog>,
     blocks: &mut Blocks,
     heard: usize,
 ) -> bool {
-    let is_done = init_turns::turn(global, &mut bench.core, &mut bench.edge, blocks, false);
+    let is_done = supervisor::turn(global, &mut bench.core, &mut bench.edge, blocks, false);
     let list = bench.edge.log().list();
     is_done
         && bench.core.drained()
@@ -67,14 +67,15 @@ fn hears_whole_blocks(
         && (heard >= BLOCK || list.len() == 5)
 }
 
-/// All requests are heard in the given number of turns, where the bytes up to a place come first, and the others in pieces
-/// of this length; where no turns are given, in two, of which the first hears the blocks that came whole.
+/// Reports whether all requests are read in the given number of turns, if the bytes up to a position come first, and
+/// the others in pieces of this length. If no number is given, it must be two turns, of which the first reads the
+/// complete blocks.
 fn are_heard(global: Global, position: usize, length: usize, turns: Option<u64>) -> Option<bool> {
     let bytes = blocks_of(global, "q bad 2")?;
     let (front, rest) = bytes.split_at_checked(position)?;
     let mut host = host_of(global, global, "")?;
     give_pieces(global, &mut host, front, rest, length).ok()?;
-    let mut bench = bench_of(global, host, global, "# none", ListLog::new(global))?;
+    let mut bench = bench_of(global, host, global, b"", ListLog::new(global))?;
     match turns {
         Some(turns) => {
             serve_on(global, &mut bench, turns, false);
@@ -90,7 +91,7 @@ fn are_heard(global: Global, position: usize, length: usize, turns: Option<u64>)
     }
 }
 
-/// Lengths of pieces, and how many turns they take.
+/// Lengths of pieces, and the number of turns that they take.
 const LENGTHS: &[(usize, u64)] = &[(1, 1152), (7, 165), (255, 5), (256, 5), (257, 5), (1151, 2)];
 
 #[test]

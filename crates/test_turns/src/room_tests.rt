@@ -1,42 +1,38 @@
-//! Lack of memory within a turn, in an opening and in a log.
+//! Tests of lack of memory within a turn, at startup and in a log.
 
-use crate::log_tests::is_whole;
-use crate::run_tests::STOPPED;
-use crate::runs::{Bench, bench_of, row_of, run_difference, serve_on};
+use crate::log_tests::{ANSWERS, INITTAB, TRACE, is_whole};
+use crate::runs::{Bench, bench_of, serve_on};
 use crate::scripted_tests::has_room;
-use host_trace::Edge;
-use init_turns::Opening;
 use init_words::Memory;
 use inittab_text::Table;
 use linked_list_allocator::LocalHeap;
 use std::alloc::Global;
-use test_support::{Outcome, boxed, fill, first_unrefused, host_of, letters_of, lines_of};
+use supervisor::{Edge, Opening};
+use test_support::{Outcome, boxed, calls_of, fill, first_unrefused, host_of, lines_of};
 use trace_log::ListLog;
 
-/// The run is as it says where the host has no room left to tell a call.
+/// Reports whether a run has its trace if the host has no room left to record a call.
 fn is_untold(global: Global) -> Option<bool> {
     let heap = LocalHeap::new(global, 16_384).ok()?;
-    let row = row_of(STOPPED)?;
-    let host = host_of(global, &heap, row.replies)?;
-    let mut bench = bench_of(global, host, global, row.inittab, ListLog::new(global))?;
+    let host = host_of(global, &heap, ANSWERS)?;
+    let mut bench = bench_of(global, host, global, INITTAB, ListLog::new(global))?;
     let _fillers = fill(global, &heap, 0)?;
-    let told = run_difference(global, &mut bench, &row, row.trace)?;
-    Some(told.is_empty() && bench.edge.host().calls().is_none())
+    serve_on(global, &mut bench, 9, true);
+    let text = trace_text::print(global, bench.edge.log().list()).ok()?;
+    Some(text.as_slice() == TRACE && bench.edge.host().calls().is_none())
 }
 
-const INITTAB: &str = "id:3:initdefault:|r:3:respawn:serv";
-
-/// What a turn does that is asked for something for which there may be too little room: what the host is given for a turn
-/// in which the child is born and two such turns, the trace of one of these and the number of entries behind it, where it
-/// was done and where it was not, and the letter of the call behind which it can be refused.
+/// A turn that does something for which there may not be enough room: what the host is given for a turn in which the
+/// child is born and for two turns of this kind; the trace of such a turn and the number of entries after it, if it was
+/// done and if it was not; and the call after which it can fail.
 struct Scarce {
     replies: &'static str,
     done: (&'static str, usize),
     undone: (&'static str, usize),
-    call: char,
+    call: &'static str,
 }
 
-/// An inittab is read anew that is longer than the first.
+/// An inittab that is longer than the first one is read again.
 const READING: &Scarce = &Scarce {
     replies: "start birth 10 / bytes / bytes q / \
             table id:3:initdefault:|r:3:respawn:serv|c:3:off:z|d:3:off:v|e:3:off:w / bytes / bytes q / \
@@ -50,10 +46,10 @@ const READING: &Scarce = &Scarce {
         "clock 0 / got reload / nudge / notread / ask r look / still r / told r",
         2,
     ),
-    call: 'T',
+    call: "read tables\n",
 };
 
-/// Init is executed anew.
+/// Init is re-executed.
 const HAND_OVER: &Scarce = &Scarce {
     replies: "start birth 10 / bytes / bytes u / bytes / bytes u",
     done: (
@@ -64,19 +60,19 @@ const HAND_OVER: &Scarce = &Scarce {
         "clock 0 / got reexec / nudge / handed none / ask r look / still r / told r",
         2,
     ),
-    call: 'H',
+    call: "carry\n",
 };
 
 type Scene<'a> = Bench<Global, &'a LocalHeap, ListLog>;
 
-/// Makes a turn, and gives the text of its trace.
+/// Makes a turn, and returns the text of its trace.
 fn turn_text<'a>(global: Global, heap: &'a LocalHeap, bench: &mut Scene<'a>) -> Option<Vec<u8>> {
     let before = bench.edge.log().list().len();
     serve_on(heap, bench, 1, false);
     trace_text::print(global, bench.edge.log().list().get(before..)?).ok()
 }
 
-/// Init behind a turn in which the child is born.
+/// Returns the init after a turn in which the child is born.
 fn begun<'a>(global: Global, heap: &'a LocalHeap, scarce: &Scarce) -> Option<Box<Scene<'a>>> {
     let host = host_of(global, global, scarce.replies)?;
     let mut bench = bench_of(global, host, heap, INITTAB, ListLog::new(global))?;
@@ -84,7 +80,7 @@ fn begun<'a>(global: Global, heap: &'a LocalHeap, scarce: &Scarce) -> Option<Box
     Some(bench)
 }
 
-/// The trace of the turn is this, and the entries behind it are so many, each with its record.
+/// Reports whether the trace of the turn is this one, and this number of entries exists after it, each with its record.
 fn is_made(global: Global, bench: &Scene, text: &[u8], want: (&str, usize)) -> Option<bool> {
     let trace = lines_of(global, want.0, " / ").ok()?;
     Some(
@@ -101,14 +97,14 @@ fn outcome_of(global: Global, bench: &Scene, text: &[u8], scarce: &Scarce) -> Op
     if !is_made(global, bench, text, scarce.undone)? {
         return None;
     }
-    let letters = letters_of(global, bench.edge.host())?;
-    if letters.contains(scarce.call) {
+    let calls = calls_of(global, bench.edge.host())?;
+    if calls.contains(scarce.call) {
         return Some(Outcome::Refused);
     }
     Some(Outcome::Unmade)
 }
 
-/// What becomes of it with so much room left; with all of it, in the next turn, it is done.
+/// Returns the outcome with this room left; with all of the room, in the next turn, it must be done.
 fn tried(global: Global, scarce: &Scarce, room: usize) -> Option<Outcome> {
     let heap = LocalHeap::new(global, 32_768).ok()?;
     let mut bench = begun(global, &heap, scarce)?;
@@ -120,8 +116,8 @@ fn tried(global: Global, scarce: &Scarce, room: usize) -> Option<Outcome> {
     is_made(global, &bench, text.as_slice(), scarce.done)?.then_some(outcome)
 }
 
-/// What has no room first of what a reading takes, one after another: the text of inittab, its table, the table's copy, the
-/// records of its entries, and nothing; the place in that.
+/// Returns the position of the first allocation of a reading that has no room, in this order: the text of inittab, its
+/// table, the copy of the table, the records of its entries, and none.
 fn first(global: Global, room: usize) -> Option<usize> {
     let heap = LocalHeap::new(global, 32_768).ok()?;
     let mut bench = begun(global, &heap, READING)?;
@@ -141,8 +137,8 @@ fn first(global: Global, room: usize) -> Option<usize> {
     Some(4)
 }
 
-/// What a turn does that reads inittab, by what has no room first.
-const ANSWERS: &[Outcome] = &[
+/// The outcome of a turn that reads inittab, by the first allocation that has no room.
+const OUTCOMES: &[Outcome] = &[
     Outcome::Unmade,
     Outcome::Refused,
     Outcome::Refused,
@@ -150,7 +146,7 @@ const ANSWERS: &[Outcome] = &[
     Outcome::Done,
 ];
 
-/// The rooms lie less apart than the least growth takes.
+/// The rooms differ by less than the smallest allocation.
 #[test]
 fn a_table_without_room_is_not_read(rt: HostRuntime) {
     let mut seen = [false; 5];
@@ -159,7 +155,7 @@ fn a_table_without_room_is_not_read(rt: HostRuntime) {
             panic!(rt; "at {step}");
         };
         assert!(rt;
-            tried(rt.alloc(), READING, 16 * step) == ANSWERS.get(first).copied(),
+            tried(rt.alloc(), READING, 16 * step) == OUTCOMES.get(first).copied(),
             "at {step}"
         );
         if let Some(position) = seen.get_mut(first) {
@@ -191,7 +187,7 @@ fn opening_of<'a>(
     Ok(boxed(global, Opening::new(heap, table, None)?)?)
 }
 
-/// Whether an opening has room on a heap, over a table that lies in another one.
+/// Reports whether there is room on a heap for the startup of init, with a table in another heap.
 fn opens(global: Global, heap: &LocalHeap) -> Option<bool> {
     let ample = LocalHeap::new(global, 16_384).ok()?;
     let (table, _) = inittab_text::read(
@@ -210,8 +206,9 @@ fn has_room_for(rt: &impl Eprint, global: Global, heap: &LocalHeap, what: &str) 
     }
 }
 
-/// What needs room, and how many heaps at least have none for it. Notes that can't grow say so, and keep nothing from the
-/// log behind them; a happening whose text has no room isn't taken, and none after it.
+/// What needs room, and a number of heaps: each must fail on more heaps than that. Notes that can't grow report that,
+/// and do not keep anything from the log after them; a happening whose text has no room is not taken, and neither is
+/// any after it.
 const REFUSED: &[(&str, usize)] = &[
     ("opening", 3),
     ("list", 8),

@@ -1,70 +1,89 @@
-//! Runs of init over a scripted host, whose traces are text, their lines parted by ` / `.
+//! Runs of init on a scripted host. A difference from a row is a text, which is empty if there is none.
 
-use core_steps::Core;
 use host_calls::Host;
 use host_scripted::MemoryHost;
-use host_trace::Edge;
-use init_turns::{Served, Unwatched};
 use init_words::Memory;
 use inittab_text::Table;
+use level_core::Core;
 use std::alloc::{AllocError, Allocator, Global};
-use test_support::{boxed, difference, host_of, letters_of, lines_of};
+use std::str;
+use supervisor::{Edge, IgnoringObserver, Served};
+use test_support::{boxed, calls_of, difference, give};
+use trace_check::Verdict;
 use trace_events::{Happening, HappeningIn};
 use trace_log::{ListLog, Log};
-use trace_pass::Verdict;
 
-/// A run over an inittab, its lines parted by `|`, and a host that is given so much.
-#[derive(Clone, Copy)]
-pub(crate) struct Row<'a> {
-    pub(crate) inittab: &'a str,
-    pub(crate) replies: &'a str,
-    /// How many turns it may make, and whether it ends where it is drained.
-    limit: (u64, bool),
-    ended: Served,
-    /// How many calls of the host are faults.
-    faults: u64,
-    is_strict: bool,
-    pub(crate) trace: &'a str,
-    /// The letters of the calls, where they are asked.
-    letters: Option<&'a str>,
+/// A run that was worked out by hand.
+#[derive(Drop)]
+pub(crate) struct Row<'t> {
+    /// The maximum number of turns.
+    turns: u64,
+    /// Whether the run ends when init is drained.
+    drain: bool,
+    strict: bool,
+    inittab: &'t [u8],
+    /// What the host answers, as `give_lines` reads it.
+    answers: &'t str,
+    trace: &'t [u8],
+    /// The line of `end_text`.
+    end: &'t [u8],
+    /// The calls that init makes; empty if they are not checked, and `none` if it makes none.
+    calls: &'t [u8],
 }
 
-/// A number of turns, with a star where the run ends drained.
-fn turns_of(word: &str) -> Option<(u64, bool)> {
-    let number = word.strip_suffix('*').unwrap_or(word);
-    Some((number.parse::<u64>().ok()?, number.len() < word.len()))
+/// Returns the row with these fields.
+pub(crate) fn row_of<'t>(fields: &[&'t [u8]]) -> Option<Row<'t>> {
+    let [_, options, inittab, answers, trace, end, calls] = *fields else {
+        return None;
+    };
+    let mut row = Row {
+        turns: 0,
+        drain: false,
+        strict: false,
+        inittab,
+        answers: str::from_utf8(answers).ok()?,
+        trace,
+        end,
+        calls,
+    };
+    for word in str::from_utf8(options).ok()?.split_ascii_whitespace() {
+        match word {
+            "--turns" => {}
+            "--drain" => row.drain = true,
+            "--strict" => row.strict = true,
+            number => row.turns = number.parse::<u64>().ok()?,
+        }
+    }
+    Some(row)
 }
 
-/// A field of a row; `-` for nothing.
-fn field(text: &str) -> &str {
-    if text == "-" { "" } else { text }
+/// Appends an indented line to an answer: a line of a file or of a state text, or a `+` before the next file.
+fn add_line(answer: &mut String, line: &str) -> Result<(), AllocError> {
+    let is_first = line == "+" || answer.ends_with("+") || !answer.contains(' ');
+    answer.push_str(if is_first { " " } else { "|" })?;
+    answer.push_str(line)
 }
 
-/// The row of a text, its fields parted by ` | `: how many turns it may make and how many it made, each with a star where it
-/// ends drained, how many calls are faults, and `strict` for an init that is; the inittab; what the host is given; the trace;
-/// and the letters of the calls, where they are asked.
-pub(crate) fn row_of(row: &str) -> Option<Row> {
-    let mut fields = row.split(" | ");
-    let mut head = fields.next()?.split(' ');
-    let limit = turns_of(head.next()?)?;
-    let (turns, drained) = turns_of(head.next()?)?;
-    Some(Row {
-        limit,
-        ended: Served {
-            turns,
-            drained,
-            logged: true,
-        },
-        faults: head.next()?.parse::<u64>().ok()?,
-        is_strict: head.next().is_some(),
-        inittab: fields.next()?,
-        replies: field(fields.next()?),
-        trace: field(fields.next()?),
-        letters: fields.next().map(field),
-    })
+/// Gives a host the answers of a row, one per line; an indented line belongs to the answer before it.
+fn give_lines(global: Global, host: &mut MemoryHost, answers: &str) -> Option<()> {
+    let mut answer = String::new(global);
+    for line in answers.lines() {
+        if let Some(more) = line.strip_prefix("  ") {
+            add_line(&mut answer, more).ok()?;
+            continue;
+        }
+        if !answer.is_empty() {
+            give(global, global, host, &answer)?;
+        }
+        answer = String::from_str(global, line).ok()?;
+    }
+    if !answer.is_empty() {
+        give(global, global, host, &answer)?;
+    }
+    Some(())
 }
 
-/// Init before its first turn: its core, and its host and its log.
+/// An init before its first turn: its core, its host and its log.
 #[derive(Drop)]
 pub(crate) struct Bench<A: Allocator + Copy, B: Allocator, L: Log> {
     pub(crate) core: Core<B>,
@@ -85,37 +104,27 @@ fn bench_over<A: Allocator + Copy, B: Allocator + Copy, L: Log + Drop>(
     Ok(boxed(global, Bench { core, edge, strict })?)
 }
 
-/// A core over an inittab, with a host, each in memory of its own, and with a log.
+/// Creates a core for an inittab, with a host, each in memory of its own, and with a log.
 pub(crate) fn bench_of<A: Allocator + Copy, B: Allocator + Copy, L: Log + Drop>(
     global: Global,
     host: Box<MemoryHost<A>>,
     alloc: B,
-    inittab: &str,
+    inittab: &[u8],
     log: L,
 ) -> Option<Box<Bench<A, B, L>>> {
-    let lines = lines_of(global, inittab, "|").ok()?;
-    let (table, _) = inittab_text::read(alloc, lines.as_bytes()).ok()?;
+    let (table, _) = inittab_text::read(alloc, inittab).ok()?;
     bench_over(global, host, alloc, table, log).ok()
 }
 
-/// What is left of it: its log.
-pub(crate) fn log_of<A: Allocator + Copy, B: Allocator, L: Log>(bench: Box<Bench<A, B, L>>) -> L {
-    let Bench { core, edge, .. } = Box::into_inner(bench);
-    drop(core);
-    let (host, log) = edge.into_parts();
-    drop(host);
-    log
-}
-
-/// Makes the given number of turns; with `drain` it ends where init is drained.
+/// Makes the given number of turns, or fewer with `drain` if init is drained.
 pub(crate) fn serve_on<A: Allocator + Copy, B: Allocator + Copy, L: Log>(
     alloc: B,
     bench: &mut Bench<A, B, L>,
     turns: u64,
     drain: bool,
 ) -> Served {
-    let mut watch = Unwatched {};
-    let served = init_turns::serve(
+    let mut watch = IgnoringObserver {};
+    let served = supervisor::serve(
         alloc,
         &mut bench.core,
         &mut bench.edge,
@@ -124,12 +133,12 @@ pub(crate) fn serve_on<A: Allocator + Copy, B: Allocator + Copy, L: Log>(
         bench.strict,
         &mut watch,
     );
-    let Unwatched {} = watch;
+    let IgnoringObserver {} = watch;
     served
 }
 
-/// Hands the log the table in force.
-fn log_table<A: Allocator + Copy>(global: Global, bench: &mut Bench<A, Global, ListLog>) -> bool {
+/// Passes the table in force to the log.
+fn log_table(global: Global, bench: &mut Bench<Global, Global, ListLog>) -> bool {
     let Ok(table) = bench.core.table().copy(global) else {
         return false;
     };
@@ -137,19 +146,10 @@ fn log_table<A: Allocator + Copy>(global: Global, bench: &mut Bench<A, Global, L
     !bench.edge.failed()
 }
 
-/// In what the log's happenings after the opening table differ from these lines, or that all of it is unlawful.
-fn log_difference(global: Global, list: &[HappeningIn<Global>], trace: &str) -> Option<String> {
-    let [_, made @ ..] = list else {
-        return None;
-    };
-    let text = trace_text::print(global, made).ok()?;
-    let want = lines_of(global, trace, " / ").ok()?;
-    let told = difference(global, &[("its trace", text.as_slice(), want.as_bytes())]).ok()?;
-    if !told.is_empty() {
-        return Some(told);
-    }
-    match trace_pass::check(global, list).ok()? {
-        Verdict::Lawful => Some(told),
+/// Returns the law that the log breaks, if any.
+fn breach_in(global: Global, list: &[HappeningIn<Global>]) -> Option<String> {
+    match trace_check::check(global, list).ok()? {
+        Verdict::Lawful => Some(String::new(global)),
         Verdict::Breach(at, law) => {
             format!(in global; "its trace is unlawful: happening {at}: {law}").ok()
         }
@@ -162,76 +162,56 @@ fn end_text(global: Global, ended: Served, faults: u64) -> Result<String, AllocE
         drained,
         logged,
     } = ended;
-    format!(in global; "{turns} turns, drained: {drained}, logged: {logged}, {faults} faults")
+    let drained = if drained { "yes" } else { "no" };
+    let whole = if logged { "" } else { ", the log failed" };
+    format!(in global; "turns {turns}, drained: {drained}, faults: {faults}{whole}\n")
 }
 
-/// In what the run differs from its row and this trace; nothing where it is as they say.
-pub(crate) fn run_difference<A: Allocator + Copy>(
+/// Returns the calls of a run for its row.
+fn calls_text(global: Global, bench: &Bench<Global, Global, ListLog>, row: &Row) -> Option<String> {
+    if row.calls.is_empty() {
+        return Some(String::new(global));
+    }
+    let calls = calls_of(global, bench.edge.host())?;
+    if calls.is_empty() {
+        return String::from_str(global, "none\n").ok();
+    }
+    Some(calls)
+}
+
+/// Makes the run, and returns its difference from the row. The log's first happening is the table of the start.
+fn run_difference(
     global: Global,
-    bench: &mut Bench<A, Global, ListLog>,
+    bench: &mut Bench<Global, Global, ListLog>,
     row: &Row,
-    trace: &str,
 ) -> Option<String> {
-    if !log_table(global, bench) {
+    let ended = serve_on(global, bench, row.turns, row.drain);
+    let end = end_text(global, ended, bench.edge.host().faults()).ok()?;
+    let [_, made @ ..] = bench.edge.log().list() else {
+        return None;
+    };
+    let trace = trace_text::print(global, made).ok()?;
+    let calls = calls_text(global, bench, row)?;
+    let texts = [
+        ("its trace", trace.as_slice(), row.trace),
+        ("its end", end.as_bytes(), row.end),
+        ("its calls", calls.as_bytes(), row.calls),
+    ];
+    difference(global, &texts).ok()
+}
+
+/// Returns the difference between the run of a row and the row.
+pub(crate) fn difference_of(global: Global, row: &Row) -> Option<String> {
+    let mut host = boxed(global, MemoryHost::new(global)).ok()?;
+    give_lines(global, &mut host, row.answers)?;
+    let mut bench = bench_of(global, host, global, row.inittab, ListLog::new(global))?;
+    bench.strict = row.strict;
+    if !log_table(global, &mut bench) {
         return None;
     }
-    let ended = serve_on(global, bench, row.limit.0, row.limit.1);
-    let got = end_text(global, ended, bench.edge.host().faults()).ok()?;
-    let want = end_text(global, row.ended, row.faults).ok()?;
-    let told = log_difference(global, bench.edge.log().list(), trace)?;
+    let told = run_difference(global, &mut bench, row)?;
     if !told.is_empty() {
         return Some(told);
     }
-    difference(global, &[("its end", got.as_bytes(), want.as_bytes())]).ok()
-}
-
-/// The same of a run over a host that is given this, and of the letters of its calls, where they are asked.
-fn made_difference(global: Global, row: &Row, replies: &str, trace: &str) -> Option<String> {
-    let host = host_of(global, global, replies)?;
-    let mut bench = bench_of(global, host, global, row.inittab, ListLog::new(global))?;
-    bench.strict = row.is_strict;
-    let told = run_difference(global, &mut bench, row, trace)?;
-    let letters = letters_of(global, bench.edge.host())?;
-    match row.letters {
-        Some(want) if told.is_empty() => {
-            difference(
-                global,
-                &[("its calls", letters.as_bytes(), want.as_bytes())],
-            )
-            .ok()
-        }
-        _ => Some(told),
-    }
-}
-
-/// In what the run of a row differs from it.
-pub(crate) fn difference_of(global: Global, row: &str) -> Option<String> {
-    let row = row_of(row)?;
-    made_difference(global, &row, row.replies, row.trace)
-}
-
-/// The text, with what stands behind `=>` in the place of the part before it, which is there.
-fn changed(global: Global, text: &str, change: &str) -> Option<String> {
-    let (part, other) = change.split_once(" => ")?;
-    if !text.contains(part) {
-        return None;
-    }
-    text.replacen(global, part, other, 1).ok()
-}
-
-/// The same of a row of which this is otherwise.
-pub(crate) fn difference_of_changed(global: Global, row: &str, change: &str) -> Option<String> {
-    let mut changes = change.split(" | ");
-    let faults = changes.next()?.parse::<u64>().ok()?;
-    let row = Row {
-        faults,
-        letters: None,
-        ..row_of(row)?
-    };
-    let replies = changed(global, row.replies, changes.next()?)?;
-    let mut trace = String::from_str(global, row.trace).ok()?;
-    for change in changes {
-        trace = changed(global, &trace, change)?;
-    }
-    made_difference(global, &row, &replies, &trace)
+    breach_in(global, bench.edge.log().list())
 }

@@ -1,5 +1,5 @@
-//! Calls of a scripted host, as text: each takes the first of its queue, and has an answer of its own where the queue is
-//! empty; and a host without room.
+//! Tests of calls to a scripted host, as text: each takes the first item of its queue, or has a fixed answer if the
+//! queue is empty; and of a host without room.
 
 use host_calls::{Bytes, Host, HostFault, PartList};
 use host_scripted::MemoryHost;
@@ -11,11 +11,11 @@ use trace_events::Happening;
 
 const TABLES: &str = "table inittab@id:3:initdefault: + 10-b.tab@=b:3:once:y + 20-a.tab@";
 
-/// What is carried.
+/// The state text that is handed over.
 const STATE: &[u8] = &[b'x'; 64];
 
-/// What a host is given, the calls that are made then, with the item that each is to give, and how many are faults. A call
-/// `take` has room for so many bytes, and one that `lacks` memory has none for its text.
+/// What a host is given, the calls that are made then, each with the item that it must return, and the number of
+/// faults. A call `take` has room for this number of bytes, and one that `lacks` memory has none for its text.
 const ROWS: &[(&str, &str, u64)] = &[
     // Orders.
     ("", "start nobirth", 1),
@@ -48,7 +48,7 @@ const ROWS: &[(&str, &str, u64)] = &[
         "clock 5 / clock fails / clock 4 / clock lacks / clock 0",
         2,
     ),
-    // Bytes that don't fit stay.
+    // Bytes that do not fit remain.
     ("", "take 4", 0),
     (
         "bytes =abcde / bytes / bytes =fg",
@@ -66,13 +66,13 @@ const ROWS: &[(&str, &str, u64)] = &[
         "table inittab@id:3:initdefault: + 10-b.tab@=b:3:once:y + 20-a.tab@ / table fails / table x@=x / table none",
         1,
     ),
-    // A text that is carried.
+    // A state text that is handed over.
     (
         "carry id:3:initdefault: / carry fails / carry =x",
         "carry id:3:initdefault: / carry fails / carry =x / carry",
         1,
     ),
-    // There is no room for the inittab's text, nor for the one that is carried.
+    // There is no room for the inittab's text, nor for the state text.
     (TABLES, "table lacks / carry lacks", 2),
 ];
 
@@ -109,7 +109,7 @@ fn are_files<A: Allocator>(
     }
 }
 
-/// What a call gives that takes bytes with so much room.
+/// Returns what a call returns that takes bytes with this room.
 fn taken<B: Allocator + Copy>(
     global: Global,
     host: &mut MemoryHost<B>,
@@ -120,7 +120,7 @@ fn taken<B: Allocator + Copy>(
     Vec::from_slice(global, &buffer[..count.min(8)]).map_err(|_| HostFault::Memory)
 }
 
-/// Whether a call, in memory of an allocator, gives this item.
+/// Reports whether a call, in the memory of an allocator, returns this item.
 fn gives<A: Allocator + Copy, B: Allocator + Copy>(
     global: Global,
     alloc: A,
@@ -165,7 +165,8 @@ fn gives<A: Allocator + Copy, B: Allocator + Copy>(
     })
 }
 
-/// Whether a host that is given so much gives what the calls say, so many of them faults, and tells each.
+/// Reports whether a host with these replies returns what the calls say, with this number of faults, and records each
+/// call.
 fn is_followed(global: Global, replies: &str, calls: &str, faults: u64) -> Option<bool> {
     let mut host = host_of(global, global, replies)?;
     let full = LocalHeap::new(global, 0).ok()?;
@@ -194,7 +195,8 @@ fn calls_take_the_first_of_their_queue(rt: HostRuntime) {
     }
 }
 
-/// Whether a text has room on a heap; None where the call that lacks it counts and tells something else.
+/// Reports whether there is room for a text on a heap. Returns `None` if a call without room counts or records anything
+/// else.
 pub(crate) fn has_room(global: Global, heap: &LocalHeap, call: &str) -> Option<bool> {
     let mut host = host_of(global, global, TABLES)?;
     let is_lacking = gives(global, heap, &mut host, call)?;
@@ -205,7 +207,7 @@ pub(crate) fn has_room(global: Global, heap: &LocalHeap, call: &str) -> Option<b
     }
 }
 
-/// How many times, at most so many, the host is given the item, or gives it.
+/// Returns how many times, up to a limit, the host accepts the item, or returns it.
 fn times<'a>(
     global: Global,
     heap: &'a LocalHeap,
@@ -227,7 +229,7 @@ fn times<'a>(
     most
 }
 
-/// The same while the heap is full.
+/// Returns the same while the heap is full.
 fn times_full<'a>(
     global: Global,
     heap: &'a LocalHeap,
@@ -239,7 +241,7 @@ fn times_full<'a>(
     Some(times(global, heap, host, item, is_call, 100))
 }
 
-/// Items of which each is another queue's.
+/// Items, each for a different queue.
 const ITEMS: &[&str] = &[
     "start later",
     "look later",
@@ -251,8 +253,8 @@ const ITEMS: &[&str] = &[
     "carry fails",
 ];
 
-/// A queue that has had so many of the items is given more while the heap is full, and one where there is room again: it
-/// has all that it took, and no more.
+/// Reports whether a queue that had this number of items, and is given more while the heap is full and after there is
+/// room again, has exactly those that it accepted.
 fn refuses(global: Global, item: &str, before: usize) -> Option<bool> {
     let heap = LocalHeap::new(global, 4096).ok()?;
     let mut host = host_of(global, &heap, "")?;
@@ -263,7 +265,7 @@ fn refuses(global: Global, item: &str, before: usize) -> Option<bool> {
     Some(had == before && more < 100 && all == before.wrapping_add(more).wrapping_add(1))
 }
 
-/// Calls of each kind, with what they give of queues that are empty.
+/// Calls of each kind, with what they return if the queues are empty.
 const CALLS: &[&str] = &[
     "pause",
     "start nobirth",
@@ -277,7 +279,8 @@ const CALLS: &[&str] = &[
     "announce",
 ];
 
-/// A call that there is no room to keep is not told, and none after it, although there is room again.
+/// Reports whether a call that there is no room to record is not recorded, and neither is any later one, although there
+/// is room again.
 fn is_last(global: Global, call: &str) -> Option<bool> {
     let heap = LocalHeap::new(global, 4096).ok()?;
     let mut host = host_of(global, &heap, "")?;

@@ -1,6 +1,7 @@
-//! Hosts over the operating system: what one answers where a program doesn't ask so, the faults that it counts, and what it
-//! tells; and hosts on heaps of more and more room, until they are made and do what they are asked for, and one that reads
-//! texts into such heaps: where there is no room that is answered, and counted, and the files are as they were.
+//! Tests of hosts of the operating system: their answers to calls that no program makes, the faults that they count,
+//! and their reports; and hosts on heaps with more and more room, until they are created and do what they are asked
+//! for, and a host that reads texts into such heaps: lack of room is answered, and counted, and the files are
+//! unchanged.
 
 use crate::os_hosts::{Paths, SystemHost, TEXT, all_go, host_of, said};
 use linked_list_allocator::LocalHeap;
@@ -10,7 +11,7 @@ use std::process::Abort;
 use std::test::Fail;
 use test_support::{Again, SYSTEM, is_again, is_said};
 
-/// The paths of a host, what it is, and the steps of its life.
+/// The paths of a host, its kind, and the steps of its life.
 type Life = (Paths, &'static str, &'static str);
 
 fn lives(rt: &HostRuntime, (paths, kind, steps): Life) -> bool {
@@ -23,8 +24,8 @@ fn lives(rt: &HostRuntime, (paths, kind, steps): Life) -> bool {
 const PATHS: Paths = ("a.tab", "a.ctl", "a.state", None);
 
 const LIVES: &[Life] = &[
-    // There is no child, processes that no inittab has, of no word and not UTF-8, and a child beside another. A pause is
-    // no fault.
+    // There is no child; there are processes that are in no inittab, without a word and not in UTF-8; and there is a
+    // child next to another one. A pause is not a fault.
     (
         PATHS,
         "paced",
@@ -51,7 +52,7 @@ fn a_host_answers_and_counts(rt: HostRuntime) {
 const TOLD: Paths = ("k.tab", "k.ctl", "k.state", None);
 
 const TOLD_LIVES: &[Life] = &[
-    // A first reading that fails is none.
+    // A first reading that fails is not one.
     (
         TOLD,
         "",
@@ -62,7 +63,7 @@ const TOLD_LIVES: &[Life] = &[
         "fresh",
         "folder k.ctl / take = fails / no-folder k.ctl / zeros 384 / take 0 / remove k.ctl",
     ),
-    // A writer in the middle is not told of; what stays is.
+    // A writer in the middle of a block is not reported; a partial block that remains is.
     (
         TOLD,
         "",
@@ -93,7 +94,8 @@ true
 
 const SHORT: &str = "uncounted\nstarted m\n";
 
-/// Over one of the rooms there is memory for a child and none to count it: that is told, and that it was started.
+/// Tests that at one of the sizes there is memory for a child but not to count it: that is reported, and that it was
+/// started.
 fn run_short(rt: &HostRuntime) -> Result<(), Fail> {
     for step in 4..640usize {
         let heap = LocalHeap::new(rt.alloc(), 16 * step)?;
@@ -135,9 +137,9 @@ fn lives_are_told(rt: HostRuntime) -> Result<(), Fail> {
     Ok(())
 }
 
-/// What a host is, or one in ample memory that reads into a heap; its steps, of which the last is what it is asked for, and
-/// without the others there is nothing to ask for; what is answered, and goes on, where that is done, and where it is
-/// refused; and how many heaps at least there are before it is done.
+/// The kind of a host, or `ample` for one in ample memory that reads into a heap; its steps, of which the last is the
+/// request and needs the others; the answers, including those of later steps, if the request is done, and if it fails;
+/// and a number of heap sizes: more of them than that must be too small.
 type Asked = (
     &'static str,
     &'static str,
@@ -154,9 +156,9 @@ const ASKED: &[Asked] = &[
         "nobirth / faults 1 / look = nolook",
         8,
     ),
-    // Where there is room for a host and not for its logs, one with logs is refused.
+    // If there is room for a host but not for its logs, creating one with logs fails.
     ("logs", "faults 0", "yes", "", 2),
-    // Where TERM is refused the child lives on.
+    // If TERM fails the child stays alive.
     (
         "",
         "start sleep 1000 = birth / term",
@@ -169,11 +171,11 @@ const ASKED: &[Asked] = &[
     ("ample", "carry", "yes", "lacks", 1),
 ];
 
-/// What came of a host on a heap.
+/// The outcome for a host on a heap.
 #[derive(Clone, Copy)]
 enum Made {
     Nothing,
-    /// The host, which refuses what it is asked for.
+    /// The host exists, but fails to do what it is asked for.
     Host,
     All,
 }
@@ -215,8 +217,8 @@ fn made_in(
     }
 }
 
-/// In steps of 16 bytes, less than the least growth takes, first no host is made, then one that refuses what it is asked
-/// for, and at last, past so many steps, one that does it.
+/// Tests sizes in steps of 16 bytes, which is less than the smallest allocation: first no host can be created, then one
+/// that fails to do what it is asked for, and finally, after more steps than the given number, one that does it.
 fn comes_of_room(rt: &HostRuntime, ample: &mut SystemHost<Global>, asked: &Asked) -> Option<bool> {
     let (first, most) = if asked.0 == "ample" {
         (0, 8192usize)

@@ -1,4 +1,4 @@
--- The words of the proofs of this crate.
+-- Names that all proofs of this crate import.
 pub use Rattle.std.proofs.Common.{◌≡◌, ◌⊎◌, ℕ, suc, ◌+◌, ◌<◌, ◌≤◌, Bool, true, false, cond, List, [], ◌∷◌, ◌++◌, length}
 pub use Rattle.std.proofs.Common.{take, drop, get_or, reverse, refl, sym, ap, ◌∙◌, arith, inl, inr, ◌==◌, slice_index}
 pub use Rattle.std.proofs.Common.{Option, Some, None, ◌&&◌, ◌^◌, Result, Ok, Err, nat_lt, decimal, Bor, zero, ◌-◌, not}

@@ -1,4 +1,4 @@
--- A text, cut at the first byte of a kind, and its lines.
+-- Lemmas on cutting a text at the first occurrence of a byte, and on its lines.
 use Rattle.text_lines.proofs.CommonWords.{◌≡◌, ◌⊎◌, ℕ, suc, ◌+◌, ◌<◌, Bool, true, false, cond, ◌==◌, List, [], ◌∷◌}
 use Rattle.text_lines.proofs.CommonWords.{◌++◌, length, take, drop, slice_index, Option, Some, None, refl, sym, ◌∙◌}
 use Rattle.text_lines.proofs.CommonWords.{arith, inl, inr, false_from_ne_true, or_parts, eqb-true, onto_first, cut}
@@ -24,11 +24,11 @@ cut-first mark (b ∷ text) (suc k) within before here =
     rw (other, rest, more) refl
 cut-first mark text k within before here = grind arith
 
--- the cut of a text whose first byte is of the kind
+-- the cut of a text that begins with the byte
 abbrev at_once : List ℕ → Option (List ℕ × List ℕ)
 at_once text = Some ([], text)
 
--- how a cut of a text came about: at its first byte, or behind it
+-- a cut found the byte either at the start of the text or later
 abbrev Began : ℕ → ℕ → List ℕ → List ℕ → List ℕ → Type 0
 Began mark b text left right = ((left ≡ []) × (right ≡ text) × ((b == mark) ≡ true))
     ⊎ ((more : List ℕ) × (left ≡ b ∷ more) × (cut mark text ≡ Some (more, right)) × ((b == mark) ≡ false))
@@ -46,7 +46,7 @@ began : (mark b : ℕ) (text left right : List ℕ) → cut mark (b ∷ text) �
     → Began mark b text left right
 began mark b text left right is = began_by mark b text left right (b == mark) refl is
 
--- a cut leaves nothing out, and stops at the first byte of the kind
+-- the two parts of a cut and the byte between them are the whole text, and the first part does not contain the byte
 pub cut-parts : (mark : ℕ) (text left right : List ℕ) → cut mark text ≡ Some (left, right)
     → (text ≡ left ++ mark ∷ right) × (has_byte mark left ≡ false)
 cut-parts mark [] left right is = absurd (cc)
@@ -56,7 +56,7 @@ cut-parts mark (b ∷ text) left right is =
       | inr g ↦ (let rest = cut-parts mark text g.0 right g.2 in (rw (g.1, rest.0) refl, rw (g.1, g.3, rest.1) refl))
     ]
 
--- where there is no cut there is no such byte
+-- if there is no cut, the first byte is another one and there is no cut of the rest
 none_by : (mark b : ℕ) (text : List ℕ) (x : Bool) (o : Option (List ℕ × List ℕ))
     → cond x (at_once text) (option_map (onto_first b) o) ≡ None → (x ≡ false) × (o ≡ None)
 none_by mark b text true o is = absurd (cc)
@@ -67,13 +67,13 @@ pub cut-lacks : (mark : ℕ) (text : List ℕ) → cut mark text ≡ None → ha
 cut-lacks mark [] is = grind arith
 cut-lacks mark (b ∷ text) is = grind (arith, cut-lacks mark text)
 
--- a cut of two parts joined
+-- cutting two parts joined by the byte gives the parts, if the first part does not contain it
 pub cut-append : (mark : ℕ) (left right : List ℕ) → has_byte mark left ≡ false
     → cut mark (left ++ mark ∷ right) ≡ Some (left, right)
 cut-append mark [] right lacks = grind arith
 cut-append mark (b ∷ left) right lacks = grind (arith, cut-append mark left right)
 
--- the first line of a text, and the rest
+-- the first line of a text, and the lines of the rest
 pub lines_of-cut : (text left right : List ℕ) → cut 10 text ≡ Some (left, right) → lines_of text ≡ left ∷ lines_of right
 lines_of-cut [] left right is = absurd (cc)
 lines_of-cut (b ∷ text) left right is =
@@ -82,7 +82,7 @@ lines_of-cut (b ∷ text) left right is =
       | inr g ↦ rw (g.3, g.1, lines_of-cut text g.0 right g.2) refl
     ]
 
--- a last line
+-- a text without a newline is a single line
 pub lines_of-last : (text : List ℕ) → 0 < length text → cut 10 text ≡ None → lines_of text ≡ text ∷ []
 lines_of-last (b ∷ c ∷ text) some is =
     let parts = none_by 10 b (c ∷ text) (b == 10) (cut 10 (c ∷ text)) is in
@@ -90,17 +90,17 @@ lines_of-last (b ∷ c ∷ text) some is =
     rw (parts.0, rest) refl
 lines_of-last text some is = grind (arith, none_by)
 
--- a line and the text behind it
+-- a line and a text joined by a newline have the line and then the lines of the text
 pub lines_of-append : (left right : List ℕ) → has_byte 10 left ≡ false
     → lines_of (left ++ 10 ∷ right) ≡ left ∷ lines_of right
 lines_of-append left right lacks = lines_of-cut (left ++ 10 ∷ right) left right (cut-append 10 left right lacks)
 
--- a byte that two parts have not
+-- a byte that occurs in neither of two texts does not occur in both joined
 pub has_byte-append : (byte : ℕ) (left right : List ℕ) → has_byte byte left ≡ false → has_byte byte right ≡ false
     → has_byte byte (left ++ right) ≡ false
 has_byte-append byte left right first second = list_any-append (λ b. b == byte) left right ∙ rw (first, second) refl
 
--- a byte that the whole has not
+-- a byte that does not occur in two texts joined occurs in neither
 pub has_byte-parts : (byte : ℕ) (left right : List ℕ) → has_byte byte (left ++ right) ≡ false
     → (has_byte byte left ≡ false) × (has_byte byte right ≡ false)
 has_byte-parts byte left right lacks =

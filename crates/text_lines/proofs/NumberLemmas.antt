@@ -1,4 +1,4 @@
--- A text is no number where it is not UTF-8, or parses as none.
+-- A text that is not UTF-8, or that does not parse, is not a number.
 use Rattle.text_lines.proofs.CommonWords.{Bool, true, false, ◌≡◌, ◌&&◌, ◌<◌, ◌^◌, ℕ, List, [], ◌∷◌, arith, Some, None}
 use Rattle.text_lines.proofs.CommonWords.{Result, Ok, Err, refl, ap, ◌∙◌, cond, nat_lt, decimal, Bor, result_ok}
 use Rattle.text_lines.proofs.CommonWords.{false≢true, ltb-true, IsUtf8-from_ascii, bytes_eq, has_byte}
@@ -8,7 +8,7 @@ use Rattle.std.proofs.lemmas.Fmt.{parse-decimal, IsAscii-decimal, decimal_is_IsN
 use Rattle.std.proofs.lemmas.Slice.Eq.{bytes_eq-Decides}
 use Rattle.text_lines.specs.Numbers.{number_read}
 
--- no number, where a number whose decimal form it is makes it none
+-- a text that is the decimal form of no `u64` is not read as a number
 pub none_read : (text : List ℕ) → ((n : ℕ) → n < 2 ^ 64 → text ≡ decimal n → false ≡ true)
     → None ≡ number_read (2 ^ 64) text
 none_read text never = grind (arith, ltb-true, bytes_eq-Decides)
@@ -28,7 +28,7 @@ pub same_text : {E : Type 0} (text : List ℕ) (U : Type 0) (B : E → Type 0) (
     (s : Bor (List ℕ)) → MatchResult r (λ s. (s.now ≡ text) × U) B → Some s ≡ result_ok r → s.now ≡ text
 same_text text U B r s m is = grind arith
 
--- a number's decimal form is read as the number, where it is below the limit
+-- the decimal form of a number below the limit is read as that number
 plus_none : (ds : List ℕ) → AllDigits 10 ds → without_leading_plus ds ≡ ds
 plus_none ds digits = grind arith
 
@@ -44,12 +44,12 @@ read_by limit n m text true true below same is = grind (arith, bytes_eq-Decides)
 read_by limit n m text true false below same is = absurd (cc)
 read_by limit n m text false c below same is = absurd (cc)
 
--- what was read is below the limit, and the text is its decimal form
+-- a number that was read is below the limit, and the text is its decimal form
 pub decimal-number_read : (limit : ℕ) (text : List ℕ) (n : ℕ) → number_read limit text ≡ Some n
     → (decimal n ≡ text) × (nat_lt n limit ≡ true)
 decimal-number_read limit text n is = grind (arith, read_by)
 
--- a byte that is no digit stands in no decimal form
+-- a byte below the digits does not occur in a decimal form
 lacks_digits : (byte : ℕ) (ds : List ℕ) → byte < 48 → AllDigits 10 ds → has_byte byte ds ≡ false
 lacks_digits byte [] low digits = grind arith
 lacks_digits byte (c ∷ ds) low digits = grind (arith, lacks_digits byte ds)

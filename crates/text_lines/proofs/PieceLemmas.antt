@@ -1,4 +1,4 @@
--- A text in pieces, and a text by its lines: what is cut off and what is left make the whole.
+-- A text split into pieces or lines: the parts together are the whole text.
 use Rattle.text_lines.proofs.CommonWords.{◌≡◌, ℕ, zero, suc, ◌+◌, ◌-◌, ◌<◌, Bool, true, false, cond, not, ◌==◌, List}
 use Rattle.text_lines.proofs.CommonWords.{[], ◌∷◌, ◌++◌, length, take, filter, slice_get, Option, Some, None, refl, sym}
 use Rattle.text_lines.proofs.CommonWords.{ap, ◌∙◌, arith, length-append, not-true, append_assoc, cut, ended, has_byte}
@@ -7,7 +7,7 @@ use Rattle.std.specs.List.{join_with_byte, list_all}
 use Rattle.std.proofs.lemmas.Option.{option_and_then_some, same_Some}
 use Rattle.text_lines.proofs.CutLemmas.{cut-parts, cut-lacks}
 
--- the first piece, and those of what stands behind it
+-- the first piece of a text, and the pieces of the rest
 pub pieces_of-at : (mark : ℕ) (word rest : List ℕ) → has_byte mark word ≡ false
     → pieces_of mark (word ++ mark ∷ rest) ≡ word ∷ pieces_of mark rest
 pieces_of-at mark [] rest lacks = grind arith
@@ -26,7 +26,7 @@ pieces_of-cut mark text word rest is =
 pub pieces_of-whole : (mark : ℕ) (text : List ℕ) → cut mark text ≡ None → pieces_of mark text ≡ text ∷ []
 pieces_of-whole mark text is = pieces_of-last mark text (cut-lacks mark text is)
 
--- pieces without the byte, joined by it, are the pieces again
+-- pieces that do not contain the byte are recovered after they are joined by it
 pub pieces_of-joined : (mark : ℕ) (word : List ℕ) (words : List (List ℕ))
     → list_all (λ w. not (has_byte mark w)) (word ∷ words) ≡ true
     → pieces_of mark (join_with_byte mark (word ∷ words)) ≡ word ∷ words
@@ -34,7 +34,7 @@ pieces_of-joined mark word [] lack = grind (arith, pieces_of-last, not-true, pie
 pieces_of-joined mark word (next ∷ words) lack =
     grind (arith, pieces_of-joined mark word words, pieces_of-last, not-true, pieces_of-at)
 
--- newlines of two texts
+-- the newlines of two texts joined are those of the first plus those of the second
 newlines_by : (b : ℕ) (left right : List ℕ) (x : Bool) → newlines (left ++ right) ≡ newlines left + newlines right
     → length (cond x (b ∷ filter (λ c. c == 10) (left ++ right)) (filter (λ c. c == 10) (left ++ right)))
     ≡ length (cond x (b ∷ filter (λ c. c == 10) left) (filter (λ c. c == 10) left)) + newlines right
@@ -52,7 +52,7 @@ newlines-none (b ∷ text) lacks = grind (arith, newlines-none text)
 pub newlines-line : (line : List ℕ) → has_byte 10 line ≡ false → newlines (line ++ 10 ∷ []) ≡ 1
 newlines-line line lacks = newlines-append line (10 ∷ []) ∙ ap (λ n. n + 1) (newlines-none line lacks)
 
--- what stands after so many lines is an end of the text, behind so many newlines
+-- the text after a number of lines is a suffix, and the prefix before it has that number of newlines
 pub record Front (count : ℕ) (text rest : List ℕ) : Type 0 where
   pub front : List ℕ
   pub whole : text ≡ front ++ rest
@@ -73,7 +73,7 @@ after_lines-front (suc n) text rest is =
           ∙ omega (arith, newlines-line parts.0 first.1, behind.counted);
     })
 
--- the text before an end of it
+-- the prefix before a suffix, by length
 pub take-front : (front rest : List ℕ) → take (length (front ++ rest) - length rest) (front ++ rest) ≡ front
 take-front front rest = short (length (front ++ rest) - length rest) (omega (arith, length-append front rest))
   where
@@ -84,18 +84,18 @@ take-front front rest = short (length (front ++ rest) - length rest) (omega (ari
     short : (n : ℕ) → n ≡ length front → take n (front ++ rest) ≡ front
     short n same = ap (λ k. take k (front ++ rest)) same ∙ taken front
 
--- one line of those that are wanted is gone
+-- after the first line, one line fewer is to be skipped
 pub after_lines-step : (n : ℕ) (text line rest : List ℕ) → 0 < n → cut 10 text ≡ Some (line, rest)
     → after_lines n text ≡ after_lines (n - 1) rest
 after_lines-step zero text line rest some is = absurd (omega arith)
 after_lines-step (suc n) text line rest some is = grind arith
 
--- a text that has a line too few
+-- a text without a newline has no text after one or more lines
 pub after_lines-short : (n : ℕ) (text : List ℕ) → 0 < n → cut 10 text ≡ None → after_lines n text ≡ None
 after_lines-short zero text some is = absurd (omega arith)
 after_lines-short (suc n) text some is = rw is refl
 
--- a text with its last line ended
+-- a text that ends with a newline is not changed by `ended`
 pub ended-closed : (text : List ℕ) → slice_get text (length text - 1) ≡ Some 10 → ended text ≡ text
 ended-closed (b ∷ c ∷ text) last = ap (λ t. b ∷ t) (ended-closed (c ∷ text) (behind b c text (Some 10) last))
   where

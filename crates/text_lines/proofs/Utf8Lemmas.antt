@@ -1,4 +1,4 @@
--- Parts of a text that is UTF-8 are UTF-8 where they are cut at bytes of ASCII, as blanks and tabs.
+-- Parts of a UTF-8 text are UTF-8 if it is cut at ASCII bytes, such as blanks and tabs.
 use Rattle.text_lines.proofs.CommonWords.{◌≡◌, ℕ, zero, suc, ◌+◌, ◌<◌, ◌≤◌, Bool, true, false, cond, ◌||◌, ◌==◌, List}
 use Rattle.text_lines.proofs.CommonWords.{[], ◌∷◌, ◌++◌, length, take, drop, get_or, refl, ap, subst, arith}
 use Rattle.text_lines.proofs.CommonWords.{IsCharBoundary, eqb-true, IsCharBoundary-after_ascii, IsUtf8-drop}
@@ -6,7 +6,7 @@ use Rattle.text_lines.proofs.CommonWords.{IsUtf8-take, IsUtf8-nil, is_blank, ski
 use Rattle.std.specs.Str.{IsUtf8}
 use Rattle.text_lines.proofs.BlankLemmas.{trim_end-done, trim_end-nil, trim_end-shorter}
 
--- a blank is one byte of ASCII
+-- a blank is an ASCII byte
 blank_by : (b : ℕ) (x : Bool) → (b == 32) ≡ x → x || (b == 9) ≡ true → b < 128
 blank_by b true here is = let e = eqb-true b 32 here in omega arith
 blank_by b false here is = let e = eqb-true b 9 is in omega arith
@@ -14,7 +14,7 @@ blank_by b false here is = let e = eqb-true b 9 is in omega arith
 blank_is_ascii : (b : ℕ) → is_blank b ≡ true → b < 128
 blank_is_ascii b is = blank_by b (b == 32) refl is
 
--- a text behind a byte of ASCII
+-- the text after a leading ASCII byte
 pub behind_ascii : (b : ℕ) (text : List ℕ) → b < 128 → IsUtf8 (b ∷ text) → IsUtf8 text
 behind_ascii b text low utf8 =
     IsUtf8-drop (b ∷ text) 1 utf8 (IsCharBoundary-after_ascii (b ∷ text) 0 utf8 (omega arith) low)
@@ -28,7 +28,7 @@ pub skip_blanks-utf8 : (text : List ℕ) → IsUtf8 text → IsUtf8 (skip_blanks
 skip_blanks-utf8 [] utf8 = utf8
 skip_blanks-utf8 (b ∷ text) utf8 = skip_by b text (is_blank b) refl utf8 (skip_blanks-utf8 text)
 
--- a word ends at a blank, or where the text does
+-- a word ends at a blank or at the end of the text
 word_end_by : (b : ℕ) (text : List ℕ) (x : Bool) → is_blank b ≡ x → (word_length text < length text
     → is_blank (get_or text (word_length text) 0) ≡ true) → cond x 0 (suc (word_length text)) < length (b ∷ text)
     → is_blank (get_or (b ∷ text) (cond x 0 (suc (word_length text))) 0) ≡ true
@@ -47,7 +47,7 @@ word_within : (text : List ℕ) → word_length text ≤ length text
 word_within [] = omega arith
 word_within (b ∷ text) = word_within_by (is_blank b) (word_length text) (length text) (word_within text)
 
--- at a byte of ASCII, or at the end, a character may begin
+-- a character boundary is at the end of the text and before each ASCII byte
 boundary : (text : List ℕ) (n : ℕ) → n ≤ length text → (n < length text → get_or text n 0 < 128) → IsCharBoundary text n
 boundary text n within low = (within, λ inside high. absurd (let less = low inside in omega arith))
 
@@ -58,7 +58,7 @@ word-utf8 text utf8 =
     (λ within. blank_is_ascii (get_or text (word_length text) 0) (word_end text within)) in
     (IsUtf8-take text (word_length text) utf8 at, IsUtf8-drop text (word_length text) utf8 at)
 
--- a text behind a byte of ASCII that stands somewhere in it
+-- the two parts around an ASCII byte inside the text
 get_or-seam : (left : List ℕ) (mark : ℕ) (right : List ℕ) → get_or (left ++ mark ∷ right) (length left) 0 ≡ mark
 get_or-seam [] mark right = refl
 get_or-seam (b ∷ left) mark right = get_or-seam left mark right
@@ -80,7 +80,7 @@ behind-utf8 left mark right low utf8 =
     (omega (arith, get_or-seam left mark right)) in
     subst (λ t. IsUtf8 t) (drop-seam left mark right) (IsUtf8-drop whole (length left + 1) utf8 at)
 
--- a text without the blanks at its end
+-- the text without its trailing blanks
 end_by : (text : List ℕ) (n : ℕ) (x : Bool) → is_blank (get_or text n 0) ≡ x → n < length text → IsUtf8 text
     → IsCharBoundary text (suc n) → (IsCharBoundary text n → IsUtf8 (trim_end (take n text)))
     → IsUtf8 (trim_end (take (n + 1) text))

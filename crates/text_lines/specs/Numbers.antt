@@ -1,9 +1,9 @@
--- Numbers in their decimal form.
+-- Numbers in strict decimal form.
 use Rattle.std.specs.Prelude.{ℕ, ◌&&◌, if◌then◌else◌, nat_lt, List, decimal, Option, Some, None}
 use Rattle.std.specs.Str.{bytes_eq}
 use Rattle.std.specs.Str.Parse.{digits_value, without_leading_plus}
 
--- the number below the limit of which the text is the decimal form: no sign and no leading zero
+-- the number whose decimal form the text is, if it is below the limit: no sign and no leading zeros
 abbrev pub number_read : ℕ → List ℕ → Option ℕ
 number_read limit text =
     let number = digits_value 10 (without_leading_plus text) in

@@ -1,31 +1,31 @@
-//! Blanks and tabs: found, and cut off.
+//! Tests for blanks and tabs, and functions that trim them.
 
 ghost use Rattle.std.specs.Prelude.{◌≡◌};
 ghost use Rattle.std.specs.List.{list_all, list_any as any};
 ghost use Rattle.text_lines.specs.Lines.{is_blank, skip_blanks, trim, trim_end};
 
-/// A blank or a tab.
+/// Returns whether a byte is a blank or a tab.
 pub fn is_blank(byte: u8) -> bool
     ensures { result ≡ is_blank byte }
 {
     byte == b' ' || byte == b'\t'
 }
 
-/// Nothing but blanks and tabs.
+/// Returns whether a text consists of blanks and tabs only. The empty text does.
 pub fn is_all_blank(text: &[u8]) -> bool
     ensures { result ≡ list_all is_blank text.now }
 {
     text.iter().all(|byte| is_blank(*byte))
 }
 
-/// A blank or a tab is there.
+/// Returns whether a text contains a blank or a tab.
 pub fn has_blank(text: &[u8]) -> bool
     ensures { result ≡ any is_blank text.now }
 {
     text.iter().any(|byte| is_blank(*byte))
 }
 
-/// A text without its leading blanks and tabs.
+/// Returns a text without its leading blanks and tabs.
 pub fn without_blanks(text: &[u8]) -> &[u8]
     ensures { result.now ≡ skip_blanks text.now }
 {
@@ -36,7 +36,7 @@ pub fn without_blanks(text: &[u8]) -> &[u8]
     rest
 }
 
-/// A text without its trailing blanks and tabs.
+/// Returns a text without its trailing blanks and tabs.
 pub fn without_tail(text: &[u8]) -> &[u8]
     ensures { result.now ≡ trim_end text.now }
 {
@@ -47,7 +47,7 @@ pub fn without_tail(text: &[u8]) -> &[u8]
     &text[..end]
 }
 
-/// A text without the blanks and tabs at both ends.
+/// Returns a text without its leading and trailing blanks and tabs.
 pub fn trimmed(text: &[u8]) -> &[u8]
     ensures { result.now ≡ trim text.now }
 {

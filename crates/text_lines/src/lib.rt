@@ -1,5 +1,5 @@
-//! Texts in pieces: the lines of a text, a line cut at the first byte of a kind or at blanks and tabs, and decimal
-//! numbers read strictly. A piece is borrowed from its text; nothing is copied.
+//! Parsing of byte strings without copying: lines, fields between separators, words between blanks and tabs, and
+//! decimal numbers in strict form.
 #![tactic(auto)]
 
 mod blanks;

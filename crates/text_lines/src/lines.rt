@@ -1,4 +1,4 @@
-//! Lines of a text, cut at newlines.
+//! Splits a text into lines at newlines.
 
 ghost use Rattle.std.specs.Prelude.{◌≡◌, ◌<◌, ◌≤◌, [], ◌∷◌, false, length, IfSome, IfNone, IfOk, ◌++◌, true};
 ghost use Rattle.std.specs.Option.{option_map};
@@ -9,7 +9,7 @@ use memchr::memchr;
 use std::alloc::{AllocError, Allocator};
 use std::str;
 
-/// The text before the first byte of this kind, and what stands after it; None where the text has none.
+/// Returns the text before the first occurrence of a byte and the text after it, or `None` if the byte does not occur.
 pub fn cut(mark: u8, text: &[u8]) -> Option<(&[u8], &[u8])>
     ensures { option_map (λ parts. (parts.0.now, parts.1.now)) result ≡ cut mark text.now }
 {
@@ -17,7 +17,7 @@ pub fn cut(mark: u8, text: &[u8]) -> Option<(&[u8], &[u8])>
     Some((&text[..at], &text[at + 1..]))
 }
 
-/// The first line of a text that is not empty, without its newline, and the text after it.
+/// Returns the first line of a text that is not empty, without its newline, and the text after it.
 pub fn first_line(text: &[u8]) -> (&[u8], &[u8])
     requires { 0 < length text.now }
     ensures lines { lines_of text.now ≡ result.0.now ∷ lines_of result.1.now }
@@ -30,8 +30,8 @@ pub fn first_line(text: &[u8]) -> (&[u8], &[u8])
     }
 }
 
-/// The first line of a text, without its newline, and the text after it; None where the text is empty. A last line
-/// without a newline counts.
+/// Returns the first line of a text, without its newline, and the text after it, or `None` if the text is empty. A last
+/// line without a newline counts.
 pub fn next_line(text: &[u8]) -> Option<(&[u8], &[u8])>
     ensures lines { IfSome result (λ parts.
         lines_of text.now ≡ parts.0.now ∷ lines_of parts.1.now) }
@@ -45,7 +45,7 @@ pub fn next_line(text: &[u8]) -> Option<(&[u8], &[u8])>
     Some(first_line(text))
 }
 
-/// What stands after the first given number of lines of a text, each with its newline; None where the text has fewer.
+/// Returns the text after the given number of newline-terminated lines, or `None` if there are fewer.
 pub fn after_lines(count: usize, text: &[u8]) -> Option<&[u8]>
     ensures { option_map (λ rest. rest.now) result ≡ after_lines count text.now }
 {
@@ -56,7 +56,7 @@ pub fn after_lines(count: usize, text: &[u8]) -> Option<&[u8]>
     Some(rest)
 }
 
-/// How many newlines a text has.
+/// Returns the number of newlines in a text.
 pub fn newlines(text: &[u8]) -> usize
     ensures value { result ≡ newlines text.now }
     ensures within { result ≤ length text.now }
@@ -70,7 +70,7 @@ pub fn newlines(text: &[u8]) -> usize
     count
 }
 
-/// The text has a last line without a newline.
+/// Returns whether the last line of a text lacks its newline.
 fn is_open(text: &[u8]) -> bool
     ensures open { result ≡ true → ended text.now ≡ text.now ++ 10 ∷ [] }
     ensures closed { result ≡ false → ended text.now ≡ text.now }
@@ -81,7 +81,7 @@ fn is_open(text: &[u8]) -> bool
     }
 }
 
-/// A text with a newline after its last line, where it lacks one.
+/// Returns a copy of a text with a newline appended if its last line lacks one.
 pub fn ended<A: Allocator>(alloc: A, text: &[u8]) -> Result<Vec<u8, A>, AllocError>
     ensures { IfOk result (λ whole. whole.items ≡ ended text.now) }
 {
@@ -93,7 +93,7 @@ pub fn ended<A: Allocator>(alloc: A, text: &[u8]) -> Result<Vec<u8, A>, AllocErr
     Ok(whole)
 }
 
-/// The text is UTF-8.
+/// Returns whether a text is valid UTF-8.
 pub fn is_utf8(text: &[u8]) -> bool
     ensures { result ≡ is_utf8 text.now }
 {

@@ -1,4 +1,4 @@
-//! Numbers in decimal digits, read.
+//! Parses decimal numbers in strict form.
 
 ghost use Rattle.std.specs.Prelude.{◌≡◌, ◌^◌};
 ghost use Rattle.std.specs.Str.{bytes_eq};
@@ -7,14 +7,14 @@ ghost use Rattle.text_lines.specs.Numbers.{number_read};
 use itoa::Buffer;
 use std::str;
 
-/// The two texts are one.
+/// Returns whether two texts are equal.
 fn is(text: &[u8], other: &[u8]) -> bool
     ensures { result ≡ bytes_eq text.now other.now }
 {
     text == other
 }
 
-/// The number of which the text is the decimal form: digits alone, without a sign and without a leading zero.
+/// Parses a `u64` in strict decimal form: digits only, without a sign and without leading zeros.
 pub fn read_number(text: &[u8]) -> Option<u64>
     ensures { result ≡ number_read (2 ^ 64) text.now }
 {
@@ -27,7 +27,7 @@ pub fn read_number(text: &[u8]) -> Option<u64>
     }
 }
 
-/// The number below the limit of which the text is the decimal form.
+/// Parses a number in strict decimal form that is below `limit`.
 pub fn read_below(text: &[u8], limit: u64) -> Option<u64>
     ensures { result ≡ number_read limit text.now }
 {

@@ -1,4 +1,4 @@
-//! Words between blanks.
+//! Splits a line into words at blanks and tabs.
 
 ghost use Rattle.std.specs.Prelude.{◌≡◌, ◌<◌, ◌≤◌, ◌∷◌, [], length, IfSome, IfNone};
 ghost use Rattle.std.specs.Str.{IsUtf8};
@@ -6,7 +6,7 @@ ghost use Rattle.text_lines.specs.Lines.{word_length, words_of};
 
 use crate::blanks::{is_blank, without_blanks};
 
-/// How many bytes stand before the first blank or tab.
+/// Returns the number of bytes before the first blank or tab.
 fn word_length(text: &[u8]) -> usize
     ensures value { result ≡ word_length text.now }
     ensures within { result ≤ length text.now }
@@ -18,7 +18,7 @@ fn word_length(text: &[u8]) -> usize
     end
 }
 
-/// The first word of a text, and the text after it.
+/// Returns the first word of a text and the text after it, or `None` if the text has no word.
 pub fn next_word(text: &[u8]) -> Option<(&[u8], &[u8])>
     ensures none { IfNone result (words_of text.now ≡ []) }
     ensures some { IfSome result (λ parts. words_of text.now ≡ parts.0.now ∷ words_of parts.1.now) }

@@ -1,19 +1,21 @@
--- Where no child is excluded: what is known of it, and how it stays known.
+-- No child is excluded: what follows from it, and how it stays known.
 use Rattle.trace_check.proofs.Words.{◌≡◌, refl, sym, ◌∙◌, ap, ℕ, Bool, true, false, not, ◌&&◌, cond, List, [], ◌∷◌}
 use Rattle.trace_check.proofs.Words.{Option, Some, None, is_some, arith, list_any, list_all, keys_of, option_map}
 use Rattle.trace_check.proofs.Words.{option_map_or, and_parts, false≢true, not-true, is_some-lookup, Entry, Stage}
 use Rattle.trace_check.proofs.Words.{Level, same_id, same_id-is, any_less, falsely, not_from, entry_of, act_of}
 use Rattle.trace_check.proofs.Words.{NewTable, Enter, Settle, Birth, Reaped, Event, starts_in, may_live, is_level}
-use Rattle.trace_check.proofs.Words.{UnreapedChild, JudgeState, at, TakesIn, table_after, is_numbered, is_alive}
-use Rattle.trace_check.proofs.Words.{is_excluded_in, none_excluded_in, IsCalm, calm_after, is_placed_in, is_in_turn_in}
+use Rattle.trace_check.proofs.Words.{UnreapedChild, JudgeState, at, StateAfterHappening, table_after, is_numbered}
+use Rattle.trace_check.proofs.Words.{is_alive}
+use Rattle.trace_check.proofs.Words.{is_excluded_in, none_excluded_in, NoneExcludedIfCalm, calm_after, is_placed_in}
+use Rattle.trace_check.proofs.Words.{is_in_turn_in}
 use Rattle.trace_check.proofs.Words.{is_served_in, is_settled_in, flaw_in}
 
--- none is excluded where none of the children is
+-- if no id passes a test, none in a list does
 none_among : (p : List ℕ → Bool) → ((id : List ℕ) → p id ≡ false) → (ids : List (List ℕ)) → list_any p ids ≡ false
 none_among p none [] = refl
 none_among p none (id ∷ ids) = rw (none id) (none_among p none ids)
 
-pub calm_none : (calm : Bool) (table : List Entry) (s : JudgeState) → IsCalm calm table s → calm ≡ true
+pub calm_none : (calm : Bool) (table : List Entry) (s : JudgeState) → NoneExcludedIfCalm calm table s → calm ≡ true
     → none_excluded_in table s ≡ true
 calm_none calm table s known is = not_from (list_any (is_excluded_in table s) (keys_of s.children))
     (none_among (is_excluded_in table s) (known is) (keys_of s.children))
@@ -37,7 +39,7 @@ newborn_lives : (entry : Option Entry) (stage : Option Stage) → option_map_or 
     ≡ true → not (may_live entry (option_map (λ (e : Entry). e.act) entry) stage) ≡ false
 newborn_lives entry stage h = grind arith
 
--- what a lawful birth and a lawful settling say
+-- what follows from a birth or a settled level that breaks no law
 no_law : (b : Bool) (law : ℕ) → cond (not b) (Some law) None ≡ None → b ≡ true
 no_law true law h = refl
 no_law false law h = absurd (cc)
@@ -55,7 +57,7 @@ settled_says : (level : Level) (table : List Entry) (s : JudgeState) → is_sett
 settled_says level table s h = (and_parts (is_level level s.stage) (none_excluded_in table s)
     (and_parts (is_level level s.stage && none_excluded_in table s) (list_all (is_served_in level s) table) h).0).1
 
--- the child of an id is excluded by a table and a stage
+-- the child of an id is excluded by this table and this stage
 abbrev excluded_by : List Entry → Option Stage → List ℕ → Option UnreapedChild → Bool
 excluded_by table stage id o = option_map_or (λ living. not (may_live (entry_of id table) living.act stage)) o false
 
@@ -80,10 +82,11 @@ born table stage i n id o placed none = split (same_id id i) refl where
       ∙ newborn_lives (entry_of i table) stage placed
   split false differ = none
 
--- after a happening that broke no law
+-- `calm` is right after a happening that broke no law
 pub calm_next : (happening : Event) (old new : JudgeState) (table after : List Entry) (calm : Bool)
-    → flaw_in table old happening ≡ None → TakesIn table old new happening → after ≡ table_after happening table
-    → IsCalm calm table old → IsCalm (calm_after happening calm) after new
+    → flaw_in table old happening ≡ None → StateAfterHappening table old new happening
+    → after ≡ table_after happening table
+    → NoneExcludedIfCalm calm table old → NoneExcludedIfCalm (calm_after happening calm) after new
 calm_next (Enter stage grace) old new table after calm lawful took next known = λ is id. absurd (false≢true is)
 calm_next (NewTable brought) old new table after calm lawful took next known = λ is id. absurd (false≢true is)
 calm_next (Birth i n) old new table after calm lawful took next known = λ is id.

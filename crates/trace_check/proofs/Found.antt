@@ -1,11 +1,11 @@
--- The entries of a table in which no id stands twice, each found by its id.
+-- The entries of a table without repeated ids are found by their ids.
 use Rattle.trace_check.proofs.Words.{arith, ◌≡◌, refl, sym, ◌∙◌, ap, ℕ, zero, suc, take, Bool, true, false, not, ◌&&◌}
 use Rattle.trace_check.proofs.Words.{◌||◌, cond, List}
 use Rattle.trace_check.proofs.Words.{[], ◌∷◌, find, Some, list_any, list_all, option_map_or, and_parts, or_parts}
 use Rattle.trace_check.proofs.Words.{not-true, Entry, same_id, has_id, entry_of, is_distinct, entries_before}
 use Rattle.trace_check.proofs.Words.{same_id-is, same_id-self, same_id-sym, falsely, any_less, or_none}
 
--- what holds of each entry
+-- the property holds for each entry
 abbrev Each : (Entry → Type 0) → List Entry → Type 0
 Each P [] = Unit {0}
 Each P (e ∷ es) = P e × Each P es
@@ -52,13 +52,14 @@ each_before P id (e ∷ es) each = split (same_id id e.id) (each_before P id es 
   split true rest = tt
   split false rest = (each.0, rest)
 
--- two tests that agree on the entries that are found agree on the table
+-- two tests that agree on every entry found by its id agree on the whole table
 pub found_all : (p q : Entry → Bool) (es : List Entry) → is_distinct es ≡ true
     → ((e : Entry) → entry_of e.id es ≡ Some e → p e ≡ q e) → list_all p es ≡ list_all q es
 found_all p q es distinct same =
     each_all p q es (each_map (λ e. entry_of e.id es ≡ Some e) (λ e. p e ≡ q e) same es (each_found es distinct))
 
--- where none of the first passes, none of them passes a test that those that are found fail as well
+-- if none of the first entries passes p, and every entry found by its id that fails p also fails q, none of them passes
+-- q
 pub found_taken : (p q : Entry → Bool) (count : ℕ) (es : List Entry) → is_distinct es ≡ true
     → ((e : Entry) → entry_of e.id es ≡ Some e → p e ≡ false → q e ≡ false)
     → list_any p (take count es) ≡ false → list_any q (take count es) ≡ false
@@ -75,7 +76,7 @@ pub first_before : (p q : Entry → Bool) (id : List ℕ) (es : List Entry) → 
 first_before p q id es distinct same = each_find p q (entries_before id es) (each_before (λ e. p e ≡ q e) id es
     (each_map (λ e. entry_of e.id es ≡ Some e) (λ e. p e ≡ q e) same es (each_found es distinct)))
 
--- whether an entry of an id passes is told by the one that is found
+-- some entry with the id passes exactly if the one found by the id does
 pub entry_any : (id : List ℕ) (q : Entry → Bool) (es : List Entry) → is_distinct es ≡ true
     → list_any (λ e. has_id id e && q e) es ≡ option_map_or q (entry_of id es) false
 entry_any id q [] distinct = refl
@@ -94,7 +95,7 @@ entry_any id q (x ∷ es) distinct = split (same_id id x.id) refl (entry_any id 
   split true same rest = or_none (q x) (list_any (λ e. has_id id e && q e) es) (none_later same)
   split false differ rest = rest
 
--- a test of the ids alone is one of the id
+-- a test that depends on ids alone passes for some entry with the id exactly if there is one and the id passes
 pub id_any : (id : List ℕ) (f : List ℕ → Bool) (es : List Entry)
     → list_any (λ e. has_id id e && f e.id) es ≡ (list_any (has_id id) es && f id)
 id_any id f [] = refl

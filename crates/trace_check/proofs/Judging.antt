@@ -1,12 +1,14 @@
--- The law that a happening breaks by the state is the one that it breaks by the past.
+-- The law that a happening breaks according to the state is the one that it breaks according to the past.
 use Rattle.trace_check.proofs.Words.{arith, ◌≡◌, ◌-◌, refl, sym, ◌∙◌, ap, ℕ, Bool, true, false, not, ◌&&◌, ◌||◌, cond}
 use Rattle.trace_check.proofs.Words.{nat_lt, List, [], ◌∷◌, slice_get, take, find, Option, Some, is_none, is_some}
 use Rattle.trace_check.proofs.Words.{list_any, list_all, keys_of, option_map, option_map_or, and_from, is_some-lookup}
 use Rattle.trace_check.proofs.Words.{HOLD, STARTS, WINDOW, Entry, Level, same_id, entry_of, is_distinct, Event}
-use Rattle.trace_check.proofs.Words.{table_of, stage_of, grace_of, time_of, Child, is_of, has_child, unreaped_children}
+use Rattle.trace_check.proofs.Words.{table_of, stage_of, grace_of, time_of, Child, is_child_of, has_child}
+use Rattle.trace_check.proofs.Words.{unreaped_children}
 use Rattle.trace_check.proofs.Words.{starts_in, is_called, is_wanted, is_owed, is_excluded, may_live, entries_before}
-use Rattle.trace_check.proofs.Words.{is_level, is_ripe, spell_hits, start_times, hold_times, is_held, is_full}
-use Rattle.trace_check.proofs.Words.{is_placed, is_in_turn, is_limited_id, is_free, is_due_hold, may_term, may_kill}
+use Rattle.trace_check.proofs.Words.{is_level, is_grace_over, spell_hits, start_times, hold_times, is_held, is_full}
+use Rattle.trace_check.proofs.Words.{has_startable_entry, is_in_turn, is_limited_id, is_free, is_due_hold, may_term}
+use Rattle.trace_check.proofs.Words.{may_kill}
 use Rattle.trace_check.proofs.Words.{broken, same_id-is, same_id-self, same_tests, any_less, any_same, Passing, passing}
 use Rattle.trace_check.proofs.Words.{found_any, and_three, is_lone, lone_any, UnreapedChild, JudgeState, at, among}
 use Rattle.trace_check.proofs.Words.{is_alive, is_excluded_in, none_excluded_in, is_placed_in, is_wanted_in, is_owed_in}
@@ -19,17 +21,17 @@ use Rattle.trace_check.proofs.Found.{found_all, found_before, first_before}
 use Rattle.trace_check.proofs.Windows.{full_by_last, held_by_last}
 use Rattle.trace_check.proofs.Terms.{over_age, ripe_least}
 
--- a TERM was told in the spell of the child, and the grace since is over
+-- a TERM was told in the spell of the child at least the grace period ago
 abbrev is_ripe_child : List Event → Child → Bool
-is_ripe_child past child = list_any (is_ripe (grace_of past) (time_of past)) (spell_hits child past)
+is_ripe_child past child = list_any (is_grace_over (grace_of past) (time_of past)) (spell_hits child past)
 
--- none is the first that passes where none passes
+-- no element is found exactly if none passes
 none_first : {X : Type 0} (p : X → Bool) (xs : List X) → is_none (find p xs) ≡ not (list_any p xs)
 none_first p [] = refl
 none_first p (x ∷ xs) = grind (arith, none_first p xs)
 
 module _ (s : JudgeState) (past : List Event) (r : Reads s past) where
-  -- the entry that is found for its id is called, wanted, owed
+  -- an entry found by its id is called, wanted or owed according to the state exactly if it is according to the past
   called : (e : Entry) → entry_of e.id (table_of past) ≡ Some e → among e.id s.called ≡ is_called e past
   called e found = r.called e.id ∙ ap (λ o. option_map_or (λ x. is_called x past) o false) found
 
@@ -55,11 +57,11 @@ module _ (s : JudgeState) (past : List Event) (r : Reads s past) where
       (slice_get (take STARTS (start_times id past)) (STARTS - 1)) false) r.time ∙ full_by_last id past
 
 module _ (s : JudgeState) (past : List Event) (r : Reads s past) (lone : (id : List ℕ)
-    → is_lone (is_of id) (unreaped_children past) ≡ true) (distinct : is_distinct (table_of past) ≡ true) where
+    → is_lone (is_child_of id) (unreaped_children past) ≡ true) (distinct : is_distinct (table_of past) ≡ true) where
   pub alive : (id : List ℕ) → is_alive s id ≡ has_child id (unreaped_children past)
-  alive id = ap is_some (r.children id) ∙ found_any living_of (is_of id) (unreaped_children past)
+  alive id = ap is_some (r.children id) ∙ found_any living_of (is_child_of id) (unreaped_children past)
 
-  -- the child of an id is excluded by the state where it is by the past
+  -- the child of an id is excluded according to the state exactly if it is according to the past
   excluded : (id : List ℕ)
       → is_excluded_in (table_of past) s id ≡ option_map_or (is_excluded past) (child_of id past) false
   excluded id = by_child (λ x o. at x s.children ≡ option_map living_of o
@@ -70,7 +72,7 @@ module _ (s : JudgeState) (past : List Event) (r : Reads s past) (lone : (id : L
       test : List ℕ → Option UnreapedChild → Bool
       test x o = option_map_or (λ living. not (may_live (entry_of x (table_of past)) living.act s.stage)) o false
 
-  -- an excluded child is found at a key, and the child of a key that is excluded is one
+  -- some child is excluded according to the state exactly if one is according to the past
   any_excluded : list_any (is_excluded_in (table_of past) s) (keys_of s.children)
       ≡ list_any (is_excluded past) (unreaped_children past)
   any_excluded = same_tests (list_any (is_excluded_in (table_of past) s) (keys_of s.children))
@@ -79,24 +81,24 @@ module _ (s : JudgeState) (past : List Event) (r : Reads s past) (lone : (id : L
         there : Passing (is_excluded_in (table_of past) s) (keys_of s.children)
             → list_any (is_excluded past) (unreaped_children past) ≡ true
         there key =
-            found_test (is_of key.item) (is_excluded past) (unreaped_children past)
+            found_test (is_child_of key.item) (is_excluded past) (unreaped_children past)
             (sym (excluded key.item) ∙ key.passes)
 
         back : Passing (is_excluded past) (unreaped_children past)
             → list_any (is_excluded_in (table_of past) s) (keys_of s.children) ≡ true
         back child =
             let id : List ℕ = child.item.id in
-            let own : is_of id child.item ≡ true = same_id-self id in
+            let own : is_child_of id child.item ≡ true = same_id-self id in
             let is : is_excluded_in (table_of past) s id ≡ true =
-            excluded id ∙ sym (lone_any (is_of id) (is_excluded past) (unreaped_children past) (lone id))
-            ∙ child.within (λ c. is_of id c && is_excluded past c)
-            (and_from (is_of id child.item) (is_excluded past child.item) own child.passes) in
+            excluded id ∙ sym (lone_any (is_child_of id) (is_excluded past) (unreaped_children past) (lone id))
+            ∙ child.within (λ c. is_child_of id c && is_excluded past c)
+            (and_from (is_child_of id child.item) (is_excluded past child.item) own child.passes) in
             let key : list_any (same_id id) (keys_of s.children) ≡ true =
-            sym (is_some-lookup (same_id id) s.children) ∙ alive id ∙ child.within (is_of id) own in
+            sym (is_some-lookup (same_id id) s.children) ∙ alive id ∙ child.within (is_child_of id) own in
             any_less (same_id id) (is_excluded_in (table_of past) s)
             (λ k same. ap (is_excluded_in (table_of past) s) (sym (same_id-is id k same)) ∙ is) (keys_of s.children) key
 
-  placed : (id : List ℕ) → is_placed_in (table_of past) s id ≡ is_placed id past
+  placed : (id : List ℕ) → is_placed_in (table_of past) s id ≡ has_startable_entry id past
   placed id = ap (λ now. option_map_or (λ e. starts_in e now) (entry_of id (table_of past)) false) r.stage
 
   in_turn : (id : List ℕ) → is_in_turn_in (table_of past) s id ≡ is_in_turn id past
@@ -126,7 +128,7 @@ module _ (s : JudgeState) (past : List Event) (r : Reads s past) (lone : (id : L
       (served level))
 
   may_be_termed : (id : List ℕ) → is_excluded_in (table_of past) s id ≡ may_term id past
-  may_be_termed id = excluded id ∙ sym (lone_any (is_of id) (is_excluded past) (unreaped_children past) (lone id))
+  may_be_termed id = excluded id ∙ sym (lone_any (is_child_of id) (is_excluded past) (unreaped_children past) (lone id))
 
   over : (id : List ℕ) → is_over_in s id ≡ option_map_or (is_ripe_child past) (child_of id past) false
   over id = grind (arith, by_child, over_age, ripe_least)
@@ -140,16 +142,17 @@ module _ (s : JudgeState) (past : List Event) (r : Reads s past) (lone : (id : L
       ap (λ b. b && is_over_in s id) (excluded id)
       ∙ ap (λ b. option_map_or (is_excluded past) (child_of id past) false && b) (over id)
       ∙ both_found (is_excluded past) (is_ripe_child past) (child_of id past)
-      ∙ sym (lone_any (is_of id) (λ c. is_excluded past c && is_ripe_child past c) (unreaped_children past) (lone id))
-      ∙ any_same (λ c. is_of id c && (is_excluded past c && is_ripe_child past c))
-      (λ c. is_of id c && is_excluded past c && is_ripe_child past c)
-      (λ c. and_three (is_of id c) (is_excluded past c) (is_ripe_child past c)) (unreaped_children past)
+      ∙ sym
+      (lone_any (is_child_of id) (λ c. is_excluded past c && is_ripe_child past c) (unreaped_children past) (lone id))
+      ∙ any_same (λ c. is_child_of id c && (is_excluded past c && is_ripe_child past c))
+      (λ c. is_child_of id c && is_excluded past c && is_ripe_child past c)
+      (λ c. and_three (is_child_of id c) (is_excluded past c) (is_ripe_child past c)) (unreaped_children past)
 
   not_not : (b : Bool) (x y : Option ℕ) → cond b x y ≡ cond (not (not b)) x y
   not_not true x y = refl
   not_not false x y = refl
 
-  -- the flaw is the law that is broken
+  -- the law broken according to the state is the law broken according to the past
   pub flaw_reads : (happening : Event) → flaw_in (table_of past) s happening ≡ broken happening past
   flaw_reads happening =
       grind (

@@ -1,9 +1,9 @@
--- What a happening makes of each part of the state is what the longer past says.
+-- Each part of the state, updated by a happening, is what the past with the happening gives.
 use Rattle.trace_check.proofs.Words.{arith, ◌≡◌, refl, sym, ◌∙◌, ap, ℕ, Bool, true, false, not, ◌&&◌, ◌||◌, cond}
 use Rattle.trace_check.proofs.Words.{List, [], ◌∷◌, ◌++◌, filter, take, Option, Some, None, list_any, option_map}
 use Rattle.trace_check.proofs.Words.{option_map_or, not_from_true, list_any-append, STARTS, Entry, OrderKind, Start}
 use Rattle.trace_check.proofs.Words.{Term, same_id, has_id, entry_of, is_distinct, NewTable, Enter, Call, Power, Asked}
-use Rattle.trace_check.proofs.Words.{Hit, Event, table_of, stage_of, grace_of, time_of, Child, is_of, has_child}
+use Rattle.trace_check.proofs.Words.{Hit, Event, table_of, stage_of, grace_of, time_of, Child, is_child_of, has_child}
 use Rattle.trace_check.proofs.Words.{open_of, unreaped_children, kept_children, is_order, is_asked, is_called}
 use Rattle.trace_check.proofs.Words.{starts_in, untold_hits, start_times, hold_times, same_id-is, same_id-apart}
 use Rattle.trace_check.proofs.Words.{not_from, or_false, and_false, any_within, any_without, table_after, stage_after}
@@ -35,26 +35,31 @@ pub order_step : (happening : Event) (id : List ℕ) (past : List Event)
     → order_after happening id (open_of id past) ≡ open_of id (happening ∷ past)
 order_step happening id past = grind arith
 
--- a Told makes the kept children of its id the unreaped ones
+-- after a Told, the kept children of its id are its unreaped ones
 told_kept : (id i : List ℕ) (unreaped kept : List Child) → cond (same_id id i) (has_child i unreaped)
-    (has_child id kept) ≡ has_child id (filter (is_of i) unreaped ++ filter (λ child. not (is_of i child)) kept)
+    (has_child id kept)
+    ≡ has_child id (filter (is_child_of i) unreaped ++ filter (λ child. not (is_child_of i child)) kept)
 told_kept id i unreaped kept =
-    split (same_id id i) refl ∙ sym (list_any-append (is_of id) (filter (is_of i) unreaped) (filter others kept)) where
+    split (same_id id i) refl
+    ∙ sym (list_any-append (is_child_of id) (filter (is_child_of i) unreaped) (filter others kept)) where
       others : Child → Bool
-      others child = not (is_of i child)
+      others child = not (is_child_of i child)
 
       split : (b : Bool) → same_id id i ≡ b → cond b (has_child i unreaped) (has_child id kept)
-          ≡ (list_any (is_of id) (filter (is_of i) unreaped) || list_any (is_of id) (filter others kept))
+          ≡ (list_any (is_child_of id) (filter (is_child_of i) unreaped)
+          || list_any (is_child_of id) (filter others kept))
       split true same =
           let is : id ≡ i = same_id-is id i same in
           let own : has_child i unreaped
-          ≡ (list_any (is_of i) (filter (is_of i) unreaped) || list_any (is_of i) (filter others kept)) =
+          ≡ (list_any (is_child_of i) (filter (is_child_of i) unreaped)
+          || list_any (is_child_of i) (filter others kept)) =
           sym (or_false (has_child i unreaped)) ∙ ap (λ b. has_child i unreaped || b)
-          (sym (any_without (is_of i) others (λ child here. not_from_true (is_of i child) here) kept))
-          ∙ ap (λ b. b || list_any (is_of i) (filter others kept))
-          (sym (any_within (is_of i) (is_of i) (λ child here. here) unreaped)) in
+          (sym (any_without (is_child_of i) others (λ child here. not_from_true (is_child_of i child) here) kept))
+          ∙ ap (λ b. b || list_any (is_child_of i) (filter others kept))
+          (sym (any_within (is_child_of i) (is_child_of i) (λ child here. here) unreaped)) in
           own
-          ∙ ap (λ x. list_any (is_of x) (filter (is_of i) unreaped) || list_any (is_of x) (filter others kept)) (sym is)
+          ∙ ap (λ x. list_any (is_child_of x) (filter (is_child_of i) unreaped)
+          || list_any (is_child_of x) (filter others kept)) (sym is)
       split false differ = grind (arith, any_within, others, not_from, same_id-apart, any_without)
 
 pub kept_step : (is_alive : List ℕ → Bool) (happening : Event) (id : List ℕ) (past : List Event)
@@ -70,12 +75,12 @@ asked_step (NewTable table) id past =
 asked_step (Asked i Start) id past = refl
 asked_step _ id past = refl
 
--- an entry that is named, or was called before
+-- an entry is called if it is named now or was called before
 named_or : (q r : Entry → Bool) (o : Option Entry)
     → (option_map_or q o false || option_map_or r o false) ≡ option_map_or (λ e. q e || r e) o false
 named_or q r o = grind arith
 
--- a Start of an id ends the call of its entry, where its action doesn't stay called
+-- a Start of an id ends the call of its entry, unless the action stays called
 start_ends : (id i : List ℕ) (r : Entry → Bool) (table : List Entry)
     → ((stays_called_in table id || not (same_id id i)) && option_map_or r (entry_of id table) false)
     ≡ option_map_or (λ e. (stays_called e.act || not (same_id e.id i)) && r e) (entry_of id table) false
@@ -102,7 +107,7 @@ called_step (Call letter) id past distinct = ap (λ b. b || calls_of id past)
 called_step (Asked i Start) id past distinct = start_ends id i (λ e. is_called e past) (table_of past)
 called_step _ id past distinct = refl
 
--- the Hits that are not told, where an id's are forgotten, or one is added
+-- whether a TERM is untold, after the Hits of an id were dropped or kept
 forgotten : (b : Bool) (hits : List (Option OrderKind))
     → (not b && list_any (is_order Term) hits) ≡ list_any (is_order Term) (cond b [] hits)
 forgotten true hits = refl

@@ -1,4 +1,4 @@
--- What is read of lists by id.
+-- What is found by id in a list.
 use Rattle.trace_check.proofs.Words.{arith, ◌≡◌, refl, sym, ℕ, Bool, true, false, not, cond, List, [], ◌∷◌, filter}
 use Rattle.trace_check.proofs.Words.{Option, Some, None, same_id, same_id-is, at}
 
@@ -6,7 +6,7 @@ pub none_both : {X : Type 0} (b : Bool) → cond {A = Option X} b None None ≡ 
 none_both true = refl
 none_both false = refl
 
--- where a test by id keeps some, what is read is what was there, or nothing
+-- after filtering by a test of the ids, an id that passes has the same value, and any other id has none
 pub filtered_at : {X : Type 0} (keep : List ℕ → Bool) (id : List ℕ) (es : List (List ℕ × X))
     → at id (filter (λ p. keep p.0) es) ≡ cond (keep id) (at id es) None
 filtered_at keep id [] = sym (none_both (keep id))

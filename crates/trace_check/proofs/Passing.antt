@@ -1,9 +1,10 @@
--- One happening after another: the state goes on reading the past, and the first breach stays the first.
+-- From one happening to the next: the state still agrees with the past, and the first breach stays the first.
 use Rattle.trace_check.proofs.Words.{◌≡◌, ◌<◌, ◌≤◌, sym, ◌∙◌, ap, subst, ℕ, ◌+◌, true, List, [], ◌∷◌, ◌++◌, length}
 use Rattle.trace_check.proofs.Words.{reverse, take, take_all, drop, get_or, is_some, arith, Some, None, is_distinct}
-use Rattle.trace_check.proofs.Words.{Event, table_of, stage_of, time_of, is_of, unreaped_children, broken, Fault}
+use Rattle.trace_check.proofs.Words.{Event, table_of, stage_of, time_of, is_child_of, unreaped_children, broken, Fault}
 use Rattle.trace_check.proofs.Words.{breach_at, earlier, first_breach, is_lone, JudgeState, at, among, times_at}
-use Rattle.trace_check.proofs.Words.{TakesIn, table_after, stage_after, grace_after, time_after, order_after}
+use Rattle.trace_check.proofs.Words.{StateAfterHappening, table_after, stage_after, grace_after, time_after}
+use Rattle.trace_check.proofs.Words.{order_after}
 use Rattle.trace_check.proofs.Words.{kept_after, asked_after, called_after, sent_after, starts_after, hold_after}
 use Rattle.trace_check.proofs.Words.{term_after, flaw_in, Reads, Judging, Judged}
 use Rattle.std.proofs.lemmas.List.{take_more, reverse-append, length-reverse, length-take-le, take-append-drop}
@@ -17,13 +18,14 @@ pub lawful_parts : (happening : Event) (past : List Event) → first_breach (hap
 lawful_parts happening past lawful = grind arith
 
 pub lone_lawful : (past : List Event) → first_breach past ≡ None → (id : List ℕ)
-    → is_lone (is_of id) (unreaped_children past) ≡ true
+    → is_lone (is_child_of id) (unreaped_children past) ≡ true
 lone_lawful [] lawful id = grind (arith, lawful_parts, lone_step)
 lone_lawful (happening ∷ past) lawful id = grind (arith, lone_lawful past, lawful_parts, lone_step)
 
--- the state reads the longer past
+-- the state agrees with the past with one more happening
 pub reads_after : (happening : Event) (past : List Event) (old new : JudgeState)
-    → TakesIn (table_of past) old new happening → ((id : List ℕ) → is_lone (is_of id) (unreaped_children past) ≡ true)
+    → StateAfterHappening (table_of past) old new happening
+    → ((id : List ℕ) → is_lone (is_child_of id) (unreaped_children past) ≡ true)
     → is_distinct (table_of past) ≡ true → Reads old past → Reads new (happening ∷ past)
 reads_after happening past old new took lone distinct r = record {
   stage = took.stage ∙ ap (stage_after happening) r.stage ∙ stage_step happening past;
@@ -54,31 +56,33 @@ reads_after happening past old new took lone distinct r = record {
       (r.children id) (r.sent id) (r.termed id) (lone id);
 }
 
--- the flaw of a happening by the judge is the law that it breaks
+-- the law that the judge finds is the law that the happening breaks
 pub flaw_is : (happening : Event) (past : List Event) (judge : Judging) → is_distinct judge.table ≡ true
     → Judged judge past → flaw_in judge.table judge.state happening ≡ broken happening past
 flaw_is happening past judge distinct judged = grind (arith, flaw_reads, lone_lawful)
 
--- one more that breaks no law
+-- one more happening that breaks no law was judged
 pub judged_more : (happening : Event) (old new : Judging) → is_distinct old.table ≡ true
-    → flaw_in old.table old.state happening ≡ None → TakesIn old.table old.state new.state happening → new.table
+    → flaw_in old.table old.state happening ≡ None → StateAfterHappening old.table old.state new.state happening
+    → new.table
     ≡ table_after happening old.table → (past : List Event) → Judged old past → Judged new (happening ∷ past)
 judged_more happening old new distinct flawless took after past judged = record {
   lawful = ap (λ o. earlier o (breach_at (length past) (broken happening past))) judged.lawful
       ∙ ap (breach_at (length past)) (sym (flaw_is happening past old distinct judged) ∙ flawless);
   in_force = after ∙ ap (table_after happening) judged.in_force ∙ table_step happening past;
-  reads = reads_after happening past old.state new.state (subst (λ t. TakesIn t old.state new.state happening)
+  reads =
+      reads_after happening past old.state new.state (subst (λ t. StateAfterHappening t old.state new.state happening)
       judged.in_force took) (lone_lawful past judged.lawful)
       (ap is_distinct (sym judged.in_force) ∙ distinct) judged.reads;
 }
 
--- one more happening of a trace is the newest of the past
+-- the next happening of a trace is the newest of the past
 pub one_more : (trace : List Event) (position : ℕ) (happening : Event) → position < length trace → happening
     ≡ get_or trace position happening → reverse (take (position + 1) trace) ≡ happening ∷ reverse (take position trace)
 one_more trace position happening within is = ap reverse (take_more trace position happening within) ∙ reverse-append
     (take position trace) (get_or trace position happening ∷ []) ∙ ap (λ x. x ∷ reverse (take position trace)) (sym is)
 
--- a breach stays the first
+-- the first breach stays the first when happenings are added
 pub kept_breach : (newer older : List Event) (fault : Fault) → first_breach older ≡ Some fault
     → first_breach (newer ++ older) ≡ Some fault
 kept_breach [] older fault is = is
@@ -90,7 +94,7 @@ whole : (trace : List Event) (position : ℕ)
 whole trace position =
     ap reverse (sym (take-append-drop position trace)) ∙ reverse-append (take position trace) (drop position trace)
 
--- the breach of a happening behind a lawful past is the first
+-- a breach after a lawful past is the first
 pub breach_here : (happening : Event) (past : List Event) (law : ℕ) → first_breach past ≡ None → Some law
     ≡ broken happening past → first_breach (happening ∷ past) ≡ Some (record { position = length past; law = law })
 breach_here happening past law lawful broke = ap
@@ -108,7 +112,7 @@ breach_found trace position law happening lawful within is broke =
       here : first_breach (reverse (take (position + 1) trace)) ≡ Some (record { position = position; law = law })
       here = grind (arith, one_more, breach_here, past, length-reverse, length-take-le)
 
--- where all are passed there is no breach
+-- if all happenings have passed, there is no breach
 pub passed_all : (trace : List Event) (position : ℕ) → first_breach (reverse (take position trace)) ≡ None
     → length trace ≤ position → None ≡ first_breach (reverse trace)
 passed_all trace position lawful all =

@@ -1,4 +1,4 @@
--- Traces, the oldest happening first, each with its first breach: `refl` computes them.
+-- Traces, the oldest happening first, each with its first breach, which `refl` computes.
 use Rattle.trace_check.proofs.Words.{◌≡◌, refl, ℕ, List, [], ◌∷◌, ◌++◌, reverse, replicate, codes, Option, Some, None}
 use Rattle.trace_check.proofs.Words.{Entry, Level, Start, Term, Kill, NewTable, Enter, Call, Asked, Hold, Settle, Birth}
 use Rattle.trace_check.proofs.Words.{Hit, Told, Clock, Event, Fault, first_breach}
@@ -25,15 +25,15 @@ first_of trace = first_breach (reverse trace)
 empty_map : first_of [] ≡ None
 empty_map = refl
 
--- a level settled before anything
+-- a level is settled before anything else
 settled_at_once : first_of (Settle level.L3 ∷ []) ≡ breach 0 5
 settled_at_once = refl
 
--- a birth before anything
+-- a birth before anything else
 born_at_once : first_of (Birth (codes "a") 1 ∷ []) ≡ breach 0 2
 born_at_once = refl
 
--- a hold of an entry that the limit does not hold for
+-- a hold of an entry to which the respawn limit does not apply
 once_held : first_of (NewTable (entry (codes "a") level.L3 act.Once ∷ []) ∷ Hold (codes "a") ∷ []) ≡ breach 1 6
 once_held = refl
 
@@ -42,13 +42,13 @@ nobody_killed : first_of
     (NewTable (entry (codes "a") level.L3 act.Respawn ∷ []) ∷ enter level.L3 ∷ Asked (codes "a") Kill ∷ []) ≡ breach 2 7
 nobody_killed = refl
 
--- a birth while an excluded child lives
+-- a birth while an excluded child is unreaped
 started_past_forerunner : first_of (NewTable (entry (codes "a") level.L3 act.Once ∷ entry (codes "b") level.L1 act.Once
     ∷ []) ∷ enter level.L3 ∷ Asked (codes "a") Start ∷ Birth (codes "a") 10 ∷ Told (codes "a") ∷ enter level.L1
     ∷ Asked (codes "b") Start ∷ Birth (codes "b") 11 ∷ []) ≡ breach 7 4
 started_past_forerunner = refl
 
--- a second child of an id, which starts in no stage, while an excluded one lives: the least law
+-- a second child of an id, which does not start in the stage, while an excluded child is unreaped: the smallest law
 second_child : first_of (NewTable (entry (codes "a") level.L3 act.Respawn ∷ []) ∷ enter level.L3 ∷ Birth (codes "a") 1
     ∷ enter level.L1 ∷ Birth (codes "a") 2 ∷ []) ≡ breach 4 1
 second_child = refl
@@ -58,11 +58,11 @@ out_of_turn : first_of (NewTable (entry (codes "w") level.L3 act.Wait ∷ entry 
     ∷ enter level.L3 ∷ Birth (codes "r") 1 ∷ []) ≡ breach 2 3
 out_of_turn = refl
 
--- of two breaches the first
+-- the first of two breaches
 first_of_two : first_of (Settle level.L3 ∷ Birth (codes "a") 1 ∷ []) ≡ breach 0 5
 first_of_two = refl
 
--- a KILL before the grace is over
+-- a KILL before the grace period is over
 killed_early : first_of
     (NewTable (entry (codes "a") level.L3 act.Respawn ∷ []) ∷ enter level.L3 ∷ Birth (codes "a") 1 ∷ enter level.L1
     ∷ Asked (codes "a") Term ∷ Hit (codes "a") ∷ Told (codes "a") ∷ Clock 4 ∷ Asked (codes "a") Kill ∷ []) ≡ breach 8 7
@@ -74,23 +74,23 @@ killed_after_a_return : first_of (NewTable (entry (codes "a") level.L3 act.Respa
     ∷ enter level.L3 ∷ enter level.L1 ∷ Clock 5 ∷ Asked (codes "a") Kill ∷ []) ≡ breach 10 7
 killed_after_a_return = refl
 
--- and one after the grace
+-- a KILL after the grace period
 killed_in_time : first_of
     (NewTable (entry (codes "a") level.L3 act.Respawn ∷ []) ∷ enter level.L3 ∷ Birth (codes "a") 1 ∷ enter level.L1
     ∷ Asked (codes "a") Term ∷ Hit (codes "a") ∷ Told (codes "a") ∷ Clock 5 ∷ Asked (codes "a") Kill ∷ []) ≡ None
 killed_in_time = refl
 
--- the eleventh start at once
+-- eleven starts at once
 eleventh_start : first_of (NewTable (entry (codes "r") level.S act.Respawn ∷ []) ∷ enter level.S
     ∷ replicate 11 (Asked (codes "r") Start)) ≡ breach 12 6
 eleventh_start = refl
 
--- and two minutes after the first
+-- the eleventh start two minutes after the first
 eleventh_later : first_of (NewTable (entry (codes "r") level.S act.Respawn ∷ []) ∷ enter level.S
     ∷ replicate 10 (Asked (codes "r") Start) ++ Clock 120 ∷ Asked (codes "r") Start ∷ []) ≡ None
 eleventh_later = refl
 
--- an entry that a letter called is held to the same limit, and another call lifts no hold
+-- an entry that a letter called is subject to the same limit, and another call does not end the hold
 abbrev on_call : Entry
 on_call = record {
   id = codes "d";

@@ -1,4 +1,4 @@
--- One more entry of a table that is walked.
+-- One more entry in a walk over a table.
 use Rattle.trace_check.proofs.Words.{◌≡◌, refl, sym, ◌∙◌, ap, ℕ, ◌+◌, Bool, true, false, not, ◌&&◌, ◌||◌, cond, List}
 use Rattle.trace_check.proofs.Words.{[], ◌∷◌, take, drop, slice_get, find, Some, None, list_any, list_any_more}
 use Rattle.trace_check.proofs.Words.{slice_get_within, get_or_from_slice_get, Entry, same_id, entries_before}
@@ -19,7 +19,7 @@ and_turn true true c = refl
 and_turn true false c = refl
 and_turn false b c = refl
 
--- one more is added where the test holds
+-- one more entry, which is added if the test holds
 pub one_added : {X : Type 0} (has test : X → Bool) (xs : List X) (i : ℕ) (x : X) (flag was now first : Bool)
     → slice_get xs i ≡ Some x → flag ≡ test x → now ≡ (has x && flag || was) → was ≡ (list_any (λ y. has y && test y)
     (take i xs) || first) → now ≡ (list_any (λ y. has y && test y) (take (i + 1) xs) || first)
@@ -28,7 +28,7 @@ one_added has test xs i x flag was now first is tested step so_far =
     ∙ or_turn (list_any (λ y. has y && test y) (take i xs)) (has x && test x) first
     ∙ ap (λ b. b || first) (sym (any_taken (λ y. has y && test y) xs i x is))
 
--- one more is taken away where the test holds
+-- one more entry, which is removed if the test holds
 pub one_dropped : {X : Type 0} (has test : X → Bool) (xs : List X) (i : ℕ) (x : X) (flag was now first : Bool)
     → slice_get xs i ≡ Some x → flag ≡ test x → now ≡ (not (has x && flag) && was) → was ≡ (not (list_any (λ y. has y
     && test y) (take i xs)) && first) → now ≡ (not (list_any (λ y. has y && test y) (take (i + 1) xs)) && first)
@@ -37,7 +37,7 @@ one_dropped has test xs i x flag was now first is tested step so_far =
     ∙ and_turn (list_any (λ y. has y && test y) (take i xs)) (has x && test x) first
     ∙ ap (λ b. not b && first) (sym (any_taken (λ y. has y && test y) xs i x is))
 
--- the first that passes before an id's entry: the walk goes on, comes to the id, or finds it
+-- one step of a search before an id's entry: it continues, reaches the id, or finds the entry
 first_step : (p : Entry → Bool) (id : List ℕ) (es : List Entry) (i : ℕ) (e : Entry) → slice_get es i ≡ Some e → find p
     (entries_before id (drop i es)) ≡ find p (cond (same_id id e.id) [] (e ∷ entries_before id (drop (i + 1) es)))
 first_step p id es i e is = ap (λ xs. find p (entries_before id xs)) (drop-slice_get es i e is)

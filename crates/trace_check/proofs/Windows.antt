@@ -1,4 +1,5 @@
--- The last ten starts and the last hold tell all that the limit asks of the past, since the time never falls.
+-- The last ten starts and the last hold are all that the respawn limit needs from the past, because the time never
+-- decreases.
 use Rattle.trace_check.proofs.Words.{◌≡◌, ◌≤◌, ◌+◌, ◌-◌, refl, sym, ◌∙◌, ap, ℕ, Bool, true, false, cond, max, min}
 use Rattle.trace_check.proofs.Words.{nat_lt, nat_le, List, [], ◌∷◌, take, filter, length, slice_get, suc, zero, arith}
 use Rattle.trace_check.proofs.Words.{le_refl, list_any, option_map_or, ltb-true, lt-ltb, or_left, nat_tests, HOLD}
@@ -19,7 +20,7 @@ holds_fall id (Clock reading ∷ past) = falls_below (time_of past) (max (min re
     (hold_times id past) (omega arith) (holds_fall id past)
 holds_fall id (_ ∷ past) = holds_fall id past
 
--- behind an old one all are old
+-- all times after an old one are old
 none_young : (now a : ℕ) (ts : List ℕ) → is_young now a ≡ false → Falling a ts → filter (is_young now) ts ≡ []
 none_young now a [] old falls = grind arith
 none_young now a (t ∷ ts) old falls = grind (arith, none_young now t ts)
@@ -39,7 +40,7 @@ le_zero a = grind (arith, nat_tests)
 le_one : (b : ℕ) → nat_le 1 (suc b) ≡ true
 le_one b = grind (arith, nat_tests)
 
--- of falling times more than n are young exactly where that at n is
+-- more than n of decreasing times are young exactly if the one at position n is
 pub many_young : (now bound n : ℕ) (ts : List ℕ) → Falling bound ts
     → nat_le (suc n) (length (filter (is_young now) ts)) ≡ option_map_or (is_young now) (slice_get ts n) false
 many_young now bound n [] falls = le_zero n
@@ -58,13 +59,13 @@ taken_at n [] = refl
 taken_at zero (t ∷ ts) = refl
 taken_at (suc n) (t ∷ ts) = taken_at n ts
 
--- the window is full exactly where the tenth last start is young
+-- the window is full exactly if the tenth-last start is young
 pub full_by_last : (id : List ℕ) (past : List Event) → option_map_or (λ started. nat_lt (time_of past - started) WINDOW)
     (slice_get (take STARTS (start_times id past)) (STARTS - 1)) false ≡ is_full id past
 full_by_last id past = ap (λ o. option_map_or (is_young (time_of past)) o false) (taken_at 9 (start_times id past))
     ∙ sym (many_young (time_of past) (time_of past) 9 (start_times id past) (starts_fall id past))
 
--- a hold is in force exactly where the last one is
+-- some hold is in force exactly if the last one is
 in_force : (now began : ℕ) → nat_lt (now - began) HOLD ≡ nat_lt now (began + HOLD)
 in_force now began = grind (arith, nat_tests)
 

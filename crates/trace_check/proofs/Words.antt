@@ -1,4 +1,4 @@
--- The words of the proofs of this crate.
+-- Names that the proofs of this crate share.
 pub use Rattle.std.proofs.Common.{◌≡◌, refl, sym, ◌∙◌, ap, ℕ, Bool, true, false, not, ◌&&◌, ◌==◌, cond, List, [], ◌∷◌}
 pub use Rattle.std.proofs.Common.{◌++◌, map, Option, Some, None, is_none, is_some, arith, ◌||◌, find, ◌-◌, nat_lt}
 pub use Rattle.std.proofs.Common.{slice_get, take, filter, subst, ◌<◌, ◌≤◌, ◌+◌, length, reverse, take_all, drop}
@@ -12,12 +12,13 @@ pub use Rattle.trace_events.specs.declared.happenings.Happening.TheVariants.{New
 pub use Rattle.trace_events.specs.declared.happenings.Happening.TheVariants.{Nudge, Settle, Call, Power, Asked, Hit}
 pub use Rattle.trace_events.specs.declared.happenings.Happening.TheVariants.{Hold, Clock}
 pub use Rattle.trace_events.specs.Event.{Event}
-pub use Rattle.trace_events.specs.Past.{table_of, stage_of, time_of, Child, is_of, is_child, has_child, newborn}
+pub use Rattle.trace_events.specs.Past.{table_of, stage_of, time_of, Child, is_child_of, is_child, has_child, newborn}
 pub use Rattle.trace_events.specs.Past.{unreaped_children, grace_of, open_of, kept_children}
 pub use Rattle.trace_events.specs.Wanted.{is_excluded, may_live, starts_in, entries_before, is_called, is_wanted}
 pub use Rattle.trace_events.specs.Wanted.{is_owed, is_order, is_asked}
-pub use Rattle.trace_events.specs.Spells.{Signal, untold_hits, spell_hits, told_at, is_ripe}
-pub use Rattle.trace_events.specs.Lawful.{broken, is_placed, is_in_turn, is_limited_id, is_free, is_due_hold, may_term}
+pub use Rattle.trace_events.specs.Spells.{Signal, untold_hits, spell_hits, told_at, is_grace_over}
+pub use Rattle.trace_events.specs.Lawful.{broken, has_startable_entry, is_in_turn, is_limited_id, is_free, is_due_hold}
+pub use Rattle.trace_events.specs.Lawful.{may_term}
 pub use Rattle.trace_events.specs.Lawful.{may_kill, Fault, breach_at, earlier, first_breach}
 pub use Rattle.init_words.proofs.Same.{same_id-is, same_id-self, same_id-sym, same_id-apart}
 pub use Rattle.init_words.proofs.Tests.{not_from, and_true, and_false, any_less, falsely, or_none, same_tests, any_same}
@@ -25,7 +26,8 @@ pub use Rattle.init_words.proofs.Tests.{Passing, passing, found_any, and_three, 
 pub use Rattle.init_words.proofs.Tests.{find_none, or_either, or_true}
 pub use Rattle.trace_laws.proofs.Lone.{is_lone, lone_filter, lone_any, none_filtered}
 pub use Rattle.trace_check.specs.declared.children.UnreapedChild.{UnreapedChild}
-pub use Rattle.trace_check.specs.After.{is_numbered, child_after, spares, excludes, earliest, term_after, TakesIn}
+pub use Rattle.trace_check.specs.After.{is_numbered, child_after, child_may_live, is_child_excluded, earliest}
+pub use Rattle.trace_check.specs.After.{term_after, StateAfterHappening}
 pub use Rattle.trace_check.specs.After.{table_after, stage_after, grace_after, time_after, order_after, kept_after}
 pub use Rattle.trace_check.specs.After.{is_changed, asked_after, is_named, stays_called_in, called_after, sent_after}
 pub use Rattle.trace_check.specs.After.{starts_after, hold_after}
@@ -38,8 +40,9 @@ pub use Rattle.std.proofs.lemmas.Map.Made.{is_some-lookup, filter_same_pairs}
 pub use Rattle.init_words.specs.declared.levels.Level.{Level}
 pub use Rattle.trace_events.specs.Wishes.{is_level}
 pub use Rattle.trace_check.specs.State.{JudgeState, at, among, times_at}
-pub use Rattle.trace_check.specs.Flaws.{is_alive, is_excluded_in, none_excluded_in, IsCalm, calm_after, is_placed_in}
-pub use Rattle.trace_check.specs.Flaws.{IsUnowed, is_over_with, unowed_after, is_in_turn_in, is_served_in}
+pub use Rattle.trace_check.specs.Flaws.{is_alive, is_excluded_in, none_excluded_in, NoneExcludedIfCalm, calm_after}
+pub use Rattle.trace_check.specs.Flaws.{is_placed_in}
+pub use Rattle.trace_check.specs.Flaws.{IsUnowedPrefix, is_over_with, unowed_count_after, is_in_turn_in, is_served_in}
 pub use Rattle.trace_check.specs.Flaws.{is_settled_in, flaw_in, is_wanted_in, is_owed_in}
 pub use Rattle.trace_check.specs.Flaws.{is_held_in, is_full_in, is_free_in, is_due_hold_in, is_over_in, may_kill_in}
 pub use Rattle.respawn_limit.specs.declared.TheConstants.{HOLD, STARTS, WINDOW, CLOCK_LIMIT}

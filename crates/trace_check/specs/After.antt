@@ -1,4 +1,4 @@
--- What a happening makes of each part of the state, at each id by what was there before.
+-- How a happening changes each part of the checker's state: for each id, the value after it by the value before it.
 use Rattle.std.specs.Prelude.{◌≡◌, is_some, ℕ, Bool, false, not, ◌&&◌, ◌||◌, ◌-◌, ◌==◌, if◌then◌else◌, max, min, List}
 use Rattle.std.specs.Prelude.{[], ◌∷◌, take, Option, Some, None}
 use Rattle.std.specs.Option.{option_map_or}
@@ -10,18 +10,22 @@ use Rattle.trace_check.specs.Words.{is_order, same_acts, may_live}
 use Rattle.trace_check.specs.declared.children.UnreapedChild.{UnreapedChild}
 use Rattle.trace_check.specs.State.{JudgeState, at, among, times_at}
 
+-- the table in force
 abbrev pub table_after : Event → List Entry → List Entry
 table_after (NewTable next) table = next
 table_after _ table = table
 
+-- the stage in force
 abbrev pub stage_after : Event → Option Stage → Option Stage
 stage_after (Enter next grace) stage = Some next
 stage_after _ stage = stage
 
+-- the seconds between SIGTERM and SIGKILL
 abbrev pub grace_after : Event → ℕ → ℕ
 grace_after (Enter stage next) grace = next
 grace_after _ grace = grace
 
+-- the time
 abbrev pub time_after : Event → ℕ → ℕ
 time_after (Clock reading) time = max (min reading CLOCK_LIMIT) time
 time_after _ time = time
@@ -32,17 +36,17 @@ order_after (Asked i ask) id before = if same_id id i then Some ask else before
 order_after (Told i) id before = if same_id id i then None else before
 order_after _ id before = before
 
--- an id has a kept child, where `is_alive` says which have an unreaped one
+-- an id has a kept child, where `is_alive` says which ids had an unreaped one
 abbrev pub kept_after : (List ℕ → Bool) → Event → List ℕ → Bool → Bool
 kept_after is_alive (Birth i n) id before = same_id id i || before
 kept_after is_alive (Told i) id before = if same_id id i then is_alive i else before
 kept_after is_alive _ id before = before
 
--- an id has another action in a table than in the one before, or none in one of them
+-- an id has different actions in the two tables, or none in one of them
 abbrev pub is_changed : List ℕ → List Entry → List Entry → Bool
 is_changed id table before = not (same_acts (act_of id table) (act_of id before))
 
--- a Start of an id was asked since its entry's beginning
+-- a Start of an id was ordered since the last Enter and since the last table that brought the id
 abbrev pub asked_after : List Entry → Event → List ℕ → Bool → Bool
 asked_after table (Enter stage grace) id before = false
 asked_after table (NewTable next) id before =
@@ -50,13 +54,13 @@ asked_after table (NewTable next) id before =
 asked_after table (Asked i Start) id before = same_id id i || before
 asked_after table _ id before = before
 
--- news of the power or a letter names an entry
+-- a power event or a letter names an entry
 abbrev pub is_named : Event → Entry → Bool
 is_named (Power kind) e = is_called_by kind e.act
 is_named (Call letter) e = is_ondemand e.act && names (OnCall letter) e.levels.items
 is_named _ e = false
 
--- an entry of the id is called where it starts
+-- an entry of the id is named, and starts in the stage
 abbrev pub is_named_at : List Entry → Option Stage → Event → List ℕ → Bool
 is_named_at table stage happening id = list_any (λ e. has_id id e && (is_named happening e && starts_in e stage)) table
 
@@ -73,7 +77,7 @@ called_after table stage (Call letter) id before = is_named_at table stage (Call
 called_after table stage (Asked i Start) id before = (stays_called_in table id || not (same_id id i)) && before
 called_after table stage _ id before = before
 
--- a TERM of the id was sent and is not told, where `open_order` says the open order of each
+-- a TERM of the id was sent and has not been told, where `open_order` gives the open order of each id
 abbrev pub sent_after : (List ℕ → Option OrderKind) → Event → List ℕ → Bool → Bool
 sent_after open_order (Birth i n) id before = not (same_id id i) && before
 sent_after open_order (Told i) id before = not (same_id id i) && before
@@ -98,7 +102,7 @@ hold_after time _ id before = before
 abbrev pub is_numbered : ℕ → Option UnreapedChild → Bool
 is_numbered number child = option_map_or (λ living. number == living.number) child false
 
--- the unreaped child of an id, where `child` says that of each before
+-- the unreaped child of an id, where `child` gives that of each id before the happening
 abbrev pub child_after : List Entry → (List ℕ → Option UnreapedChild) → Event → List ℕ → Option UnreapedChild
 child_after table child (Birth i n) id =
     if same_id id i then Some (record { number = n; act = act_of i table }) else child id
@@ -106,37 +110,39 @@ child_after table child (Reaped i n status) id =
     if same_id id i && is_numbered n (child i) then None else child id
 child_after table child _ id = child id
 
--- the child of an id may live by the table and in the stage
-abbrev pub spares : List Entry → Option Stage → (List ℕ → Option UnreapedChild) → List ℕ → Bool
-spares table stage child id =
+-- the child of an id may live in the stage under the table
+abbrev pub child_may_live : List Entry → Option Stage → (List ℕ → Option UnreapedChild) → List ℕ → Bool
+child_may_live table stage child id =
     option_map_or (λ living. may_live (entry_of id table) living.act stage) (child id) false
 
 -- the child of an id is excluded
-abbrev pub excludes : List Entry → Option Stage → (List ℕ → Option UnreapedChild) → List ℕ → Bool
-excludes table stage child id =
+abbrev pub is_child_excluded : List Entry → Option Stage → (List ℕ → Option UnreapedChild) → List ℕ → Bool
+is_child_excluded table stage child id =
     option_map_or (λ living. not (may_live (entry_of id table) living.act stage)) (child id) false
 
--- the earlier of a time and another, where there is another
+-- the earlier of two times, or the one that there is
 abbrev pub earliest : ℕ → Option ℕ → ℕ
 earliest time None = time
 earliest time (Some other) = min time other
 
--- when the first TERM of the spell of an id's child was told, where `child`, `is_sent` and `term` say what was before
+-- the time at which the first TERM in the spell of an id's child was told, where `child`, `is_sent` and `term` give the
+-- values before the happening
 abbrev pub term_after : List Entry → Option Stage → ℕ → (List ℕ → Option UnreapedChild) → (List ℕ → Bool)
     → (List ℕ → Option ℕ) → Event → List ℕ → Option ℕ
 term_after table stage time child is_sent term (Birth i n) id = if same_id id i then None else term id
 term_after table stage time child is_sent term (Reaped i n status) id =
     if same_id id i && is_numbered n (child i) then None else term id
 term_after table stage time child is_sent term (Told i) id =
-    if same_id id i && (is_sent i && excludes table stage child i) then Some (earliest time (term i)) else term id
+    if same_id id i && (is_sent i && is_child_excluded table stage child i) then Some (earliest time (term i))
+    else term id
 term_after table stage time child is_sent term (NewTable next) id =
-    if spares next stage child id then None else term id
+    if child_may_live next stage child id then None else term id
 term_after table stage time child is_sent term (Enter next grace) id =
-    if spares table (Some next) child id then None else term id
+    if child_may_live table (Some next) child id then None else term id
 term_after table stage time child is_sent term _ id = term id
 
--- the state took the happening in, where the table was in force before it
-pub record TakesIn (table : List Entry) (old new : JudgeState) (happening : Event) : Type 0 where
+-- the state was updated by the happening, given the table in force before it
+pub record StateAfterHappening (table : List Entry) (old new : JudgeState) (happening : Event) : Type 0 where
   pub stage : new.stage ≡ stage_after happening old.stage
   pub grace : new.grace ≡ grace_after happening old.grace
   pub time : new.time ≡ time_after happening old.time

@@ -1,4 +1,5 @@
--- The law that a happening breaks, by the state and the table.
+-- The law that a happening breaks, according to the state and the table. Each definition is that of `trace_events`,
+-- read off the state instead of the past.
 use Rattle.std.specs.Prelude.{◌≡◌, IsTrue, ℕ, Bool, true, false, not, ◌&&◌, ◌||◌, ◌-◌, if◌then◌else◌, nat_lt, nat_le}
 use Rattle.std.specs.Prelude.{List, slice_get, take, find, Option, Some, None, is_none, is_some}
 use Rattle.std.specs.Map.{keys_of}
@@ -11,24 +12,26 @@ use Rattle.init_words.specs.declared.levels.Level.{Level}
 use Rattle.init_words.specs.Entries.{waited_of}
 use Rattle.trace_events.specs.Wishes.{is_level}
 use Rattle.trace_check.specs.State.{JudgeState, at, among, times_at}
-use Rattle.trace_check.specs.After.{excludes}
+use Rattle.trace_check.specs.After.{is_child_excluded}
 
--- an unreaped child has the id
+-- the id has an unreaped child
 abbrev pub is_alive : JudgeState → List ℕ → Bool
 is_alive s id = is_some (at id s.children)
 
 -- the child of an id is excluded
 abbrev pub is_excluded_in : List Entry → JudgeState → List ℕ → Bool
-is_excluded_in table s id = excludes table s.stage (λ i. at i s.children) id
+is_excluded_in table s id = is_child_excluded table s.stage (λ i. at i s.children) id
 
+-- no child is excluded
 abbrev pub none_excluded_in : List Entry → JudgeState → Bool
 none_excluded_in table s = not (list_any (is_excluded_in table s) (keys_of s.children))
 
--- where it is known to be calm, no child is excluded
-abbrev pub IsCalm : Bool → List Entry → JudgeState → Type 0
-IsCalm calm table s = IsTrue calm → (id : List ℕ) → is_excluded_in table s id ≡ false
+-- if `calm` is true, no child is excluded
+abbrev pub NoneExcludedIfCalm : Bool → List Entry → JudgeState → Type 0
+NoneExcludedIfCalm calm table s = IsTrue calm → (id : List ℕ) → is_excluded_in table s id ≡ false
 
--- it is so after a birth or a settled level that breaks no law, until a stage or a table excludes children
+-- `calm` after a happening that breaks no law: a birth and a settled level are lawful only if no child is excluded, and
+-- a new stage or table may exclude one
 abbrev pub calm_after : Event → Bool → Bool
 calm_after (Birth id number) calm = true
 calm_after (Settle level) calm = true
@@ -36,9 +39,11 @@ calm_after (Enter stage grace) calm = false
 calm_after (NewTable table) calm = false
 calm_after _ calm = calm
 
+-- the id has an entry that starts in the stage
 abbrev pub is_placed_in : List Entry → JudgeState → List ℕ → Bool
 is_placed_in table s id = option_map_or (λ e. starts_in e s.stage) (entry_of id table) false
 
+-- a Start of the id is open
 abbrev pub is_starting : JudgeState → List ℕ → Bool
 is_starting s id = is_order Start (at id s.orders)
 
@@ -51,50 +56,55 @@ is_wanted_in s e =
 abbrev pub is_owed_in : JudgeState → Entry → Bool
 is_owed_in s e = waited_of e && (among e.id s.kept || is_starting s e.id || is_wanted_in s e)
 
--- the first entry before the id's that is owed
+-- the first owed entry before that of the id
 abbrev pub first_owed_in : List Entry → JudgeState → List ℕ → Option Entry
 first_owed_in table s id = find (is_owed_in s) (entries_before id table)
 
+-- no entry before that of the id is owed
 abbrev pub is_in_turn_in : List Entry → JudgeState → List ℕ → Bool
 is_in_turn_in table s id = is_none (first_owed_in table s id)
 
--- so many entries at the front of the table aren't owed
-abbrev pub IsUnowed : ℕ → List Entry → JudgeState → Type 0
-IsUnowed count table s = list_any (is_owed_in s) (take count table) ≡ false
+-- none of the first `count` entries of the table is owed
+abbrev pub IsUnowedPrefix : ℕ → List Entry → JudgeState → Type 0
+IsUnowedPrefix count table s = list_any (is_owed_in s) (take count table) ≡ false
 
--- init waits for the entry of an id in its stage, and is over with it
+-- init waits for the entry of an id, and the entry is not owed
 abbrev pub is_over_with : List Entry → JudgeState → List ℕ → Bool
 is_over_with table s id = option_map_or (λ e. waited_of e && not (is_owed_in s e)) (entry_of id table) false
 
--- a stage, a table and a call may make any entry owed, and what happens to an id its own
-abbrev pub unowed_after : List Entry → JudgeState → Event → ℕ → ℕ
-unowed_after table s (Enter stage grace) count = 0
-unowed_after table s (NewTable next) count = 0
-unowed_after table s (Power kind) count = 0
-unowed_after table s (Call letter) count = 0
-unowed_after table s (Asked id ask) count = if not (is_over_with table s id) then count else 0
-unowed_after table s (Birth id number) count = if not (is_over_with table s id) then count else 0
-unowed_after table s (Told id) count = if not (is_over_with table s id) then count else 0
-unowed_after table s _ count = count
+-- the number of first entries known not to be owed: a stage, a table or a call may make any entry owed, and a happening
+-- of an id its own entry, if init waits for it and it was not owed
+abbrev pub unowed_count_after : List Entry → JudgeState → Event → ℕ → ℕ
+unowed_count_after table s (Enter stage grace) count = 0
+unowed_count_after table s (NewTable next) count = 0
+unowed_count_after table s (Power kind) count = 0
+unowed_count_after table s (Call letter) count = 0
+unowed_count_after table s (Asked id ask) count = if not (is_over_with table s id) then count else 0
+unowed_count_after table s (Birth id number) count = if not (is_over_with table s id) then count else 0
+unowed_count_after table s (Told id) count = if not (is_over_with table s id) then count else 0
+unowed_count_after table s _ count = count
 
--- the respawn limit
+-- the id is held: its last hold began less than five minutes ago
 abbrev pub is_held_in : JudgeState → List ℕ → Bool
 is_held_in s id = option_map_or (λ began. nat_lt (s.time - began) HOLD) (at id s.holds) false
 
+-- the window of the id is full: its tenth-last start is less than two minutes old
 abbrev pub is_full_in : JudgeState → List ℕ → Bool
 is_full_in s id =
     option_map_or (λ started. nat_lt (s.time - started) WINDOW) (slice_get (times_at id s.starts) (STARTS - 1)) false
 
+-- the respawn limit applies to the entry of the id
 abbrev pub is_limited_in : List Entry → List ℕ → Bool
 is_limited_in table id = option_map_or is_limited (act_of id table) false
 
+-- a start of the id keeps the respawn limit
 abbrev pub is_free_in : List Entry → JudgeState → List ℕ → Bool
 is_free_in table s id = not (is_limited_in table id) || not (is_held_in s id) && not (is_full_in s id)
 
+-- a hold of the id keeps the respawn limit
 abbrev pub is_due_hold_in : List Entry → JudgeState → List ℕ → Bool
 is_due_hold_in table s id = is_limited_in table id && not (is_held_in s id) && is_full_in s id
 
--- a level is settled
 abbrev pub is_served_in : Level → JudgeState → Entry → Bool
 is_served_in level s e =
     not (is_owed_in s e)
@@ -105,21 +115,22 @@ abbrev pub is_settled_in : Level → List Entry → JudgeState → Bool
 is_settled_in level table s =
     is_level level s.stage && none_excluded_in table s && list_all (is_served_in level s) table
 
--- the grace since the first TERM is over
+-- the grace period has passed since the first TERM of the spell was told
 abbrev pub is_over_in : JudgeState → List ℕ → Bool
 is_over_in s id =
     option_map_or (λ told. nat_le told s.time && nat_le s.grace (s.time - told)) (at id s.termed) false
 
+-- a KILL of the child of the id is due
 abbrev pub may_kill_in : List Entry → JudgeState → List ℕ → Bool
 may_kill_in table s id = is_excluded_in table s id && is_over_in s id
 
--- the least law that a birth breaks
+-- the law with the smallest number that a birth breaks
 abbrev pub flaw_of_birth : List Entry → JudgeState → List ℕ → Option ℕ
 flaw_of_birth table s id =
     if is_alive s id then Some 1 else if not (is_placed_in table s id) then Some 2
     else if not (is_in_turn_in table s id) then Some 3 else if not (none_excluded_in table s) then Some 4 else None
 
--- the least law that the happening breaks
+-- the law with the smallest number that the happening breaks
 abbrev pub flaw_in : List Entry → JudgeState → Event → Option ℕ
 flaw_in table s (Birth id number) = flaw_of_birth table s id
 flaw_in table s (Settle level) = if not (is_settled_in level table s) then Some 5 else None

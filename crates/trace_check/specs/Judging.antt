@@ -1,11 +1,11 @@
--- A judge of traces: what it keeps, and which traces it has judged.
+-- The state of a judge of traces, and which traces it has judged.
 use Rattle.std.specs.Prelude.{◌≡◌, List, [], ◌∷◌, Option, Some, None}
 use Rattle.trace_check.specs.Words.{Entry, Event, table_of, first_breach}
 use Rattle.trace_check.specs.declared.laws.Law.{Law}
 use Rattle.trace_check.specs.State.{JudgeState, opening}
 use Rattle.trace_check.specs.Reading.{Reads}
 
--- the table in force, and what else the laws ask of the past
+-- the table in force, and everything else that the laws depend on
 pub record Judging : Type 0 where
   pub table : List Entry
   pub state : JudgeState
@@ -14,13 +14,14 @@ pub record Judging : Type 0 where
 abbrev pub unjudged : Judging
 unjudged = record { table = []; state = opening }
 
--- the judge has taken this past, the newest happening first, which breaks no law
+-- the judge has taken these happenings, the newest first, none of which breaks a law
 pub record Judged (judge : Judging) (past : List Event) : Type 0 where
   pub lawful : first_breach past ≡ None
   pub in_force : judge.table ≡ table_of past
   pub reads : Reads judge.state past
 
--- what a judge is after a happening that breaks no law, and one that breaks this law: it takes no such
-abbrev pub TakesNext : Option Law → Judging → Judging → Event → Type 0
-TakesNext None old new happening = (past : List Event) → Judged old past → Judged new (happening ∷ past)
-TakesNext (Some law) old new happening = new ≡ old
+-- the judge after a happening: if it breaks no law, the happening is added to what was judged; if it breaks this law,
+-- the judge is unchanged
+abbrev pub JudgeAfterHappening : Option Law → Judging → Judging → Event → Type 0
+JudgeAfterHappening None old new happening = (past : List Event) → Judged old past → Judged new (happening ∷ past)
+JudgeAfterHappening (Some law) old new happening = new ≡ old

@@ -1,4 +1,4 @@
--- The seven laws: their numbers, and what breaks each in words.
+-- The seven laws: their numbers, and the message for a breach of each.
 use Rattle.std.specs.Prelude.{ℕ, List, codes}
 use Rattle.trace_check.specs.declared.laws.Law.{Law}
 use Rattle.trace_check.specs.declared.laws.Law.TheVariants.{SecondChild, OutOfStage, OutOfTurn, BesideExcluded}
@@ -19,5 +19,5 @@ law_words OutOfStage = codes "the id has no entry that starts in the stage"
 law_words OutOfTurn = codes "init waits for an earlier entry"
 law_words BesideExcluded = codes "an excluded child is unreaped"
 law_words NotSettled = codes "the level is not settled"
-law_words RespawnLimit = codes "the respawn limit is not kept"
+law_words RespawnLimit = codes "the respawn limit is violated"
 law_words SignalNotDue = codes "the signal is not due"

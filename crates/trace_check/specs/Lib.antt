@@ -5,4 +5,5 @@ pub mod Judging
 pub mod Laws
 pub mod Reading
 pub mod State
+pub mod Verdicts
 pub mod Words

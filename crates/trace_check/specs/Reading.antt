@@ -1,8 +1,9 @@
--- The state says what the past says, an equation a definition.
+-- The state agrees with the past: one equation for each of its parts.
 use Rattle.std.specs.Prelude.{◌≡◌, ℕ, Bool, false, List, [], ◌∷◌, take, if◌then◌else◌, find, Option, Some, None}
 use Rattle.std.specs.List.{list_any}
 use Rattle.std.specs.Option.{option_map, option_map_or}
-use Rattle.trace_check.specs.Words.{STARTS, Term, entry_of, Event, table_of, stage_of, grace_of, time_of, Child, is_of}
+use Rattle.trace_check.specs.Words.{STARTS, Term, entry_of, Event, table_of, stage_of, grace_of, time_of, Child}
+use Rattle.trace_check.specs.Words.{is_child_of}
 use Rattle.trace_check.specs.Words.{has_child, open_of, unreaped_children, kept_children, is_order, is_asked, is_called}
 use Rattle.trace_check.specs.Words.{start_times, hold_times}
 use Rattle.trace_events.specs.Spells.{Signal, untold_hits, spell_hits}
@@ -10,39 +11,39 @@ use Rattle.trace_check.specs.declared.children.UnreapedChild.{UnreapedChild}
 use Rattle.trace_check.specs.State.{JudgeState, at, among, times_at}
 use Rattle.trace_check.specs.After.{earliest}
 
--- the entry of the id, if it has one, is called
+-- the id has an entry, and the entry is called
 abbrev pub calls_of : List ℕ → List Event → Bool
 calls_of id past = option_map_or (λ e. is_called e past) (entry_of id (table_of past)) false
 
--- a TERM of the id was sent and is not told
+-- a TERM of the id was sent and has not been told
 abbrev pub has_sent : List ℕ → List Event → Bool
 has_sent id past = list_any (is_order Term) (untold_hits id past)
 
 -- the youngest unreaped child of an id
 abbrev pub child_of : List ℕ → List Event → Option Child
-child_of id past = find (is_of id) (unreaped_children past)
+child_of id past = find (is_child_of id) (unreaped_children past)
 
--- the first of a list
+-- the first element of a list
 abbrev pub newest : List ℕ → Option ℕ
 newest [] = None
 newest (time ∷ times) = Some time
 
--- a child as the state keeps it
+-- a child in the form in which the state keeps it
 abbrev pub living_of : Child → UnreapedChild
 living_of child = record { number = child.number; act = child.act }
 
--- the least time of a TERM among the signals
+-- the earliest time of a TERM among the signals
 abbrev pub least_term : List Signal → Option ℕ
 least_term [] = None
 least_term (signal ∷ signals) =
     if is_order Term signal.order then Some (earliest signal.time (least_term signals)) else least_term signals
 
--- the least time of a TERM in the spell of the child, where there is one
+-- the earliest time of a TERM in the spell of the child, if there is a child
 abbrev pub term_of : List Event → Option Child → Option ℕ
 term_of past None = None
 term_of past (Some child) = least_term (spell_hits child past)
 
--- the state recalls the past
+-- each part of the state has the value that the past gives it
 pub record Reads (s : JudgeState) (past : List Event) : Type 0 where
   pub stage : s.stage ≡ stage_of past
   pub grace : s.grace ≡ grace_of past

@@ -1,11 +1,11 @@
--- What the checker keeps between two happenings, and how it is read.
+-- The state of the checker between two happenings, and how its lists are read.
 use Rattle.std.specs.Prelude.{ℕ, Bool, List, [], Option, Some, None}
 use Rattle.std.specs.Map.{lookup}
 use Rattle.std.specs.List.{list_any}
 use Rattle.trace_check.specs.Words.{Stage, OrderKind, same_id}
 use Rattle.trace_check.specs.declared.children.UnreapedChild.{UnreapedChild}
 
--- what is kept of an id
+-- the value kept for an id
 abbrev pub at : {X : Type 0} → List ℕ → List (List ℕ × X) → Option X
 at id entries = lookup (same_id id) entries
 
@@ -13,17 +13,18 @@ at id entries = lookup (same_id id) entries
 abbrev pub among : List ℕ → List (List ℕ) → Bool
 among id ids = list_any (same_id id) ids
 
--- the times that are kept of an id; none where nothing is
+-- the times kept for an id, or none
 abbrev pub times_or_none : Option (List ℕ) → List ℕ
 times_or_none None = []
 times_or_none (Some times) = times
 
+-- the times kept for an id
 abbrev pub times_at : List ℕ → List (List ℕ × List ℕ) → List ℕ
 times_at id starts = times_or_none (at id starts)
 
--- the stage, the seconds between the two signals and the time in force; the open orders; the ids with a kept child, of
--- which a start was asked, that are called, and of which a sent TERM is not told; the last starts and the last hold of
--- an id; its unreaped child; and when the first TERM of the child's spell was told
+-- the stage, the seconds between SIGTERM and SIGKILL, and the time; the open orders; the ids that have a kept child,
+-- that were asked, whose entry is called, and that were sent a TERM of which init was not told; for each id its last
+-- starts, its last hold, its unreaped child, and the time at which the first TERM in the child's spell was told
 pub record JudgeState : Type 0 where
   pub stage : Option Stage
   pub grace : ℕ
@@ -38,7 +39,7 @@ pub record JudgeState : Type 0 where
   pub children : List (List ℕ × UnreapedChild)
   pub termed : List (List ℕ × ℕ)
 
--- before the first happening
+-- the state before the first happening
 abbrev pub opening : JudgeState
 opening = record {
   stage = None;

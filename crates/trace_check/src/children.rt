@@ -1,4 +1,4 @@
-//! The unreaped children, as the judge keeps them.
+//! The unreaped children in the state of the checker.
 
 ghost use Rattle.std.specs.Prelude.{◌≡◌, ◌<◌, ℕ, List, option_copied};
 ghost use Rattle.trace_check.specs.Words.{spare};
@@ -12,14 +12,14 @@ use inittab_text::Table;
 use std::alloc::Allocator;
 use trace_events::{Happening, HappeningIn};
 
-/// An unreaped child: its number, and the action that its id had when it was born.
+/// An unreaped child: its number, and the action that the table had for its id at its birth.
 #[derive(Clone, Copy)]
 pub(crate) struct UnreapedChild {
     pub(crate) number: ChildNumber,
     pub(crate) act: Option<Act>,
 }
 
-/// The unreaped child of each id, where there is room for one more.
+/// Updates the unreaped child of each id. There must be room for one more.
 pub(crate) fn take_child<A: Allocator, B: Allocator>(
     children: &mut ById<UnreapedChild, A>,
     table: &Table<A>,
@@ -46,7 +46,7 @@ pub(crate) fn take_child<A: Allocator, B: Allocator>(
     }
 }
 
-/// There is a child, and it has this number.
+/// Returns whether there is a child and it has this number.
 pub(crate) fn is_numbered(child: Option<&UnreapedChild>, number: ChildNumber) -> bool
     ensures { result ≡ is_numbered number (option_copied child.entry) }
 {

@@ -1,4 +1,4 @@
-//! Which law a happening breaks.
+//! Finds the law that a happening breaks.
 
 ghost use Rattle.std.specs.Prelude.{◌≡◌, not, if◌then◌else◌, option_map, option_copied};
 ghost use Rattle.trace_check.specs.Laws.{law_number};
@@ -7,7 +7,7 @@ ghost use Rattle.trace_check.specs.Flaws.{is_limited_in, calm_after};
 use crate::judge::Judge;
 use crate::laws::Law;
 use crate::parts::is_open;
-use crate::spells::excludes;
+use crate::spells::is_child_excluded;
 use crate::tables::{act, entry_at, starts_in};
 use init_words::{Entry, Id, Level, OrderKind, waited};
 use inittab_text::Table;
@@ -15,7 +15,7 @@ use respawn_limit::HOLD;
 use std::alloc::Allocator;
 use trace_events::{Happening, HappeningIn, is_level};
 
-/// The respawn limit holds for the id's entry (init(8)).
+/// Returns whether the respawn limit applies to the entry of the id (init(8)).
 fn is_limited<B: Allocator>(table: &Table<B>, id: &Id) -> bool
     ensures { result ≡ is_limited_in table.now id.now }
 {
@@ -28,9 +28,9 @@ fn is_limited<B: Allocator>(table: &Table<B>, id: &Id) -> bool
 impl<A: Allocator> Judge<A> {
     ghost use Rattle.std.specs.Map.{keys_of};
     ghost use Rattle.std.specs.List.{list_any, list_all};
-    ghost use Rattle.trace_check.specs.Flaws.{is_alive, is_excluded_in, none_excluded_in, IsCalm, is_placed_in, is_starting, is_wanted_in, is_owed_in, is_in_turn_in, IsUnowed, is_over_with, unowed_after, first_owed_in, is_held_in, is_full_in, is_free_in, is_due_hold_in, is_served_in, is_settled_in, is_over_in, may_kill_in, flaw_of_birth, flaw_in};
+    ghost use Rattle.trace_check.specs.Flaws.{is_alive, is_excluded_in, none_excluded_in, NoneExcludedIfCalm, is_placed_in, is_starting, is_wanted_in, is_owed_in, is_in_turn_in, IsUnowedPrefix, is_over_with, unowed_count_after, first_owed_in, is_held_in, is_full_in, is_free_in, is_due_hold_in, is_served_in, is_settled_in, is_over_in, may_kill_in, flaw_of_birth, flaw_in};
 
-    /// The least law that the happening breaks, where `table` is in force before it.
+    /// Returns the law with the smallest number that the happening breaks, given the table in force before it.
     pub(crate) fn flaw<B: Allocator>(
         &self,
         table: &Table<A>,
@@ -38,8 +38,8 @@ impl<A: Allocator> Judge<A> {
         unowed: usize,
         happening: &HappeningIn<B>,
     ) -> Option<Law>
-        requires calm { IsCalm calm table.now self.now }
-        requires unowed { IsUnowed unowed table.now self.now }
+        requires calm { NoneExcludedIfCalm calm table.now self.now }
+        requires unowed { IsUnowedPrefix unowed table.now self.now }
         ensures { option_map law_number result ≡ flaw_in table.now self.now happening.now }
     {
         match happening {
@@ -66,13 +66,13 @@ impl<A: Allocator> Judge<A> {
     }
 
     fn flaw_of_birth(&self, table: &Table<A>, calm: bool, unowed: usize, id: &Id) -> Option<Law>
-        requires calm { IsCalm calm table.now self.now }
-        requires unowed { IsUnowed unowed table.now self.now }
+        requires calm { NoneExcludedIfCalm calm table.now self.now }
+        requires unowed { IsUnowedPrefix unowed table.now self.now }
         ensures { option_map law_number result ≡ flaw_of_birth table.now self.now id.now }
     {
         if self.is_alive(id) {
             Some(Law::SecondChild)
-        } else if !self.is_placed(table, id) {
+        } else if !self.has_startable_entry(table, id) {
             Some(Law::OutOfStage)
         } else if !self.is_in_turn(table, unowed, id) {
             Some(Law::OutOfTurn)
@@ -87,16 +87,16 @@ impl<A: Allocator> Judge<A> {
         self.children.contains_key(id)
     }
 
-    /// The child of the id is excluded.
+    /// Returns whether the child of the id is excluded.
     fn is_excluded(&self, table: &Table<A>, id: &Id) -> bool
         ensures { result ≡ is_excluded_in table.now self.now id.now }
     {
-        excludes(table, self.stage, &self.children, id)
+        is_child_excluded(table, self.stage, &self.children, id)
     }
 
-    /// No child is excluded. The children are walked only where that isn't known.
+    /// Returns whether no child is excluded. The children are examined only if that is not known already.
     fn none_excluded(&self, table: &Table<A>, calm: bool) -> bool
-        requires { IsCalm calm table.now self.now }
+        requires { NoneExcludedIfCalm calm table.now self.now }
         ensures { result ≡ none_excluded_in table.now self.now }
     {
         calm || !self.any_excluded(table)
@@ -109,8 +109,8 @@ impl<A: Allocator> Judge<A> {
         self.children.keys().any(|id| self.is_excluded(table, id))
     }
 
-    /// The id has an entry, which starts in the stage.
-    fn is_placed(&self, table: &Table<A>, id: &Id) -> bool
+    /// Returns whether the id has an entry that starts in the stage.
+    fn has_startable_entry(&self, table: &Table<A>, id: &Id) -> bool
         ensures { result ≡ is_placed_in table.now self.now id.now }
     {
         match table.get(id) {
@@ -135,7 +135,7 @@ impl<A: Allocator> Judge<A> {
         starts_in(entry, self.stage) && entry.act.is_wanted(idle, !asked, called)
     }
 
-    /// Init waits for the entry, which is not done.
+    /// Returns whether the entry is owed: init waits for it, and it is not done.
     pub(crate) fn is_owed(&self, entry: &Entry) -> bool
         ensures { result ≡ is_owed_in self.now entry.now }
     {
@@ -143,22 +143,22 @@ impl<A: Allocator> Judge<A> {
         waited(entry) && (self.kept.contains(id) || self.is_starting(id) || self.is_wanted(entry))
     }
 
-    /// No entry before the id's is owed.
+    /// Returns whether no entry before that of the id is owed.
     fn is_in_turn(&self, table: &Table<A>, unowed: usize, id: &Id) -> bool
-        requires { IsUnowed unowed table.now self.now }
+        requires { IsUnowedPrefix unowed table.now self.now }
         ensures { result ≡ is_in_turn_in table.now self.now id.now }
     {
         self.first_owed(table, unowed, id).is_none()
     }
 
-    /// The first entry before the id's that is owed, where so many at the front aren't.
+    /// Returns the first owed entry before that of the id. The first `unowed` entries are known not to be owed.
     pub(crate) fn first_owed<'a>(
         &self,
         table: &'a Table<A>,
         unowed: usize,
         id: &Id,
     ) -> Option<&'a Entry>
-        requires { IsUnowed unowed table.now self.now }
+        requires { IsUnowedPrefix unowed table.now self.now }
         ensures { option_copied result ≡ first_owed_in table.now self.now id.now }
     {
         let Some(next) = table.at(unowed) else {
@@ -170,7 +170,7 @@ impl<A: Allocator> Judge<A> {
         self.find_owed(table, id)
     }
 
-    /// The same, by a walk from the first entry on.
+    /// Returns the same, by a search that begins at the first entry.
     fn find_owed<'a>(&self, table: &'a Table<A>, id: &Id) -> Option<&'a Entry>
         ensures { option_copied result ≡ first_owed_in table.now self.now id.now }
     {
@@ -186,16 +186,16 @@ impl<A: Allocator> Judge<A> {
         None
     }
 
-    /// So many entries at the front aren't owed, where so many are known not to be. Before a birth, of which the law
-    /// asks for them, they are counted on.
+    /// Returns the number of entries at the front of the table that are known not to be owed, given that the first
+    /// `unowed` are not. They are counted further only before a birth, for which a law depends on them.
     pub(crate) fn unowed_before<B: Allocator>(
         &self,
         table: &Table<A>,
         happening: &HappeningIn<B>,
         unowed: usize,
     ) -> usize
-        requires { IsUnowed unowed table.now self.now }
-        ensures { IsUnowed result table.now self.now }
+        requires { IsUnowedPrefix unowed table.now self.now }
+        ensures { IsUnowedPrefix result table.now self.now }
     {
         match happening {
             Happening::Birth(..) => self.unowed_from(table, unowed),
@@ -203,10 +203,10 @@ impl<A: Allocator> Judge<A> {
         }
     }
 
-    /// The place of the first entry that is owed, where so many aren't.
+    /// Returns the position of the first owed entry, given that the first `unowed` are not owed.
     fn unowed_from(&self, table: &Table<A>, unowed: usize) -> usize
-        requires { IsUnowed unowed table.now self.now }
-        ensures { IsUnowed result table.now self.now }
+        requires { IsUnowedPrefix unowed table.now self.now }
+        ensures { IsUnowedPrefix result table.now self.now }
     {
         for position in unowed..table.len() {
             if self.is_owed(entry_at(table, position)) {
@@ -216,7 +216,7 @@ impl<A: Allocator> Judge<A> {
         table.len().max(unowed)
     }
 
-    /// Init waits for the id's entry in its stage, and is over with it.
+    /// Returns whether init waits for the entry of the id, and the entry is not owed.
     fn is_over_with(&self, table: &Table<A>, id: &Id) -> bool
         ensures { result ≡ is_over_with table.now self.now id.now }
     {
@@ -226,26 +226,27 @@ impl<A: Allocator> Judge<A> {
         }
     }
 
-    /// So many entries at the front aren't owed after the happening for sure, where so many aren't before it.
-    pub(crate) fn unowed_after<B: Allocator>(
+    /// Returns the number of entries at the front of the table that are certainly not owed after the happening, given
+    /// that the first `unowed` are not owed before it.
+    pub(crate) fn unowed_count_after<B: Allocator>(
         &self,
         table: &Table<A>,
         happening: &HappeningIn<B>,
         unowed: usize,
     ) -> usize
-        ensures { result ≡ unowed_after table.now self.now happening.now unowed }
+        ensures { result ≡ unowed_count_after table.now self.now happening.now unowed }
     {
         match happening {
             Happening::Enter(..) | Happening::NewTable(_) => 0,
             Happening::Power(_) | Happening::Call(_) => 0,
-            Happening::Asked(id, _) => only_if(!self.is_over_with(table, id), unowed),
-            Happening::Birth(id, _) => only_if(!self.is_over_with(table, id), unowed),
-            Happening::Told(id) => only_if(!self.is_over_with(table, id), unowed),
+            Happening::Asked(id, _) => count_if(!self.is_over_with(table, id), unowed),
+            Happening::Birth(id, _) => count_if(!self.is_over_with(table, id), unowed),
+            Happening::Told(id) => count_if(!self.is_over_with(table, id), unowed),
             _ => unowed,
         }
     }
 
-    /// A hold of the id is in force: it began less than five minutes ago (init(8)).
+    /// Returns whether the id is held: its last hold began less than five minutes ago (init(8)).
     pub(crate) fn is_held(&self, id: &Id) -> bool
         ensures { result ≡ is_held_in self.now id.now }
     {
@@ -255,7 +256,7 @@ impl<A: Allocator> Judge<A> {
         }
     }
 
-    /// Ten starts of the id are younger than two minutes (init(8)).
+    /// Returns whether ten starts of the id are less than two minutes old (init(8)).
     pub(crate) fn is_full(&self, id: &Id) -> bool
         ensures { result ≡ is_full_in self.now id.now }
     {
@@ -277,7 +278,7 @@ impl<A: Allocator> Judge<A> {
         is_limited(table, id) && !self.is_held(id) && self.is_full(id)
     }
 
-    /// The entry keeps the level from being settled by nothing.
+    /// Returns whether the entry does not keep the level from being settled.
     fn is_served(&self, level: Level, entry: &Entry) -> bool
         ensures { result ≡ is_served_in level self.now entry.now }
     {
@@ -299,7 +300,7 @@ impl<A: Allocator> Judge<A> {
     }
 
     pub(crate) fn is_settled(&self, level: Level, table: &Table<A>, calm: bool) -> bool
-        requires { IsCalm calm table.now self.now }
+        requires { NoneExcludedIfCalm calm table.now self.now }
         ensures { result ≡ is_settled_in level table.now self.now }
     {
         is_level(level, self.stage)
@@ -307,7 +308,7 @@ impl<A: Allocator> Judge<A> {
             && self.all_served(level, table)
     }
 
-    /// The grace since the first TERM in the child's spell is over.
+    /// Returns whether the grace period has passed since the first TERM in the child's spell was told.
     fn is_over(&self, id: &Id) -> bool
         ensures { result ≡ is_over_in self.now id.now }
     {
@@ -324,7 +325,8 @@ impl<A: Allocator> Judge<A> {
     }
 }
 
-/// After a happening that broke no law no child is excluded for sure, where `calm` said so of those before.
+/// Returns whether certainly no child is excluded after a happening that broke no law, given whether this was certain
+/// before it.
 pub(crate) fn calm_after<B: Allocator>(happening: &HappeningIn<B>, calm: bool) -> bool
     ensures { result ≡ calm_after happening.now calm }
 {
@@ -335,14 +337,14 @@ pub(crate) fn calm_after<B: Allocator>(happening: &HappeningIn<B>, calm: bool) -
     }
 }
 
-/// So many, or none.
-fn only_if(test: bool, count: usize) -> usize
+/// Returns the count if the test holds, otherwise 0.
+fn count_if(test: bool, count: usize) -> usize
     ensures { result ≡ (if test then count else 0) }
 {
     if test { count } else { 0 }
 }
 
-/// The law is broken where its test fails.
+/// Returns the law if its test fails.
 fn unless(test: bool, law: Law) -> Option<Law>
     ensures { option_map law_number result ≡ (if not test then Some (law_number law) else None) }
 {

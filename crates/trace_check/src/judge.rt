@@ -1,4 +1,4 @@
-//! What the judge keeps between two happenings.
+//! The state of the checker between two happenings.
 
 ghost use Rattle.std.specs.Prelude.{◌≡◌, OnOk, OnErr};
 
@@ -15,7 +15,11 @@ use std::alloc::Allocator;
 use std::marker::Model;
 use trace_events::HappeningIn;
 
-/// What the checker keeps between two happenings: all that the laws ask of the past but the table.
+/// The state of the checker between two happenings: everything that the laws depend on, except the table.
+///
+/// `kept`, `asked`, `called` and `sent` are the ids that have a kept child, that were asked, whose entry is called, and
+/// that were sent a TERM of which init was not told. `termed` has the time at which the first TERM in the spell of an
+/// id's child was told.
 #[derive(Drop)]
 pub(crate) struct Judge<A: Allocator> {
     pub(crate) stage: Option<Stage>,
@@ -55,9 +59,9 @@ impl<A: Allocator> Model for Judge<A> {
 
 impl<A: Allocator + Copy> Judge<A> {
     ghost use Rattle.trace_check.specs.State.{opening};
-    ghost use Rattle.trace_check.specs.After.{TakesIn};
+    ghost use Rattle.trace_check.specs.After.{StateAfterHappening};
 
-    /// Before the first happening. It takes no memory.
+    /// Creates the state before the first happening. This allocates no memory.
     pub(crate) fn new(alloc: A) -> Judge<A>
         ensures { result ≡ opening }
     {
@@ -77,13 +81,14 @@ impl<A: Allocator + Copy> Judge<A> {
         }
     }
 
-    /// Takes the happening in, where `table` was in force before it. Where memory runs out nothing is taken.
+    /// Updates the state by a happening, given the table in force before it. If memory allocation fails, the state is
+    /// unchanged.
     pub(crate) fn take<B: Allocator>(
         &mut self,
         table: &Table<A>,
         happening: &HappeningIn<B>,
     ) -> Result<(), Memory>
-        ensures ok { OnOk result (TakesIn table.now self.old self.new happening.now) }
+        ensures ok { OnOk result (StateAfterHappening table.now self.old self.new happening.now) }
         ensures err { OnErr result (self.new ≡ self.old) }
     {
         room_for_one(&mut self.orders)?;

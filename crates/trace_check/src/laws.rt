@@ -1,31 +1,31 @@
-//! The seven laws, with their numbers and words.
+//! The seven laws, with their numbers and messages.
 
 ghost use Rattle.std.specs.Prelude.{◌≡◌};
 ghost use Rattle.trace_check.specs.Laws.{law_number, law_words};
 
 use std::fmt;
 
-/// A law of init(8)'s runs.
+/// A law that every run of an init(8) obeys.
 #[derive(Clone, Copy, PartialEq, Eq)]
 pub enum Law {
-    /// No child is born to an id with an unreaped one.
+    /// A child is born only to an id without an unreaped child.
     SecondChild,
-    /// No child is born outside the stages of its entry.
+    /// A child is born only in a stage in which its entry starts.
     OutOfStage,
-    /// No child is born before an earlier entry that init waits for.
+    /// A child is born only if init does not wait for an earlier entry.
     OutOfTurn,
-    /// No child is born while an excluded one lives.
+    /// A child is born only if no excluded child is unreaped.
     BesideExcluded,
-    /// A level is settled when it is announced.
+    /// A level is announced settled only if it is settled.
     NotSettled,
-    /// The respawn limit is kept.
+    /// The respawn limit is observed.
     RespawnLimit,
-    /// TERM goes to an excluded child, KILL after TERM and the grace.
+    /// SIGTERM is sent only to an excluded child, and SIGKILL only after SIGTERM and the grace period.
     SignalNotDue,
 }
 
 impl Law {
-    /// Its number, from 1.
+    /// Returns the number of the law, from 1.
     pub fn number(self) -> u8
         ensures { result ≡ law_number self }
     {
@@ -40,7 +40,7 @@ impl Law {
         }
     }
 
-    /// What breaks it, in words.
+    /// Returns the message for a breach of the law.
     pub fn words(self) -> &'static str
         ensures { result.now ≡ law_words self }
     {
@@ -50,7 +50,7 @@ impl Law {
             Law::OutOfTurn => "init waits for an earlier entry",
             Law::BesideExcluded => "an excluded child is unreaped",
             Law::NotSettled => "the level is not settled",
-            Law::RespawnLimit => "the respawn limit is not kept",
+            Law::RespawnLimit => "the respawn limit is violated",
             Law::SignalNotDue => "the signal is not due",
         }
     }

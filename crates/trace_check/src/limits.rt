@@ -14,7 +14,7 @@ use std::alloc::Allocator;
 use std::marker::Model;
 use trace_events::{Happening, HappeningIn};
 
-/// The times of the last ten starts of an id, the newest first, in seconds.
+/// The times of the last ten starts of an id, in seconds, the newest first.
 #[derive(Drop)]
 pub(crate) struct Starts {
     times: ArrayVec<u64, STARTS>,
@@ -29,7 +29,7 @@ impl Model for Starts {
 }
 
 impl Starts {
-    /// The first start.
+    /// Creates the list with its first start.
     pub(crate) fn first(time: u64) -> Starts
         ensures { result ≡ time ∷ [] }
     {
@@ -38,7 +38,7 @@ impl Starts {
         Starts { times }
     }
 
-    /// One more start: of eleven the oldest is forgotten.
+    /// Adds a start. The oldest of eleven starts is dropped.
     pub(crate) fn note(&mut self, time: u64)
         ensures { self.new ≡ time ∷ take (STARTS - 1) self.old }
     {
@@ -46,7 +46,7 @@ impl Starts {
         self.times.insert(0, time);
     }
 
-    /// The tenth last start is younger than two minutes (init(8)).
+    /// Returns whether the tenth-last start is less than two minutes old (init(8)).
     pub(crate) fn is_full(&self, now: u64) -> bool
         ensures { result ≡ option_map_or (λ started. nat_lt (now - started) WINDOW)
             (slice_get self.now (STARTS - 1)) false }
@@ -58,7 +58,7 @@ impl Starts {
     }
 }
 
-/// The last starts of each id, where there is room for one more.
+/// Updates the last starts of each id. There must be room for one more.
 pub(crate) fn take_start<A: Allocator + Copy, B: Allocator>(
     starts: &mut ById<Starts, A>,
     time: u64,
@@ -88,7 +88,7 @@ fn note_start<A: Allocator>(starts: &mut ById<Starts, A>, id: Id, time: u64)
     put(starts, id, Starts::first(time));
 }
 
-/// The last hold of each id, where there is room for one more.
+/// Updates the last hold of each id. There must be room for one more.
 pub(crate) fn take_hold<A: Allocator + Copy, B: Allocator>(
     holds: &mut ById<u64, A>,
     time: u64,

@@ -1,4 +1,4 @@
-//! Maps and sets by id.
+//! Maps and sets of ids.
 
 ghost use Rattle.std.specs.Prelude.{◌≡◌, ◌<◌, ◌≤◌, ◌+◌, ℕ, not, ◌&&◌, ◌||◌, if◌then◌else◌, List, [], Some, OnOk};
 ghost use Rattle.trace_check.specs.Words.{spare, same_id};
@@ -10,41 +10,41 @@ use init_words::{Id, Memory};
 use std::alloc::Allocator;
 use std::hash::{BuildHasherDefault, FoldHasher};
 
-/// What is kept of each id.
+/// A value for each id.
 pub(crate) type ById<V, A> = IndexMap<Id, V, BuildHasherDefault<FoldHasher>, A>;
 
 /// A set of ids.
 pub(crate) type Ids<A> = IndexSet<Id, BuildHasherDefault<FoldHasher>, A>;
 
-/// Nothing of any id. It takes no memory.
+/// Creates an empty map. This allocates no memory.
 pub(crate) fn empty_map<V, A: Allocator + Copy>(alloc: A) -> ById<V, A>
     ensures { result.entries ≡ [] }
 {
     IndexMap::new(alloc)
 }
 
-/// No ids. It takes no memory.
+/// Creates an empty set. This allocates no memory.
 pub(crate) fn no_ids<A: Allocator + Copy>(alloc: A) -> Ids<A>
     ensures { result.keys ≡ [] }
 {
     IndexSet::new(alloc)
 }
 
-/// Forgets all, and gives the memory back, so that it costs what was put in since.
+/// Removes all entries and frees their memory, so the map costs only what is added afterwards.
 pub(crate) fn forget_all<V: Drop, A: Allocator + Copy>(map: &mut ById<V, A>)
     ensures { map.new.entries ≡ [] }
 {
     *map = empty_map(*map.allocator());
 }
 
-/// Forgets all ids, and gives the memory back, so that they cost what was put in since.
+/// Removes all ids and frees their memory, so the set costs only what is added afterwards.
 pub(crate) fn forget_ids<A: Allocator + Copy>(ids: &mut Ids<A>)
     ensures { ids.new.keys ≡ [] }
 {
     *ids = no_ids(*ids.allocator());
 }
 
-/// Makes room for one more.
+/// Makes room for one more id.
 pub(crate) fn room_for_one<V: Drop, A: Allocator>(map: &mut ById<V, A>) -> Result<(), Memory>
     ensures same { map.new.entries ≡ map.old.entries }
     ensures room { OnOk result (0 < spare map.new) }
@@ -53,7 +53,7 @@ pub(crate) fn room_for_one<V: Drop, A: Allocator>(map: &mut ById<V, A>) -> Resul
     Ok(())
 }
 
-/// Makes room for so many more ids.
+/// Makes room for `count` more ids.
 pub(crate) fn room_for<A: Allocator>(ids: &mut Ids<A>, count: usize) -> Result<(), Memory>
     ensures same { ids.new.keys ≡ ids.old.keys }
     ensures room { OnOk result (count ≤ set_spare ids.new) }
@@ -62,7 +62,7 @@ pub(crate) fn room_for<A: Allocator>(ids: &mut Ids<A>, count: usize) -> Result<(
     Ok(())
 }
 
-/// Keeps it of the id, where there is room.
+/// Sets the value of the id. There must be room for it.
 pub(crate) fn put<V: Drop, A: Allocator>(map: &mut ById<V, A>, id: Id, value: V)
     requires { 0 < spare map.old }
     ensures { (other : List ℕ) → at other map.new.entries
@@ -73,7 +73,7 @@ pub(crate) fn put<V: Drop, A: Allocator>(map: &mut ById<V, A>, id: Id, value: V)
     };
 }
 
-/// Adds the id, where there is room.
+/// Adds the id. There must be room for it.
 pub(crate) fn add<A: Allocator>(ids: &mut Ids<A>, id: Id)
     requires { 0 < set_spare ids.old }
     ensures added { (other : List ℕ) → among other ids.new.keys
@@ -85,7 +85,7 @@ pub(crate) fn add<A: Allocator>(ids: &mut Ids<A>, id: Id)
     };
 }
 
-/// Adds the id where the test holds, and there is room.
+/// Adds the id if the test holds. There must be room for it.
 pub(crate) fn add_if<A: Allocator>(ids: &mut Ids<A>, id: &Id, test: bool)
     requires { 0 < set_spare ids.old }
     ensures added { (other : List ℕ) → among other ids.new.keys
@@ -97,7 +97,7 @@ pub(crate) fn add_if<A: Allocator>(ids: &mut Ids<A>, id: &Id, test: bool)
     }
 }
 
-/// Takes the id away where the test holds.
+/// Removes the id if the test holds.
 pub(crate) fn drop_if<A: Allocator>(ids: &mut Ids<A>, id: &Id, test: bool)
     ensures { (other : List ℕ) → among other ids.new.keys
         ≡ (not (same_id other id.now && test) && among other ids.old.keys) }
@@ -107,7 +107,7 @@ pub(crate) fn drop_if<A: Allocator>(ids: &mut Ids<A>, id: &Id, test: bool)
     }
 }
 
-/// Puts the id in where the test holds, and there is room, and takes it away where not.
+/// Adds the id if the test holds, for which there must be room, and removes it otherwise.
 pub(crate) fn set_if<A: Allocator>(ids: &mut Ids<A>, id: &Id, test: bool)
     requires { 0 < set_spare ids.old }
     ensures { (other : List ℕ) → among other ids.new.keys

@@ -1,4 +1,4 @@
-//! What each single value that the judge keeps becomes by a happening.
+//! How a happening changes each part of the checker's state.
 
 ghost use Rattle.std.specs.Prelude.{◌≡◌, ℕ, not, ◌&&◌, ◌||◌, List, is_some, ◌<◌, ◌≤◌, length, OnOk, OnErr};
 ghost use Rattle.trace_check.specs.Words.{spare, has_id, is_order, starts_in};
@@ -46,7 +46,7 @@ pub(crate) fn time_after<B: Allocator>(happening: &HappeningIn<B>, time: u64) ->
     }
 }
 
-/// The open orders, where there is room for one more.
+/// Updates the open orders. There must be room for one more.
 pub(crate) fn take_order<A: Allocator, B: Allocator>(
     orders: &mut ById<OrderKind, A>,
     happening: &HappeningIn<B>,
@@ -64,7 +64,7 @@ pub(crate) fn take_order<A: Allocator, B: Allocator>(
     }
 }
 
-/// The ids with a kept child, where there is room for one more.
+/// Updates the ids with a kept child. There must be room for one more.
 pub(crate) fn take_kept<A: Allocator, B: Allocator>(
     kept: &mut Ids<A>,
     children: &ById<UnreapedChild, A>,
@@ -82,7 +82,7 @@ pub(crate) fn take_kept<A: Allocator, B: Allocator>(
     }
 }
 
-/// The ids of which a start was asked, where there is room for one more.
+/// Updates the ids that were asked, because a start of them was ordered. There must be room for one more.
 pub(crate) fn take_asked<A: Allocator + Copy, B: Allocator>(
     asked: &mut Ids<A>,
     table: &Table<A>,
@@ -100,7 +100,7 @@ pub(crate) fn take_asked<A: Allocator + Copy, B: Allocator>(
     }
 }
 
-/// The entries that a table brings begin anew.
+/// Removes the ids that the next table brings: those that are new in it, or have another action there.
 fn drop_brought<A: Allocator, B: Allocator>(asked: &mut Ids<A>, before: &Table<A>, next: &Table<B>)
     ensures { (id : List ℕ) → among id asked.new.keys
         ≡ (not (list_any (λ e. has_id id e && is_changed e.id next.now before.now) next.now)
@@ -112,7 +112,7 @@ fn drop_brought<A: Allocator, B: Allocator>(asked: &mut Ids<A>, before: &Table<A
     }
 }
 
-/// News of the power or a letter names the entry.
+/// Returns whether a power event or a letter names the entry.
 fn is_named<B: Allocator>(happening: &HappeningIn<B>, entry: &Entry) -> bool
     ensures { result ≡ is_named happening.now entry.now }
 {
@@ -125,14 +125,14 @@ fn is_named<B: Allocator>(happening: &HappeningIn<B>, entry: &Entry) -> bool
     }
 }
 
-/// The happening calls the entry, where it starts.
+/// Returns whether the happening calls the entry: it names the entry, which starts in the stage.
 fn is_called<B: Allocator>(happening: &HappeningIn<B>, stage: Option<Stage>, entry: &Entry) -> bool
     ensures { result ≡ (is_named happening.now entry.now && starts_in entry.now stage) }
 {
     is_named(happening, entry) && starts_in(entry, stage)
 }
 
-/// The id's entry stays called when it is started.
+/// Returns whether the entry of the id stays called when it is started.
 fn stays_called<B: Allocator>(table: &Table<B>, id: &Id) -> bool
     ensures { result ≡ stays_called_in table.now id.now }
 {
@@ -142,7 +142,7 @@ fn stays_called<B: Allocator>(table: &Table<B>, id: &Id) -> bool
     }
 }
 
-/// The entries that are called. Where memory runs out they are as they were.
+/// Updates the ids whose entry is called. If memory allocation fails, they are unchanged.
 pub(crate) fn take_called<A: Allocator + Copy, B: Allocator>(
     called: &mut Ids<A>,
     table: &Table<A>,
@@ -185,7 +185,7 @@ fn add_named<A: Allocator, B: Allocator>(
     Ok(())
 }
 
-/// The ids of which a sent TERM is not told, where there is room for one more.
+/// Updates the ids that were sent a TERM of which init was not told. There must be room for one more.
 pub(crate) fn take_sent<A: Allocator, B: Allocator>(
     sent: &mut Ids<A>,
     orders: &ById<OrderKind, A>,
@@ -204,7 +204,7 @@ pub(crate) fn take_sent<A: Allocator, B: Allocator>(
     }
 }
 
-/// The open order of the id is of this kind.
+/// Returns whether the open order of the id is of this kind.
 pub(crate) fn is_open<A: Allocator>(orders: &ById<OrderKind, A>, id: &Id, ask: OrderKind) -> bool
     ensures { result ≡ is_order ask (at id.now orders.now.entries) }
 {

@@ -1,4 +1,4 @@
-//! What the judge reads off the past that it has judged.
+//! What the checker knows about the past that it has judged.
 
 ghost use Rattle.std.specs.Prelude.{◌≡◌, true, List, find, option_copied, Some};
 ghost use Rattle.trace_check.specs.Words.{Event, table_of, stage_of, grace_of, time_of, open_of, unreaped_children, hold_times, is_held, is_full, is_wanted, is_owed, entries_before, entry_of, is_distinct};
@@ -11,47 +11,47 @@ use init_words::{Entry, Id, Level, OrderKind, Stage};
 use inittab_text::Table;
 use std::alloc::Allocator;
 
-/// Each as a definition of traces says it.
+/// Each method returns what a definition of `trace_events` or `specs/Reading` gives for the trace judged so far.
 impl<A: Allocator> TraceJudge<A> {
-    /// The table in force; no id stands in it twice.
+    /// Returns the table in force, in which no id occurs twice.
     pub fn table(&self) -> &Table<A>
         ensures value { (past : List Event) → Judged self.now past → result.now ≡ table_of past }
         ensures distinct { is_distinct result.now ≡ true }
     {
-        // It says that no id stands twice.
+        // The contract of `len` states that no id occurs twice.
         let _len = self.table.len();
         &self.table
     }
 
-    /// The stage in force.
+    /// Returns the stage in force.
     pub fn stage(&self) -> Option<Stage>
         ensures { (past : List Event) → Judged self.now past → result ≡ stage_of past }
     {
         self.judge.stage
     }
 
-    /// The seconds between the two signals that stop a child.
+    /// Returns the seconds between SIGTERM and SIGKILL.
     pub fn grace(&self) -> u16
         ensures { (past : List Event) → Judged self.now past → result ≡ grace_of past }
     {
         self.judge.grace
     }
 
-    /// The time, in seconds.
+    /// Returns the time, in seconds.
     pub fn time(&self) -> u64
         ensures { (past : List Event) → Judged self.now past → result ≡ time_of past }
     {
         self.judge.time
     }
 
-    /// The open order of an id.
+    /// Returns the open order of an id.
     pub fn order(&self, id: &Id) -> Option<OrderKind>
         ensures { (past : List Event) → Judged self.now past → result ≡ open_of id.now past }
     {
         self.judge.orders.get(id).copied()
     }
 
-    /// An entry of the table is wanted.
+    /// Returns whether an entry of the table is wanted.
     pub fn is_wanted(&self, entry: &Entry) -> bool
         ensures { (past : List Event) → Judged self.now past
             → entry_of entry.now.id (table_of past) ≡ Some entry.now
@@ -60,24 +60,24 @@ impl<A: Allocator> TraceJudge<A> {
         self.judge.is_wanted(entry)
     }
 
-    /// The first entry before the id's that is owed.
+    /// Returns the first owed entry before that of the id.
     pub fn first_owed(&self, id: &Id) -> Option<&Entry>
         ensures { (past : List Event) → Judged self.now past → option_copied result
             ≡ find (λ e. is_owed e past) (entries_before id.now (table_of past)) }
     {
-        // It says that no id stands twice.
+        // The contract of `len` states that no id occurs twice.
         let _len = self.table.len();
         self.judge.first_owed(&self.table, self.unowed, id)
     }
 
-    /// A hold of the id is in force.
+    /// Returns whether the id is held.
     pub fn is_held(&self, id: &Id) -> bool
         ensures { (past : List Event) → Judged self.now past → result ≡ is_held id.now past }
     {
         self.judge.is_held(id)
     }
 
-    /// The time of the id's last hold.
+    /// Returns the time of the last hold of the id.
     pub fn held_since(&self, id: &Id) -> Option<u64>
         ensures { (past : List Event) → Judged self.now past
             → result ≡ newest (hold_times id.now past) }
@@ -85,24 +85,24 @@ impl<A: Allocator> TraceJudge<A> {
         self.judge.holds.get(id).copied()
     }
 
-    /// The window of the id is full: one more start is due to be a hold.
+    /// Returns whether the window of the id is full, so that it must be held instead of started.
     pub fn is_full(&self, id: &Id) -> bool
         ensures { (past : List Event) → Judged self.now past → result ≡ is_full id.now past }
     {
         self.judge.is_full(id)
     }
 
-    /// The level is in force and settled, by the unreaped children.
+    /// Returns whether the level is in force and settled, judged by the unreaped children.
     pub fn is_settled(&self, level: Level) -> bool
         ensures { (past : List Event) → Judged self.now past
             → result ≡ is_settled level (unreaped_children past) past }
     {
-        // It says that no id stands twice.
+        // The contract of `len` states that no id occurs twice.
         let _len = self.table.len();
         self.judge.is_settled(level, &self.table, self.calm)
     }
 
-    /// When the first TERM of the spell of the id's unreaped child was told.
+    /// Returns the time at which the first TERM in the spell of the id's unreaped child was told.
     pub fn termed(&self, id: &Id) -> Option<u64>
         ensures { (past : List Event) → Judged self.now past
             → result ≡ term_of past (child_of id.now past) }

@@ -1,9 +1,9 @@
-//! The signals to children that are being stopped, as the judge keeps them.
+//! The signals to children that are being stopped, in the state of the checker.
 
 ghost use Rattle.std.specs.Prelude.{◌≡◌, ℕ, ◌<◌, if◌then◌else◌, List};
 ghost use Rattle.trace_check.specs.Words.{spare, same_id};
 ghost use Rattle.trace_check.specs.State.{at, among};
-ghost use Rattle.trace_check.specs.After.{spares, excludes, earliest, term_after};
+ghost use Rattle.trace_check.specs.After.{child_may_live, is_child_excluded, earliest, term_after};
 
 use crate::children::{UnreapedChild, is_numbered};
 use crate::maps::{ById, Ids, put};
@@ -13,14 +13,14 @@ use inittab_text::Table;
 use std::alloc::Allocator;
 use trace_events::{Happening, HappeningIn};
 
-/// The child of the id may live by this table and in this stage.
-fn spares<A: Allocator, B: Allocator>(
+/// Returns whether the child of the id may live in the stage under this table.
+fn child_may_live<A: Allocator, B: Allocator>(
     table: &Table<B>,
     stage: Option<Stage>,
     children: &ById<UnreapedChild, A>,
     id: &Id,
 ) -> bool
-    ensures { result ≡ spares table.now stage (λ i. at i children.now.entries) id.now }
+    ensures { result ≡ child_may_live table.now stage (λ i. at i children.now.entries) id.now }
 {
     match children.get(id) {
         Some(living) => may_live(table.get(id), living.act, stage),
@@ -28,14 +28,14 @@ fn spares<A: Allocator, B: Allocator>(
     }
 }
 
-/// The child of the id is excluded: it may not live, and is stopped (init(8)).
-pub(crate) fn excludes<A: Allocator, B: Allocator>(
+/// Returns whether the child of the id is excluded: it may not live in the stage, so it is stopped (init(8)).
+pub(crate) fn is_child_excluded<A: Allocator, B: Allocator>(
     table: &Table<B>,
     stage: Option<Stage>,
     children: &ById<UnreapedChild, A>,
     id: &Id,
 ) -> bool
-    ensures { result ≡ excludes table.now stage (λ i. at i children.now.entries) id.now }
+    ensures { result ≡ is_child_excluded table.now stage (λ i. at i children.now.entries) id.now }
 {
     match children.get(id) {
         Some(living) => !may_live(table.get(id), living.act, stage),
@@ -43,8 +43,8 @@ pub(crate) fn excludes<A: Allocator, B: Allocator>(
     }
 }
 
-/// When the first TERM was told in the spell of each id's child, the stretch of time in which it is excluded, where there
-/// is room for one more.
+/// Updates the time at which the first TERM was told in the spell of each id's child, which is the period in which the
+/// child is excluded. There must be room for one more.
 pub(crate) fn take_term<A: Allocator + Copy, B: Allocator>(
     termed: &mut ById<u64, A>,
     children: &ById<UnreapedChild, A>,
@@ -69,7 +69,7 @@ pub(crate) fn take_term<A: Allocator + Copy, B: Allocator>(
             }
         }
         Happening::Told(id) => {
-            if sent.contains(id) && excludes(table, stage, children, id) {
+            if sent.contains(id) && is_child_excluded(table, stage, children, id) {
                 note_term(termed, *id, time);
             }
         }
@@ -92,7 +92,7 @@ fn note_term<A: Allocator>(termed: &mut ById<u64, A>, id: Id, time: u64)
     put(termed, id, first);
 }
 
-/// The spells of the children that are no longer excluded end.
+/// Ends the spells of the children that are no longer excluded.
 fn end_spells<A: Allocator, B: Allocator>(
     termed: &mut ById<u64, A>,
     children: &ById<UnreapedChild, A>,
@@ -100,8 +100,8 @@ fn end_spells<A: Allocator, B: Allocator>(
     stage: Option<Stage>,
 )
     ensures { (id : List ℕ) → at id termed.new.entries
-        ≡ (if spares table.now stage (λ i. at i children.now.entries) id then None
+        ≡ (if child_may_live table.now stage (λ i. at i children.now.entries) id then None
         else at id termed.old.entries) }
 {
-    termed.retain(|id, _| !spares(table, stage, children, id));
+    termed.retain(|id, _| !child_may_live(table, stage, children, id));
 }

@@ -1,4 +1,4 @@
-//! What the judge asks of the table in force.
+//! What the checker looks up in the table in force.
 
 ghost use Rattle.std.specs.Prelude.{◌≡◌, ◌<◌, length, slice_get, option_copied, Some, List, IfOk};
 ghost use Rattle.std.specs.Option.{option_map_or};
@@ -10,7 +10,7 @@ use inittab_text::Table;
 use std::alloc::Allocator;
 use trace_events::{Happening, HappeningIn};
 
-/// The entry at a place below the length.
+/// Returns the entry at a position less than the length.
 pub(crate) fn entry_at<B: Allocator>(table: &Table<B>, position: usize) -> &Entry
     requires { position < length table.now }
     ensures { slice_get table.now position ≡ Some result.now }
@@ -21,7 +21,7 @@ pub(crate) fn entry_at<B: Allocator>(table: &Table<B>, position: usize) -> &Entr
     entry
 }
 
-/// The action of an id.
+/// Returns the action of an id.
 pub(crate) fn act<B: Allocator>(table: &Table<B>, id: &Id) -> Option<Act>
     ensures { result ≡ act_of id.now table.now }
 {
@@ -29,7 +29,7 @@ pub(crate) fn act<B: Allocator>(table: &Table<B>, id: &Id) -> Option<Act>
     Some(entry.act)
 }
 
-/// An id has another action in this table than in the other, or none in one of them.
+/// Returns whether the id has different actions in the two tables, or none in one of them.
 pub(crate) fn is_changed<B: Allocator, C: Allocator>(
     table: &Table<B>,
     other: &Table<C>,
@@ -40,8 +40,8 @@ pub(crate) fn is_changed<B: Allocator, C: Allocator>(
     !same_acts(act(table, id), act(other, id))
 }
 
-/// A copy of the table that the happening brings, if it brings one.
-pub(crate) fn table_brought<A: Allocator + Copy, B: Allocator>(
+/// Copies the table of the happening, if it is a new table.
+pub(crate) fn happening_table<A: Allocator + Copy, B: Allocator>(
     alloc: A,
     happening: &HappeningIn<B>,
 ) -> Result<Option<Table<A>>, Memory>
@@ -54,8 +54,8 @@ pub(crate) fn table_brought<A: Allocator + Copy, B: Allocator>(
     }
 }
 
-/// Puts the table in force that a happening brought, if it brought one.
-pub(crate) fn put_brought<A: Allocator>(table: &mut Table<A>, brought: Option<Table<A>>)
+/// Puts the table in force, if there is one.
+pub(crate) fn adopt_happening_table<A: Allocator>(table: &mut Table<A>, brought: Option<Table<A>>)
     ensures { table.new ≡ option_map_or (λ next. next) brought table.old }
 {
     if let Some(next) = brought {
@@ -63,7 +63,7 @@ pub(crate) fn put_brought<A: Allocator>(table: &mut Table<A>, brought: Option<Ta
     }
 }
 
-/// The two actions are one, where there are two.
+/// Returns whether there are two actions and they are the same.
 fn same_acts(act: Option<Act>, other: Option<Act>) -> bool
     ensures { result ≡ same_acts act other }
 {
@@ -73,7 +73,7 @@ fn same_acts(act: Option<Act>, other: Option<Act>) -> bool
     }
 }
 
-/// The entry starts in the stage, where there is one.
+/// Returns whether the entry starts in the stage; before the first stage none does.
 pub(crate) fn starts_in(entry: &Entry, stage: Option<Stage>) -> bool
     ensures { result ≡ starts_in entry.now stage }
 {
@@ -83,7 +83,7 @@ pub(crate) fn starts_in(entry: &Entry, stage: Option<Stage>) -> bool
     }
 }
 
-/// A child that was born with this action may live in the stage, by its id's entry (init(8)).
+/// Returns whether a child born with this action may live in the stage, given the entry of its id (init(8)).
 pub(crate) fn may_live(entry: Option<&Entry>, act: Option<Act>, stage: Option<Stage>) -> bool
     ensures { result ≡ may_live (option_copied entry.entry) act stage }
 {

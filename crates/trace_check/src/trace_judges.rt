@@ -1,50 +1,51 @@
-//! The judge of a trace that comes one happening after another.
+//! The judge of a trace that arrives one happening at a time.
 
 ghost use Rattle.std.specs.Prelude.{◌≡◌, List, option_map, IfOk, OnErr};
 ghost use Rattle.trace_check.specs.Words.{Event, broken};
 ghost use Rattle.trace_check.specs.Laws.{law_number};
-ghost use Rattle.trace_check.specs.Judging.{unjudged, Judged, TakesNext};
+ghost use Rattle.trace_check.specs.Judging.{unjudged, Judged, JudgeAfterHappening};
 
 use crate::flaws::calm_after;
 use crate::judge::Judge;
 use crate::laws::Law;
-use crate::tables::{put_brought, table_brought};
+use crate::tables::{adopt_happening_table, happening_table};
 use init_words::Memory;
 use inittab_text::Table;
 use std::alloc::{Allocator, Global};
 use std::marker::Model;
 use trace_events::HappeningIn;
 
-/// A judge of a trace that comes one happening after another, the oldest first. It keeps what the laws ask of the
-/// past, by the ids of the table and of the living children, and never the past itself.
+/// The judge of a trace that arrives one happening at a time, the oldest first.
 ///
-/// A contract sees of it which pasts it has judged (`Judged`).
+/// It keeps what the laws need from the past, by the ids of the table and of the living children, but never the past
+/// itself. Contracts describe it by the pasts that it has judged (`Judged`).
 #[derive(Drop)]
 pub struct TraceJudge<A: Allocator = Global> {
     alloc: A,
     pub(crate) table: Table<A>,
     pub(crate) judge: Judge<A>,
-    // No child is excluded; where it is false, one may be.
+    // If true, no child is excluded. If false, one may be.
     pub(crate) calm: bool,
-    // So many entries at the front of the table aren't owed; the next one may be.
+    // The number of entries at the front of the table that are known not to be owed. The next one may be.
     pub(crate) unowed: usize,
 }
 
 impl<A: Allocator> Model for TraceJudge<A> {
     ghost use Rattle.trace_check.specs.Judging.{Judging};
-    ghost use Rattle.trace_check.specs.Flaws.{IsCalm, IsUnowed};
+    ghost use Rattle.trace_check.specs.Flaws.{NoneExcludedIfCalm, IsUnowedPrefix};
 
     ghost Value = { Judging };
 
     ghost view = { λ j. record { table = j.table; state = j.judge } };
 
-    ghost invariant = { λ j. IsCalm j.calm j.table j.judge × IsUnowed j.unowed j.table j.judge };
+    ghost invariant = { λ j. NoneExcludedIfCalm j.calm j.table j.judge
+        × IsUnowedPrefix j.unowed j.table j.judge };
 }
 
 impl<A: Allocator + Copy> TraceJudge<A> {
     ghost use Rattle.std.specs.Prelude.{[]};
 
-    /// A judge that has taken nothing. It takes no memory.
+    /// Creates a judge that has judged nothing. This allocates no memory.
     pub fn new(alloc: A) -> TraceJudge<A>
         ensures value { result ≡ unjudged }
         ensures judged { Judged result [] }
@@ -58,15 +59,17 @@ impl<A: Allocator + Copy> TraceJudge<A> {
         }
     }
 
-    /// Takes the next happening, and gives the least law that it breaks. One that breaks a law isn't taken: the judge
-    /// stays as it was, as it does where memory runs out.
+    /// Takes the next happening, and returns the law with the smallest number that it breaks.
+    ///
+    /// If it breaks a law, or if memory allocation fails, the judge is unchanged.
     pub fn take<B: Allocator>(&mut self, happening: &HappeningIn<B>) -> Result<Option<Law>, Memory>
         ensures law { IfOk result (λ law. (past : List Event) → Judged self.old past
             → option_map law_number law ≡ broken happening.now past) }
-        ensures next { IfOk result (λ law. TakesNext law self.old self.new happening.now) }
+        ensures next { IfOk result
+            (λ law. JudgeAfterHappening law self.old self.new happening.now) }
         ensures err { OnErr result (self.new ≡ self.old) }
     {
-        // It says that no id stands twice.
+        // The contract of `len` states that no id occurs twice.
         let _len = self.table.len();
         let known = self
             .judge
@@ -74,10 +77,10 @@ impl<A: Allocator + Copy> TraceJudge<A> {
         if let Some(law) = self.judge.flaw(&self.table, self.calm, known, happening) {
             return Ok(Some(law));
         }
-        let unowed = self.judge.unowed_after(&self.table, happening, known);
-        let brought = table_brought(self.alloc, happening)?;
+        let unowed = self.judge.unowed_count_after(&self.table, happening, known);
+        let brought = happening_table(self.alloc, happening)?;
         self.judge.take(&self.table, happening)?;
-        put_brought(&mut self.table, brought);
+        adopt_happening_table(&mut self.table, brought);
         self.calm = calm_after(happening, self.calm);
         self.unowed = unowed;
         Ok(None)

@@ -1,4 +1,4 @@
--- What a happening makes of the calls that are kept.
+-- How a happening changes the set of pending calls.
 use Rattle.std.proofs.Common.{◌≡◌, refl, true, false, List, ◌∷◌}
 use Rattle.init_words.specs.declared.levels.Letter.{Letter}
 use Rattle.init_words.specs.declared.levels.Letter.TheVariants as letter
@@ -7,25 +7,26 @@ use Rattle.init_words.specs.declared.orders.PowerKind.TheVariants as power
 use Rattle.initctl_frame.specs.declared.requests.HeardRequest.TheVariants as got
 use Rattle.trace_events.specs.declared.happenings.Happening.TheVariants.{Call, Power, Got}
 use Rattle.trace_events.specs.Event.{Event}
-use Rattle.trace_events.specs.CallSets.{news_of, with_kind, with_call}
+use Rattle.trace_events.specs.CallSets.{pending_calls, with_kind, with_call}
 
 module _ (past : List Event) where
-  pub news_powered : (kind : PowerKind) → with_kind kind false (news_of past) ≡ news_of (Power kind ∷ past)
+  pub news_powered : (kind : PowerKind) → with_kind kind false (pending_calls past) ≡ pending_calls (Power kind ∷ past)
   news_powered power.Fail = refl
   news_powered power.FailNow = refl
   news_powered power.Ok = refl
 
-  pub news_called : (l : Letter) → with_call l false (news_of past) ≡ news_of (Call l ∷ past)
+  pub news_called : (l : Letter) → with_call l false (pending_calls past) ≡ pending_calls (Call l ∷ past)
   news_called letter.A = refl
   news_called letter.B = refl
   news_called letter.C = refl
 
-  pub power_heard : (kind : PowerKind) → with_kind kind true (news_of past) ≡ news_of (Got (got.Power kind) ∷ past)
+  pub power_heard : (kind : PowerKind)
+      → with_kind kind true (pending_calls past) ≡ pending_calls (Got (got.Power kind) ∷ past)
   power_heard power.Fail = refl
   power_heard power.FailNow = refl
   power_heard power.Ok = refl
 
-  pub letter_heard : (l : Letter) → with_call l true (news_of past) ≡ news_of (Got (got.Call l) ∷ past)
+  pub letter_heard : (l : Letter) → with_call l true (pending_calls past) ≡ pending_calls (Got (got.Call l) ∷ past)
   letter_heard letter.A = refl
   letter_heard letter.B = refl
   letter_heard letter.C = refl

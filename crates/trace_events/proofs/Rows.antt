@@ -1,4 +1,4 @@
--- Worked traces, each with what the definitions say of it: `refl` computes them.
+-- Worked traces, each with the values that the definitions give for it, which `refl` computes.
 use Rattle.std.proofs.Common.{◌≡◌, refl, ℕ, true, false, List, [], ◌∷◌, ◌++◌, codes, Some}
 use Rattle.init_words.specs.declared.entries.Entry.{Entry}
 use Rattle.init_words.specs.declared.actions.Act.{Act}
@@ -28,11 +28,11 @@ abbrev entry : List ℕ → List Mark → Act → List ℕ → Entry
 entry id levels action process =
     record { id = id; levels = record { items = levels }; act = action; process = record { items = process } }
 
--- the goal that an opening at this level has
+-- the initial goal with this level
 abbrev opening : Level → Goal
 opening l = record { level = l; grace = 5 }
 
--- an empty table: nothing to run
+-- an empty table: there is nothing to run
 abbrev empty_table : List Event
 empty_table = Settle level.S ∷ Enter (stage.Run level.S) 5 ∷ Enter stage.Sysinit 5 ∷ NewTable ([]) ∷ []
 
@@ -48,7 +48,7 @@ empty_table-rests = refl
 empty_table-is_lawful : is_lawful empty_table ≡ true
 empty_table-is_lawful = refl
 
--- a waited entry ends before the next is started
+-- a waited entry ends before the next one is started
 abbrev waited_then_respawn : List Event
 waited_then_respawn = Settle level.L3 ∷ Told (codes "r") ∷ Birth (codes "r") 11 ∷ Asked (codes "r") Start ∷ Told
     (codes "w") ∷ Reaped (codes "w") 10 (Exit 0) ∷ Death 10 ∷ Asked (codes "w") Look ∷ Nudge ∷ Told (codes "w") ∷ Birth
@@ -68,7 +68,7 @@ waited_then_respawn-rests = refl
 waited_then_respawn-is_lawful : is_lawful waited_then_respawn ≡ true
 waited_then_respawn-is_lawful = refl
 
--- a start that failed: the waited entry counts as asked, and the next is started
+-- a start fails: the waited entry counts as asked, and the next one is started
 abbrev start_fails : List Event
 start_fails = Asked (codes "r") Start ∷ Told (codes "w") ∷ NoBirth (codes "w") ∷ Asked (codes "w") Start
     ∷ Enter (stage.Run level.L3) 5 ∷ Enter stage.Boot 5 ∷ Enter stage.Sysinit 5 ∷ NewTable
@@ -87,7 +87,7 @@ start_fails-rests = refl
 start_fails-is_lawful : is_lawful start_fails ≡ true
 start_fails-is_lawful = refl
 
--- a level is entered only when the open start was answered, and then the child is stopped
+-- a level is entered only after the open start was answered; then the child is stopped
 abbrev level_while_starting : List Event
 level_while_starting = Hit (codes "r") ∷ Asked (codes "r") Term ∷ Enter (stage.Run level.L1) 5 ∷ NotRead
     ∷ Told (codes "r") ∷ Birth (codes "r") 10 ∷ Got (got.Level level.L1 5) ∷ Asked (codes "r") Start ∷ Enter
@@ -106,7 +106,7 @@ level_while_starting-rests = refl
 level_while_starting-is_lawful : is_lawful level_while_starting ≡ true
 level_while_starting-is_lawful = refl
 
--- KILL comes when the grace is over
+-- KILL is sent when the grace period is over
 abbrev kill_after_grace : List Event
 kill_after_grace = Asked (codes "r") Kill ∷ Clock 105 ∷ Clock 104 ∷ Told (codes "r") ∷ Clock 100 ∷ Hit (codes "r")
     ∷ Asked (codes "r") Term ∷ Enter (stage.Run level.L1) 5 ∷ NotRead ∷ Told (codes "r") ∷ Birth (codes "r") 10
@@ -126,7 +126,7 @@ kill_after_grace-rests = refl
 kill_after_grace-is_lawful : is_lawful kill_after_grace ≡ true
 kill_after_grace-is_lawful = refl
 
--- a clock set back shortens no grace
+-- setting the clock back does not shorten the grace period
 abbrev clock_set_back : List Event
 clock_set_back = Asked (codes "r") Kill ∷ Clock 105 ∷ Clock 104 ∷ Told (codes "r") ∷ Clock 40 ∷ Clock 100
     ∷ Hit (codes "r") ∷ Asked (codes "r") Term ∷ Enter (stage.Run level.L1) 5 ∷ NotRead ∷ Told (codes "r")
@@ -146,7 +146,7 @@ clock_set_back-rests = refl
 clock_set_back-is_lawful : is_lawful clock_set_back ≡ true
 clock_set_back-is_lawful = refl
 
--- the eleventh start in two minutes is held for five
+-- the eleventh start in two minutes is held for five minutes
 abbrev hold_and_release : List Event
 hold_and_release = Asked (codes "r") Start ∷ Clock 419 ∷ Clock 418 ∷ Hold (codes "r") ∷ Told (codes "r") ∷ Reaped
     (codes "r") 7 (Exit 1) ∷ Death 7 ∷ Asked (codes "r") Look ∷ Nudge ∷ Clock 119 ∷ Settle level.S ∷ Told (codes "r")
@@ -170,7 +170,7 @@ hold_and_release-rests = refl
 hold_and_release-is_lawful : is_lawful hold_and_release ≡ true
 hold_and_release-is_lawful = refl
 
--- the window slides: a start is free again as the oldest is two minutes old
+-- the window slides: a start is allowed again when the oldest is two minutes old
 abbrev window_slides : List Event
 window_slides = Hold (codes "r") ∷ Told (codes "r") ∷ NoBirth (codes "r") ∷ Asked (codes "r") Start ∷ Told (codes "r")
     ∷ Reaped (codes "r") 7 (Exit 1) ∷ Death 7 ∷ Asked (codes "r") Look ∷ Nudge ∷ Clock 120 ∷ Settle level.S
@@ -195,7 +195,7 @@ window_slides-rests = refl
 window_slides-is_lawful : is_lawful window_slides ≡ true
 window_slides-is_lawful = refl
 
--- a number is given again once its child was reaped
+-- a child number is used again after its child was reaped
 abbrev number_given_again : List Event
 number_given_again = Asked (codes "a") Start ∷ Told (codes "a") ∷ Told (codes "b") ∷ Birth (codes "b") 700 ∷ Reaped
     (codes "a") 700 (Exit 0) ∷ Death 700 ∷ Asked (codes "a") Look ∷ Nudge ∷ Told (codes "a") ∷ Birth (codes "a") 700
@@ -215,7 +215,7 @@ number_given_again-rests = refl
 number_given_again-is_lawful : is_lawful number_given_again ≡ true
 number_given_again-is_lawful = refl
 
--- an entry that left the table: its child is stopped
+-- an entry is removed from the table: its child is stopped
 abbrev entry_removed : List Event
 entry_removed = Settle level.S ∷ Told (codes "r") ∷ Reaped (codes "r") 7 Killed ∷ Death 7 ∷ Asked (codes "r") Look
     ∷ Nudge ∷ Told (codes "r") ∷ Hit (codes "r") ∷ Asked (codes "r") Term ∷ NewTable ([]) ∷ Got got.Reload
@@ -234,7 +234,7 @@ entry_removed-rests = refl
 entry_removed-is_lawful : is_lawful entry_removed ≡ true
 entry_removed-is_lawful = refl
 
--- the same table again: nothing is stopped
+-- the same table is read again: nothing is stopped
 abbrev same_table_read : List Event
 same_table_read =
     Settle level.S ∷ NewTable ((entry (codes "r") ((At level.S) ∷ []) act.Respawn (codes "x")) ∷ []) ∷ Got got.Reload
@@ -312,7 +312,7 @@ boot_on_the_way_up-rests = refl
 boot_on_the_way_up-is_lawful : is_lawful boot_on_the_way_up ≡ true
 boot_on_the_way_up-is_lawful = refl
 
--- news of the power calls its waited entry
+-- a power event calls its waited entry
 abbrev power_fails : List Event
 power_fails = Asked (codes "r") Look ∷ Asked (codes "pw") Look ∷ Nudge ∷ Told (codes "pw") ∷ Birth (codes "pw") 5
     ∷ Asked (codes "pw") Start ∷ Power power.Fail ∷ Got (got.Power power.Fail) ∷ Settle level.L3 ∷ Told (codes "r")
@@ -333,7 +333,7 @@ power_fails-rests = refl
 power_fails-is_lawful : is_lawful power_fails ≡ true
 power_fails-is_lawful = refl
 
--- sysinit, boot and the level in turn
+-- sysinit, boot and the level, one after the other
 abbrev all_stages : List Event
 all_stages = Settle level.L3 ∷ Told (codes "o") ∷ NoBirth (codes "o") ∷ Asked (codes "o") Start
     ∷ Enter (stage.Run level.L3) 5 ∷ Told (codes "b") ∷ Birth (codes "b") 2 ∷ Asked (codes "b") Start
@@ -354,7 +354,7 @@ all_stages-rests = refl
 all_stages-is_lawful : is_lawful all_stages ≡ true
 all_stages-is_lawful = refl
 
--- a letter starts its ondemand entry, and starts it again when its child has ended
+-- a letter starts its ondemand entry, and the entry is started again when its child has ended
 abbrev on_call : Entry
 on_call = entry (codes "d") (OnCall letter.A ∷ []) act.Ondemand (codes "x")
 
@@ -379,7 +379,7 @@ letter_called-rests = refl
 letter_called-is_lawful : is_lawful letter_called ≡ true
 letter_called-is_lawful = refl
 
--- its starts that fail are held after the tenth, and another call lifts no hold
+-- after ten failed starts the entry is held, and another call does not end the hold
 abbrev failed_start : List Event
 failed_start = Told (codes "d") ∷ NoBirth (codes "d") ∷ Asked (codes "d") Start ∷ []
 
@@ -402,7 +402,7 @@ called_while_held-rests = refl
 called_while_held-is_lawful : is_lawful called_while_held ≡ true
 called_while_held-is_lawful = refl
 
--- a child that was called lives on in another level, and isn't started again there when it ends
+-- a child that was called stays alive in another level, and is not started again there when it ends
 abbrev call_of_another_level : List Event
 call_of_another_level = Settle level.L2 ∷ Told (codes "d") ∷ Reaped (codes "d") 5 (Exit 0) ∷ Death 5 ∷ Asked
     (codes "d") Look ∷ Nudge ∷ Enter (stage.Run level.L2) 5 ∷ NotRead ∷ Got (got.Level level.L2 5) ∷ Told (codes "d")
@@ -414,7 +414,7 @@ call_of_another_level-is_sound = refl
 call_of_another_level-rests : first (due (opening level.L3) call_of_another_level) ≡ step.Idle
 call_of_another_level-rests = refl
 
--- ten starts that failed at once, then a hold
+-- ten starts that fail at once, then a hold
 abbrev ten_failed_starts : List Event
 ten_failed_starts = Settle level.S ∷ Hold (codes "r") ∷ Told (codes "r") ∷ NoBirth (codes "r") ∷ Asked (codes "r") Start
     ∷ Told (codes "r") ∷ NoBirth (codes "r") ∷ Asked (codes "r") Start ∷ Told (codes "r") ∷ NoBirth (codes "r")
@@ -437,7 +437,7 @@ ten_failed_starts-rests = refl
 ten_failed_starts-is_lawful : is_lawful ten_failed_starts ≡ true
 ten_failed_starts-is_lawful = refl
 
--- two rounds over a host: clock and round come before the first stage
+-- two rounds over a host: a clock reading and a round come before the first stage
 abbrev two_rounds : List Event
 two_rounds = Told (codes "r") ∷ Still (codes "r") ∷ Asked (codes "r") Look ∷ Settle level.L3 ∷ Nudge ∷ Told (codes "r")
     ∷ Birth (codes "r") 11 ∷ Clock 0 ∷ Asked (codes "r") Start ∷ Told (codes "w") ∷ NoBirth (codes "w") ∷ Asked
@@ -451,7 +451,7 @@ two_rounds-is_sound = refl
 two_rounds-rests : first (due (opening level.L3) two_rounds) ≡ step.Idle
 two_rounds-rests = refl
 
--- forged: an entry started in another level while its forerunner lives
+-- forged: an entry is started in another level while the child of an earlier entry is unreaped
 abbrev breach_of_turn : List Event
 breach_of_turn = Birth (codes "b") 11 ∷ Asked (codes "b") Start ∷ Enter (stage.Run level.L1) 5 ∷ Told (codes "a")
     ∷ Birth (codes "a") 10 ∷ Asked (codes "a") Start ∷ Enter (stage.Run level.L3) 5 ∷ NewTable ((entry (codes "a") ((At
@@ -463,7 +463,7 @@ breach_of_turn-breaks = refl
 breach_of_turn-not_sound : is_sound (opening level.L3) breach_of_turn ≡ false
 breach_of_turn-not_sound = refl
 
--- forged: a level settled before anything
+-- forged: a level is settled before anything else
 abbrev settle_of_nothing : List Event
 settle_of_nothing = Settle level.L3 ∷ []
 
@@ -473,7 +473,7 @@ settle_of_nothing-breaks = refl
 settle_of_nothing-not_sound : is_sound (opening level.L3) settle_of_nothing ≡ false
 settle_of_nothing-not_sound = refl
 
--- forged: a birth before anything
+-- forged: a birth before anything else
 abbrev birth_of_nothing : List Event
 birth_of_nothing = Birth (codes "a") 1 ∷ []
 
@@ -483,7 +483,7 @@ birth_of_nothing-breaks = refl
 birth_of_nothing-not_sound : is_sound (opening level.L3) birth_of_nothing ≡ false
 birth_of_nothing-not_sound = refl
 
--- forged: a hold of an entry that the limit does not hold for
+-- forged: a hold of an entry to which the respawn limit does not apply
 abbrev hold_of_once : List Event
 hold_of_once = Hold (codes "a") ∷ NewTable ((entry (codes "a") ((At level.L3) ∷ []) act.Once (codes "x")) ∷ []) ∷ []
 
@@ -504,7 +504,7 @@ kill_of_nobody-breaks = refl
 kill_of_nobody-not_sound : is_sound (opening level.L3) kill_of_nobody ≡ false
 kill_of_nobody-not_sound = refl
 
--- forged: the eleventh start at once
+-- forged: eleven starts at once
 abbrev eleventh_start : List Event
 eleventh_start = Asked (codes "r") Start ∷ Asked (codes "r") Start ∷ Asked (codes "r") Start ∷ Asked (codes "r") Start
     ∷ Asked (codes "r") Start ∷ Asked (codes "r") Start ∷ Asked (codes "r") Start ∷ Asked (codes "r") Start
@@ -517,7 +517,7 @@ eleventh_start-breaks = refl
 eleventh_start-not_sound : is_sound (opening level.L3) eleventh_start ≡ false
 eleventh_start-not_sound = refl
 
--- wrong: a later entry is started while the waited one lives
+-- wrong: a later entry is started while the waited one is alive
 abbrev too_early : List Event
 too_early = Asked (codes "r") Start ∷ Told (codes "w") ∷ Birth (codes "w") 10 ∷ Asked (codes "w") Start
     ∷ Enter (stage.Run level.L3) 5 ∷ Enter stage.Boot 5 ∷ Enter stage.Sysinit 5 ∷ NewTable

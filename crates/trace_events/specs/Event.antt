@@ -1,4 +1,4 @@
--- One happening, in whichever memory its table lies, and what of it is an act of the system on an order.
+-- A happening, regardless of the memory that holds its table, and which happenings are acts of the system on an order.
 use Rattle.std.specs.Prelude.{ℕ, List, Option, Some, None}
 use Rattle.trace_events.specs.Words.{Entry, Answer}
 use Rattle.init_words.specs.declared.orders.Answer.TheVariants as answer
@@ -6,6 +6,7 @@ use Rattle.trace_events.specs.declared.happenings.Happening.{Happening}
 use Rattle.trace_events.specs.declared.happenings.Happening.TheVariants.{Birth, NoBirth, Reaped, Still, NoLook, Hit}
 use Rattle.trace_events.specs.declared.happenings.Happening.TheVariants.{Miss}
 
+-- a happening: its table is seen as the list of its entries
 abbrev pub Event : Type 0
 Event = Happening (List Entry)
 
@@ -14,10 +15,11 @@ pub record SystemAct : Type 0 where
   pub id : List ℕ
   pub answer : Answer
 
+-- the act on an id with this answer
 abbrev pub act_on : List ℕ → Answer → Option SystemAct
 act_on id given = Some (record { id = id; answer = given })
 
--- the act that a happening is; a death is none, since nothing was ordered
+-- the act that a happening is, if any; a death is not one, because it answers no order
 abbrev pub act_in : Event → Option SystemAct
 act_in (Birth id n) = act_on id (answer.Born n)
 act_in (NoBirth id) = act_on id answer.NotBorn

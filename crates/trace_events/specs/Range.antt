@@ -1,4 +1,4 @@
--- The happenings that a trace can hold.
+-- The ranges of the values in the happenings of a trace.
 use Rattle.std.specs.Prelude.{ℕ, Bool, true, ◌+◌, ◌^◌, ◌&&◌, nat_lt, List}
 use Rattle.std.specs.List.{list_all}
 use Rattle.init_words.specs.declared.children.Status.{Status}
@@ -15,30 +15,35 @@ use Rattle.trace_events.specs.declared.happenings.Handed.{Handed as HandOver}
 use Rattle.trace_events.specs.declared.happenings.Handed.TheVariants as handed
 use Rattle.trace_events.specs.Event.{Event}
 
--- the seconds between the two signals, at most an hour
+-- the seconds between SIGTERM and SIGKILL are at most an hour
 abbrev pub is_seconds : ℕ → Bool
 is_seconds seconds = nat_lt seconds (GRACE_LIMIT + 1)
 
+-- a child number has 32 bits
 abbrev pub is_number : ℕ → Bool
 is_number number = nat_lt number (2 ^ 32)
 
+-- a clock reading, a number of bytes or a generation has 64 bits
 abbrev pub is_count : ℕ → Bool
 is_count count = nat_lt count (2 ^ 64)
 
+-- an exit status has 8 bits
 abbrev pub is_status : Status → Bool
 is_status (Exit code) = nat_lt code 256
 is_status Killed = true
 
+-- the seconds of a request for a level are at most an hour
 abbrev pub is_request : Request → Bool
 is_request (got.Level level seconds) = is_seconds seconds
 is_request _ = true
 
+-- the number in the result of a hand-over has 64 bits
 abbrev pub is_hand_over : HandOver → Bool
 is_hand_over (handed.Cut bytes) = is_count bytes
 is_hand_over (handed.Older generation) = is_count generation
 is_hand_over _ = true
 
--- its id is an id, its table a table, and its numbers are in their ranges
+-- the id of the happening is an id, its table is a table, and its numbers are in their ranges
 abbrev pub is_in_range : Event → Bool
 is_in_range (NewTable table) = is_table table
 is_in_range (Enter stage seconds) = is_seconds seconds
@@ -61,7 +66,7 @@ is_in_range _ = true
 abbrev pub are_in_range : List Event → Bool
 are_in_range trace = list_all is_in_range trace
 
--- the seconds that it names are at most an hour
+-- the seconds that the happening names, if any, are at most an hour
 abbrev pub is_short : Event → Bool
 is_short (Enter stage seconds) = is_seconds seconds
 is_short (Got request) = is_request request

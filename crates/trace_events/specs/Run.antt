@@ -1,4 +1,5 @@
--- The run in which init takes first due steps until nothing is due, and only then the system or the edge goes on.
+-- Runs: traces in which init takes the first due step until it rests, and only then the system acts, or something
+-- passes between init and the system.
 use Rattle.std.specs.Prelude.{Bool, true, false, ◌&&◌, List, [], ◌∷◌, Option, Some, None}
 use Rattle.trace_events.specs.Words.{is_distinct}
 use Rattle.trace_events.specs.declared.happenings.Happening.TheVariants.{NewTable, NotRead, Enter, Call, Power, Asked}
@@ -10,7 +11,7 @@ use Rattle.trace_events.specs.Event.{Event}
 use Rattle.trace_events.specs.Due.{due, first, same_step}
 use Rattle.trace_events.specs.Sound.{may_come}
 
--- init waits for the world: nothing is due, or inittab is to be read, or init to be re-executed
+-- init rests: nothing is due, or the first due step is to read inittab or to re-execute init
 abbrev pub is_rest : Step → Bool
 is_rest step.Idle = true
 is_rest step.Reread = true
@@ -21,7 +22,7 @@ abbrev pub is_reread : Step → Bool
 is_reread step.Reread = true
 is_reread _ = false
 
--- the step of init that a happening is; a table is none, since a script names it
+-- the step of init that a happening is, if any; a table is not one, because a script supplies it
 abbrev pub step_in : Event → Option Step
 step_in (Enter stage grace) = Some (step.Enter stage grace)
 step_in (Call letter) = Some (step.Call letter)
@@ -31,17 +32,20 @@ step_in (Hold id) = Some (step.Hold id)
 step_in (Settle level) = Some (step.Settle level)
 step_in _ = None
 
+-- a step of init must be the first due step; any other happening comes only when init rests
 abbrev pub is_next_by : Step → Option Step → Bool
 is_next_by due_now None = is_rest due_now
 is_next_by due_now (Some taken) = same_step due_now taken
 
--- where this step is the first due, the happening is that step, or init waits for it
+-- the happening may be the next one of a run in which this step is the first due: a NewTable or NotRead comes only if
+-- inittab is to be read
 abbrev pub is_next : Step → Event → Bool
 is_next due_now (NewTable table) = is_reread due_now
 is_next due_now NotRead = is_reread due_now
 is_next due_now happening = is_next_by due_now (step_in happening)
 
--- a run: it begins with a table, and each later happening is the next one and may come
+-- a run: it begins with a table without repeated ids, and each later happening may come next both in a run and in a
+-- sound trace
 abbrev pub is_run : Goal → List Event → Bool
 is_run goal [] = false
 is_run goal (NewTable table ∷ []) = is_distinct table

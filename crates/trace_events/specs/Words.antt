@@ -1,4 +1,4 @@
--- The words of the definitions and clauses of this crate that come from others.
+-- Names from other crates that the definitions and clauses of this crate use.
 pub use Rattle.init_words.specs.Ids.{same_id, is_id}
 pub use Rattle.init_words.specs.declared.orders.Answer.{Answer}
 pub use Rattle.respawn_limit.specs.declared.TheConstants.{HOLD, STARTS, WINDOW, CLOCK_LIMIT}

@@ -1,12 +1,12 @@
-//! Sets of calls: news of the power, and letters.
+//! Sets of pending calls: power events and letters.
 
 ghost use Rattle.std.specs.Prelude.{◌≡◌, true, false};
-ghost use Rattle.trace_events.specs.CallSets.{keeps_kind, keeps_call, with_kind, with_call, has_news, first_news};
+ghost use Rattle.trace_events.specs.CallSets.{contains_kind, contains_letter, with_kind, with_call, has_news, first_pending_step};
 
 use crate::steps::Step;
 use init_words::{Letter, PowerKind};
 
-/// Some of what entries are called by: of the news of the power, and of the letters (telinit(8)).
+/// A set of power events and letters, each of which calls entries (telinit(8)).
 #[derive(Clone, Copy, Default, PartialEq, Eq)]
 pub struct CallSet {
     /// The power failed.
@@ -24,16 +24,17 @@ pub struct CallSet {
 }
 
 impl CallSet {
-    /// There is one in it.
+    /// Returns whether the set is not empty.
     pub fn is_some(&self) -> bool
         ensures { result ≡ has_news self.now }
     {
         self.fail || self.fail_now || self.ok || self.a || self.b || self.c
     }
 
-    /// The step that carries out what comes first: a failure, a low battery, power that is back, then the letters.
+    /// Returns the step that carries out the first call of the set: power failure, low battery, power restored, then
+    /// the letters.
     pub fn first_step(&self) -> Option<Step>
-        ensures { result ≡ first_news self.now }
+        ensures { result ≡ first_pending_step self.now }
     {
         if self.fail {
             return Some(Step::Power(PowerKind::Fail));
@@ -56,7 +57,7 @@ impl CallSet {
         None
     }
 
-    /// News of that kind is in it from here on, or no more.
+    /// Adds the power event to the set, or removes it.
     pub fn set_power(&mut self, kind: PowerKind, present: bool)
         ensures { self.new ≡ with_kind kind present self.old }
     {
@@ -67,7 +68,7 @@ impl CallSet {
         }
     }
 
-    /// The letter is in it from here on, or no more.
+    /// Adds the letter to the set, or removes it.
     pub fn set_letter(&mut self, letter: Letter, present: bool)
         ensures { self.new ≡ with_call letter present self.old }
     {

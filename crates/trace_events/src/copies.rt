@@ -1,4 +1,4 @@
-//! Copies of happenings.
+//! Copies happenings.
 
 ghost use Rattle.std.specs.Prelude.{◌≡◌, IfOk};
 
@@ -6,7 +6,7 @@ use crate::happenings::{Happening, HappeningIn};
 use init_words::Memory;
 use std::alloc::Allocator;
 
-/// The same happening in memory of the allocator.
+/// Copies a happening into memory of this allocator.
 pub fn happening_copy<A: Allocator + Copy, B: Allocator>(
     alloc: A,
     happening: &HappeningIn<B>,

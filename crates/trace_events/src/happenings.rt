@@ -1,36 +1,38 @@
-//! What happens in a run: steps of init, answers of its host, requests, readings, hand-overs.
+//! What happens in a run: steps of init, answers of its host, requests, clock readings, hand-overs.
 
 use init_words::{ChildNumber, Id, Letter, Level, OrderKind, PowerKind, Stage, Status};
 use initctl_frame::HeardRequest;
 use inittab_text::Table;
 
-/// One happening of a run. Acts of init: a table in force, `Enter` to `Settle`. Acts of the system: `Birth` to `Miss`.
-/// What passes between them: the rest. Seconds are whole; numbers of children are the system's.
+/// One happening of a run: a line of its trace.
+///
+/// `NewTable` and `Enter` to `Settle` are acts of init, `Birth` to `Miss` are acts of the system, and all others pass
+/// between the two. Times are in whole seconds; child numbers are those of the system.
 #[derive(Drop)]
 pub enum Happening<T = Table> {
-    /// This table is in force from here on.
+    /// This table is in force from now on.
     NewTable(T),
-    /// Inittab was to be read again and could not be.
+    /// Inittab was to be read again, but could not be read.
     NotRead,
-    /// A stage begins, with the given number of seconds between the two signals that stop a child.
+    /// A stage begins, with this number of seconds between SIGTERM and SIGKILL.
     Enter(Stage, u16),
     /// The ondemand entries of a letter are called.
     Call(Letter),
-    /// The entries for this news of the power are called.
+    /// The entries for a power event are called.
     Power(PowerKind),
-    /// An order to the system about one entry.
+    /// Init gives the system an order about an entry.
     Asked(Id, OrderKind),
-    /// A respawning entry is held for five minutes.
+    /// An entry that respawns too fast is held for five minutes.
     Hold(Id),
-    /// The runlevel is settled.
+    /// Init announces that the runlevel is settled.
     Settle(Level),
     /// A child was born.
     Birth(Id, ChildNumber),
     /// A start failed.
     NoBirth(Id),
-    /// The child of that number died.
+    /// The child with this number died.
     Death(ChildNumber),
-    /// A look found the child dead, and reaped it.
+    /// A look found that the child had died, and reaped it.
     Reaped(Id, ChildNumber, Status),
     /// A look found nothing to reap.
     Still(Id),
@@ -40,30 +42,30 @@ pub enum Happening<T = Table> {
     Hit(Id),
     /// A signal could not be sent.
     Miss(Id),
-    /// What the system did for the id's order was told to init.
+    /// Init was told what the system did on the order for this id.
     Told(Id),
-    /// A reading of the clock, in seconds.
+    /// A clock reading, in seconds.
     Clock(u64),
     /// A round begins: each child is to be looked at.
     Nudge,
-    /// A request was heard.
+    /// A request was received.
     Got(HeardRequest),
-    /// Init was to execute itself anew, and its state was handed over.
+    /// Init was to be re-executed, and its state was handed over.
     Handed(Handed),
 }
 
-/// How a hand-over of init's state went.
+/// The result of handing over init's state.
 #[derive(Clone, Copy, PartialEq, Eq)]
 pub enum Handed {
-    /// The text came back whole and was taken.
+    /// The text came back complete and was taken over.
     Whole,
-    /// Only the given number of its bytes came back.
+    /// Only this number of its bytes came back.
     Cut(u64),
     /// An older text came back, of this generation.
     Older(u64),
-    /// Nothing was made, carried or taken over.
+    /// No text was written, carried or taken over.
     Failed,
 }
 
-/// A happening whose table lies in memory of this allocator.
+/// A happening whose table is in memory of this allocator.
 pub type HappeningIn<A> = Happening<Table<A>>;

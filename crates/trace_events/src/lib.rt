@@ -1,5 +1,8 @@
-//! The trace of a run of init: what init did, what the system did, and what passed between them, one happening each.
-//! Its definitions say which steps init owes, which traces a sound system allows, and which laws they keep.
+//! The trace of a run of init: a list of happenings that records what init did, what the system did, and what passed
+//! between them.
+//!
+//! The definitions of this crate say which steps init owes, which traces a sound system allows, and which laws those
+//! traces obey.
 #![tactic(auto)]
 
 mod call_sets;

@@ -1,4 +1,4 @@
-//! The numbers that a happening can have: ids, child numbers, statuses.
+//! The ranges of the values in a happening: ids, child numbers, statuses.
 
 ghost use Rattle.std.specs.Prelude.{◌≡◌, ◌+◌, ◌^◌, ◌<◌, true};
 ghost use Rattle.trace_events.specs.Words.{is_id};
@@ -8,7 +8,7 @@ use crate::happenings::{Handed, Happening, HappeningIn};
 use init_words::{ChildNumber, Id, Status};
 use std::alloc::Allocator;
 
-// What each value is by its type.
+// The range of each value follows from its type.
 
 fn of_id(id: &Id)
     ensures { is_id id.now ≡ true }
@@ -38,8 +38,8 @@ fn of_hand_over(how: &Handed)
     }
 }
 
-/// A happening can stand in a trace where its seconds are at most an hour: all else that it says is in range by its
-/// type. It does nothing: its contract is the law.
+/// States that the values of a happening are in range if its seconds are at most an hour, because the types bound all
+/// other values. The function does nothing: its contract is the law.
 pub fn law_of_ranges<A: Allocator>(happening: &HappeningIn<A>)
     ensures { is_short happening.now ≡ true → is_in_range happening.now ≡ true }
 {

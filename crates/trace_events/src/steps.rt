@@ -1,44 +1,45 @@
-//! The steps of init, and the goal that it works at; which of them are due is said in `specs/Due`.
+//! The steps of init, and the goal towards which it works. `specs/Due` defines which steps are due.
 //!
-//! Tested by all that reads or makes a trace: the rows of `test_traces` and `test_core`. A new step changes its text
-//! (`trace_text`), its laws and the core: the prover names each place.
+//! The steps are tested by everything that reads or writes traces: the rows of `test_traces` and `test_core`. A new
+//! step also needs a text (`trace_text`), its laws, and a place in the core; the prover points out each of these
+//! places.
 
 ghost use Rattle.std.specs.Prelude.{◌≡◌};
 ghost use Rattle.trace_events.specs.Wishes.{in_run, is_level};
 
 use init_words::{Id, Letter, Level, OrderKind, PowerKind, Stage};
 
-/// What init does next.
+/// The next step of init.
 #[derive(Clone, Copy, PartialEq, Eq)]
 pub enum Step {
-    /// Enter a stage, with the given number of seconds between the two signals that stop a child.
+    /// Enter a stage, with this number of seconds between SIGTERM and SIGKILL.
     Enter(Stage, u16),
     /// Call the ondemand entries of a letter.
     Call(Letter),
-    /// Call the entries for news of the power.
+    /// Call the entries for a power event.
     Power(PowerKind),
     /// Read inittab again.
     Reread,
-    /// Give the system an order about one entry.
+    /// Give the system an order about an entry.
     Order(Id, OrderKind),
-    /// Hold a respawning entry for five minutes.
+    /// Hold an entry that respawns too fast for five minutes.
     Hold(Id),
     /// Announce that the runlevel is settled.
     Settle(Level),
-    /// Re-execute init, and keep its state.
+    /// Re-execute init and keep its state.
     Reexec,
     /// Nothing is due.
     Idle,
 }
 
-/// The runlevel to go to, and the seconds between the two signals that stop a child.
+/// The runlevel to change to, and the seconds between SIGTERM and SIGKILL.
 #[derive(Clone, Copy, PartialEq, Eq)]
 pub struct Goal {
     pub level: Level,
     pub grace: u16,
 }
 
-/// The stage is this runlevel.
+/// Returns whether the stage is this runlevel.
 pub fn is_level(level: Level, stage: Option<Stage>) -> bool
     ensures { result ≡ is_level level stage }
 {
@@ -48,7 +49,7 @@ pub fn is_level(level: Level, stage: Option<Stage>) -> bool
     }
 }
 
-/// The stage is a runlevel.
+/// Returns whether the stage is a runlevel.
 pub fn in_run(stage: Option<Stage>) -> bool
     ensures { result ≡ in_run stage }
 {

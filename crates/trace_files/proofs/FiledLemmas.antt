@@ -1,4 +1,4 @@
--- What moving bytes into the files, and the text of a happening behind them, make of what a log over files took.
+-- How writing kept bytes to the files, and adding the text of a happening, changes what a log over files took.
 use Rattle.std.proofs.Common.{◌≡◌, refl, sym, ap, ◌∙◌, subst, ◌⊎◌, inl, inr, ℕ, Bool, true, false, ◌&&◌, List, [], ◌∷◌}
 use Rattle.std.proofs.Common.{◌++◌, append-nil, append_assoc, Option, Some, None, Result, Ok, Err, OnOk}
 use Rattle.std.proofs.lemmas.List.Folds.{list_all-append}
@@ -10,9 +10,10 @@ use Rattle.trace_events.specs.Event.{Event}
 use Rattle.trace_events.specs.Range.{is_in_range}
 use Rattle.trace_text.specs.Lines.{event_text, trace_text}
 use Rattle.trace_text.proofs.ReadTexts.{trace_text-push, are_in_range-push}
-use Rattle.trace_log.specs.Logs.{Gains}
-use Rattle.init_turns.specs.Crashes.{is_of_idle_look}
-use Rattle.trace_files.specs.Filed.{Adds, Filed, HasText, HoldsLook, IsStill, KnowsText, LacksLooks, MayMove, Moves}
+use Rattle.trace_log.specs.Logs.{AcceptsHappening}
+use Rattle.supervisor.specs.Crashes.{is_of_idle_look}
+use Rattle.trace_files.specs.Filed.{AddsHappening, Filed, HasText, HoldsLook, FilesUnchanged, KnowsText, LacksLooks}
+use Rattle.trace_files.specs.Filed.{MayFlush, Flushes}
 use Rattle.trace_files.specs.Filed.{filed_state}
 
 -- files that have the whole text lack nothing
@@ -27,7 +28,7 @@ lacks_none trace bytes unwritten whole none = record {
   idle = refl;
 }
 
--- a happening more
+-- one more happening of a look that found nothing is kept
 lacks_more : (trace : List Event) (bytes unwritten : List ℕ) (h : Event) → is_of_idle_look h ≡ true
     → LacksLooks trace bytes unwritten → LacksLooks (trace ++ h ∷ []) bytes (unwritten ++ event_text h)
 lacks_more trace bytes unwritten h idle lacks = record {
@@ -87,22 +88,23 @@ module _ {S : Type 0} (contents : S → Option (List ℕ)) where
   abbrev Knows : Filed S → List Event → Type 0
   Knows log trace = KnowsText log.refused trace (contents log.files) log.unwritten
 
-  knows_moved : (old new : Filed S) (trace : List Event) → Moves contents old new → Knows old trace → Knows new trace
+  knows_moved : (old new : Filed S) (trace : List Event) → Flushes contents old new → Knows old trace → Knows new trace
   knows_moved old new trace moves = moved (contents old.files)
       (contents new.files) old.refused new.refused old.unwritten new.unwritten trace moves.all moves.empties
 
-  knows_still : (old new : Filed S) (trace : List Event) → IsStill contents old new → Knows old trace → Knows new trace
+  knows_still : (old new : Filed S) (trace : List Event) → FilesUnchanged contents old new → Knows old trace
+      → Knows new trace
   knows_still old new trace still has =
       subst (λ unwritten. KnowsText new.refused trace (contents new.files) unwritten) (sym still.unwritten)
       (subst (λ refused. KnowsText refused trace (contents new.files) old.unwritten) (sym still.refused)
       (stood (contents old.files) (contents new.files) old.refused old.unwritten trace still.files has))
 
-  knows_may : (old new : Filed S) (trace : List Event) → MayMove contents old new → Knows old trace → Knows new trace
+  knows_may : (old new : Filed S) (trace : List Event) → MayFlush contents old new → Knows old trace → Knows new trace
   knows_may old new trace (inl moves) = knows_moved old new trace moves
   knows_may old new trace (inr still) = knows_still old new trace still
 
-  knows_added : (old new : Filed S) (h : Event) (trace : List Event) → is_in_range h ≡ true → Adds contents old new h
-      → Knows old trace → Knows new (trace ++ h ∷ [])
+  knows_added : (old new : Filed S) (h : Event) (trace : List Event) → is_in_range h ≡ true
+      → AddsHappening contents old new h → Knows old trace → Knows new (trace ++ h ∷ [])
   knows_added old new h trace ranged adds =
       added (contents old.files)
       (contents new.files) old.refused new.refused old.unwritten new.unwritten h trace ranged adds.all
@@ -114,28 +116,28 @@ module _ {S : Type 0} (contents : S → Option (List ℕ)) where
       by (inl none) = inl none
       by (inr holds) = inr (holds.files, holds.idle, holds.unwritten, holds.refused)
 
-  -- ---- a happening that was taken, or not
+  -- A happening that was taken, or not.
 
   abbrev Written : Filed S → Filed S → Event → Type 0
-  Written old new h = (mid : Filed S) × (more : Filed S) × MayMove contents old mid × Adds contents mid more h
-      × IsStill contents more new
+  Written old new h = (mid : Filed S) × (more : Filed S) × MayFlush contents old mid × AddsHappening contents mid more h
+      × FilesUnchanged contents more new
 
-  -- the log is as it was written to, but for whether it has failed
+  -- the log is as it was after writing, except for the flag that it has failed
   pub taken_ok : {X E : Type 0} (result : Result X E) (old new log : Filed S) (h : Event) (failed : Bool) → log ≡ new
       → OnOk result (Written old new h)
       → OnOk result (is_in_range h ≡ true
-      → Gains (filed_state contents old) (filed_state contents (record log { failed = failed })) h)
+      → AcceptsHappening (filed_state contents old) (filed_state contents (record log { failed = failed })) h)
   taken_ok (Ok x) old new log h failed is (mid, more, moves, adds, still) = λ ranged trace has.
       subst (λ log. Knows log (trace ++ h ∷ [])) (sym is)
       (knows_still more new (trace ++ h ∷ []) still
       (knows_added mid more h trace ranged adds (knows_may old mid trace moves has)))
   taken_ok (Err e) old new log h failed is written = tt
 
-  pub still_refl : (log : Filed S) → IsStill contents log log
+  pub still_refl : (log : Filed S) → FilesUnchanged contents log log
   still_refl log = record { files = Keeps-refl (contents log.files); unwritten = refl; refused = refl; failed = refl }
 
-  -- a happening was added behind what may have moved, and that was told
-  pub written_so : (old mid more last new : Filed S) (h : Event) → MayMove contents old mid → Adds contents mid more h
-      → last ≡ more → IsStill contents last new → Written old new h
+  -- a happening was added after kept bytes may have been written, and then only warnings were printed
+  pub written_so : (old mid more last new : Filed S) (h : Event) → MayFlush contents old mid
+      → AddsHappening contents mid more h → last ≡ more → FilesUnchanged contents last new → Written old new h
   written_so old mid more last new h moves adds is still =
-      (mid, more, moves, adds, subst (λ log. IsStill contents log new) is still)
+      (mid, more, moves, adds, subst (λ log. FilesUnchanged contents log new) is still)

@@ -1,4 +1,4 @@
--- What the files of a trace have of a run that was killed.
+-- What the trace files contain after a run was killed.
 use Rattle.std.proofs.Common.{◌≡◌, refl, sym, ap, ◌∙◌, subst, true, false, ◌&&◌, ℕ, List, [], ◌∷◌, ◌++◌, reverse}
 use Rattle.std.proofs.lemmas.Bool.{and_from, and_parts}
 use Rattle.std.proofs.lemmas.List.{reverse-append, reverse-reverse}
@@ -8,8 +8,8 @@ use Rattle.trace_events.specs.declared.steps.Goal.{Goal}
 use Rattle.trace_events.specs.Event.{Event}
 use Rattle.trace_text.specs.Lines.{trace_text}
 use Rattle.host_calls.specs.Calls.{HostCall}
-use Rattle.init_turns.specs.Crashes.{Leaves, is_of_idle_look}
-use Rattle.init_turns.proofs.Crashes.{leaves_in}
+use Rattle.supervisor.specs.Crashes.{LeftByCrash, is_of_idle_look}
+use Rattle.supervisor.proofs.Crashes.{leaves_in}
 use Rattle.trace_files.specs.Filed.{HasText}
 use Rattle.trace_files.specs.Left.{LeavesFiles}
 
@@ -24,7 +24,7 @@ all_turned (h ∷ held) idle =
 
 module _ (call : HostCall) (goal : Goal) (world : List Event) (bytes : List ℕ) where
   by : (held past : List Event) → list_all is_of_idle_look held ≡ true → trace_text (reverse past) ≡ bytes
-      → (bytes ≡ [] → ⊥) → Leaves call goal (held ++ past) world → LeavesFiles call goal bytes world
+      → (bytes ≡ [] → ⊥) → LeftByCrash call goal (held ++ past) world → LeavesFiles call goal bytes world
   by held [] idle text some left = absurd (some (sym text))
   by held (last ∷ past) idle text some left = record {
     trace = last ∷ past;
@@ -33,10 +33,10 @@ module _ (call : HostCall) (goal : Goal) (world : List Event) (bytes : List ℕ)
   }
 
   pub files_left : (trace : List Event) (unwritten : List ℕ) → HasText false trace bytes unwritten → (bytes ≡ [] → ⊥)
-      → Leaves call goal (reverse trace) world → LeavesFiles call goal bytes world
+      → LeftByCrash call goal (reverse trace) world → LeavesFiles call goal bytes world
   files_left trace unwritten has some left =
       let lacks = has.lacks refl in
       by (reverse lacks.held) (reverse lacks.written) (all_turned lacks.held lacks.idle)
       (ap trace_text (reverse-reverse lacks.written) ∙ lacks.of_files) some
-      (subst (λ past. Leaves call goal past world)
+      (subst (λ past. LeftByCrash call goal past world)
       (ap reverse (sym lacks.all) ∙ reverse-append lacks.written lacks.held) left)

@@ -1,10 +1,10 @@
-//! The log of a trace in files.
+//! A log that writes a trace to files.
 
 ghost use Rattle.std.specs.Prelude.{◌≡◌, [], false, IfSome, OnOk, OnErr, IsTrue};
 ghost use Rattle.std.specs.Io.KnownBytes.{Appends, Keeps};
 ghost use Rattle.trace_text.specs.Lines.{event_text};
-ghost use Rattle.init_turns.specs.Crashes.{is_of_idle_look};
-ghost use Rattle.trace_files.specs.Filed.{Adds, Filed, IsStill, MayMove, Moves, all_bytes, filed_state};
+ghost use Rattle.supervisor.specs.Crashes.{is_of_idle_look};
+ghost use Rattle.trace_files.specs.Filed.{AddsHappening, Filed, FilesUnchanged, MayFlush, Flushes, all_bytes, filed_state};
 
 use crate::files::TraceFiles;
 use crate::fronts::{drop_front, write_front};
@@ -18,20 +18,22 @@ use trace_events::{Handed, Happening, HappeningIn};
 use trace_log::{EndedLog, Log, LogFault};
 use trace_text::print_one;
 
-/// How many bytes of a trace are kept while its file can't be written.
+/// The maximum number of bytes of a trace that are kept while its file cannot be written.
 const UNWRITTEN_LIMIT: usize = 1_048_576;
 
-/// How many bytes of looks that found nothing are written at once.
+/// The number of bytes of looks that found nothing after which they are written.
 const WRITE_LENGTH: usize = 16_384;
 
-/// The log of a trace in files. The pieces one behind the other are the trace: where the file is gone from its path when
-/// init has re-executed itself, the trace goes on in a new one there; and one that has grown to a length is put away at
-/// the end of a turn, where that is asked for. Looks that found nothing are kept, to be written with what comes next in one
-/// write.
+/// A log that writes a trace to files, whose contents one after the other are the trace.
 ///
-/// Where the file can't be written, that is told on standard error, and what it doesn't take is kept in memory until it
-/// does: then nothing of the trace is missing, and that is told. Where more than a mebibyte would be kept the log fails,
-/// with what is kept: the trace ends there. It isn't whole at its end either where the file has not taken all by then.
+/// If the file is no longer at its path when init has re-executed, the trace continues in a new file there. A file that
+/// has reached a given length is put away at the end of a turn, if that was requested. Looks that found nothing are
+/// kept, and written together with what comes next.
+///
+/// If the file cannot be written, this is reported on standard error, and the text is kept in memory until it can be;
+/// then nothing of the trace is missing, which is reported too. If more than a mebibyte would have to be kept, the log
+/// fails with what it keeps, and the trace ends there. The trace is not complete at its end either if the file has not
+/// accepted all of it by then.
 #[derive(Drop)]
 pub struct FileLog<'a, R, S> {
     rt: &'a R,
@@ -39,12 +41,12 @@ pub struct FileLog<'a, R, S> {
     path: &'a str,
     files: S,
     unwritten: Vec<u8>,
-    /// Why it could not be written last.
+    /// The error of the last write, if it failed.
     fault: Option<io::Error>,
-    /// At which length in bytes a file is put away, and by how much more where that can't be done.
+    /// The length in bytes at which a file is put away, and by how much this is raised if that fails.
     put_away_at: u64,
     step: u64,
-    /// It was told that bytes are kept.
+    /// Whether it was reported that bytes are being kept.
     is_waiting: bool,
     failed: bool,
 }
@@ -64,8 +66,8 @@ impl<'a, R, S> Model for FileLog<'a, R, S> {
 }
 
 impl<'a, R: Eprint, S: TraceFiles> FileLog<'a, R, S> {
-    /// The log of the trace at the path over files that have taken nothing; and of how many bytes at least a file is put
-    /// away.
+    /// Creates the log of the trace at `path` over files that have taken nothing. With a `size`, a file of at least
+    /// that many bytes is put away.
     pub fn new(
         rt: &'a R,
         alloc: Global,
@@ -94,12 +96,13 @@ impl<'a, R: Eprint, S: TraceFiles> FileLog<'a, R, S> {
         }
     }
 
-    /// Writes a happening, and goes on in a new file where it is time to.
+    /// Writes a happening, and continues in a new file if it is time to.
     fn write<B: Allocator>(&mut self, happening: &HappeningIn<B>) -> Result<(), LogFault>
         ensures ok { OnOk result
-            ((mid : Filed S) × (more : Filed S) × MayMove S.contents self.old mid
-            × Adds S.contents mid more happening.now × IsStill S.contents more self.new) }
-        ensures err { OnErr result (MayMove S.contents self.old self.new) }
+            ((mid : Filed S) × (more : Filed S) × MayFlush S.contents self.old mid
+            × AddsHappening S.contents mid more happening.now
+            × FilesUnchanged S.contents more self.new) }
+        ensures err { OnErr result (MayFlush S.contents self.old self.new) }
     {
         if matches!(happening, Happening::Clock(_)) {
             self.put_away();
@@ -115,8 +118,8 @@ impl<'a, R: Eprint, S: TraceFiles> FileLog<'a, R, S> {
         Ok(())
     }
 
-    /// A look that found nothing is kept: the next happening that is of none is the next reading of the clock at the
-    /// latest.
+    /// Returns whether the text of a happening may be kept for now, because it belongs to a look that found nothing. A
+    /// happening of another kind follows, at the latest with the next reading of the clock.
     fn can_wait<B: Allocator>(&self, happening: &HappeningIn<B>) -> bool
         ensures { IsTrue result → IsTrue (is_of_idle_look happening.now) }
     {
@@ -128,9 +131,9 @@ impl<'a, R: Eprint, S: TraceFiles> FileLog<'a, R, S> {
         is_idle && self.unwritten.len() < WRITE_LENGTH
     }
 
-    /// Writes the lines of a happening, or keeps them. Neither is done where too many bytes are kept.
+    /// Writes the text of a happening or keeps it. Fails and does neither if too many bytes are kept already.
     fn add<B: Allocator>(&mut self, happening: &HappeningIn<B>) -> Result<(), LogFault>
-        ensures ok { OnOk result (Adds S.contents self.old self.new happening.now) }
+        ensures ok { OnOk result (AddsHappening S.contents self.old self.new happening.now) }
         ensures err { OnErr result (self.new ≡ self.old) }
     {
         let line = print_one(self.alloc, happening)?;
@@ -148,9 +151,9 @@ impl<'a, R: Eprint, S: TraceFiles> FileLog<'a, R, S> {
         Ok(())
     }
 
-    /// Writes what is kept, as far as the files take it.
+    /// Writes the bytes that are kept, as far as the files accept them.
     fn catch_up(&mut self)
-        ensures { Moves S.contents self.old self.new }
+        ensures { Flushes S.contents self.old self.new }
     {
         if let Err(error) = self.files.begin(self.path) {
             self.fault = Some(error);
@@ -161,7 +164,7 @@ impl<'a, R: Eprint, S: TraceFiles> FileLog<'a, R, S> {
         self.fault = fault;
     }
 
-    /// Tells that bytes are kept since the file can't be written, and that it was.
+    /// Reports that bytes are kept because the file cannot be written, and later that they were written.
     fn tell_waiting(&mut self)
         ensures { self.new ≡ self.old }
     {
@@ -170,46 +173,46 @@ impl<'a, R: Eprint, S: TraceFiles> FileLog<'a, R, S> {
             Some(error) if !self.is_waiting => {
                 self.is_waiting = true;
                 let _ = eprintln!(self.rt;
-                    "initd: cannot write the trace {path}: {}: up to 1,048,576 bytes of it are kept until there is room",
+                    "initd: cannot write the trace {path}: {}; up to 1,048,576 bytes of it are kept until there is room",
                     Reason(error)
                 );
             }
             None if self.is_waiting => {
                 self.is_waiting = false;
                 let _ = eprintln!(self.rt;
-                    "initd: the trace {path} is written again, and nothing of it is missing"
+                    "initd: the trace {path} can be written again, and nothing of it is missing"
                 );
             }
             _ => {}
         }
     }
 
-    /// Says why a happening could not be written.
+    /// Reports why a happening could not be written.
     fn tell_failed(&self, fault: LogFault) {
         let path = self.path;
         let _ = match &self.fault {
             Some(error) => eprintln!(self.rt;
-                "initd: cannot write the trace {path}: {}: init goes on without it",
+                "initd: cannot write the trace {path}: {}; init continues without it",
                 Reason(error)
             ),
             None => eprintln!(self.rt;
-                "initd: cannot write the trace {path}: {fault}: init goes on without it"
+                "initd: cannot write the trace {path}: {fault}; init continues without it"
             ),
         };
     }
 
-    /// Tells why a piece that is to be taken away isn't.
+    /// Reports why an old piece that should be removed could not be.
     fn tell_untaken(&self, fault: &io::Error) {
         let path = self.path;
         let _ = eprintln!(self.rt;
-            "initd: cannot take old pieces of the trace {path} away: {}: remove what {path}.0.pieces calls taken",
+            "initd: cannot remove old pieces of the trace {path}: {}; remove those that {path}.0.pieces lists as taken",
             Reason(fault)
         );
     }
 
-    /// Goes on in a new file, where there is none at the path.
+    /// Continues in a new file if there is none at the path.
     fn begin_anew(&mut self)
-        ensures { IsStill S.contents self.old self.new }
+        ensures { FilesUnchanged S.contents self.old self.new }
     {
         let path = self.path;
         let _ = match self.files.begin_anew(path) {
@@ -218,20 +221,20 @@ impl<'a, R: Eprint, S: TraceFiles> FileLog<'a, R, S> {
                 Ok(())
             }
             Err(error) if error.kind() != ErrorKind::AlreadyExists => eprintln!(self.rt;
-                "initd: trace {path}: {}: it goes on in the file that was there before",
+                "initd: trace {path}: {}; it continues in the previous file",
                 Reason(&error)
             ),
             Err(_) if self.is_waiting => eprintln!(self.rt;
-                "initd: the trace {path} is not written still: rename the file, and give telinit u, to go on in a new one"
+                "initd: the trace {path} still cannot be written; rename the file and run telinit u to continue in a new one"
             ),
             Err(_) => Ok(()),
         };
     }
 
-    /// Puts the file away as the next piece, and goes on in a new one, where it has grown so far and has taken all. Where
-    /// that can't be done it goes on in the same one.
+    /// Puts the file away as the next piece and continues in a new one, if it is long enough and has accepted
+    /// everything. If that is not possible, the log continues in the same file.
     fn put_away(&mut self)
-        ensures { MayMove S.contents self.old self.new }
+        ensures { MayFlush S.contents self.old self.new }
     {
         if self.files.length() < self.put_away_at {
             return;
@@ -251,7 +254,7 @@ impl<'a, R: Eprint, S: TraceFiles> FileLog<'a, R, S> {
             Err(error) => {
                 self.put_away_at = self.files.length().saturating_add(self.step);
                 let _ = eprintln!(self.rt;
-                    "initd: cannot put the trace {path} away: {}: it goes on in the same file",
+                    "initd: cannot rotate the trace {path}: {}; it continues in the same file",
                     Reason(&error)
                 );
             }
@@ -262,7 +265,7 @@ impl<'a, R: Eprint, S: TraceFiles> FileLog<'a, R, S> {
 impl<R: Eprint, S: TraceFiles> Log for FileLog<'_, R, S> {
     ghost use Rattle.std.specs.Prelude.{◌≡◌, true, false, is_err, OnOk, OnErr};
     ghost use Rattle.trace_events.specs.Range.{is_in_range};
-    ghost use Rattle.trace_log.specs.Logs.{Gains, Stays};
+    ghost use Rattle.trace_log.specs.Logs.{AcceptsHappening, Stays};
     ghost use Rattle.trace_files.specs.Filed.{filed_state};
 
     ghost state = { filed_state S.contents };
@@ -285,7 +288,7 @@ impl<R: Eprint, S: TraceFiles> EndedLog for FileLog<'_, R, S> {
 
     ghost has_ended = { λ files whole trace. KnowsEnd whole trace (S.contents files) };
 
-    /// The files, and whether they took all of the trace.
+    /// Returns the files, and whether they accepted the whole trace.
     fn end(mut self) -> (S, bool) {
         self.catch_up();
         let is_written = self.fault.is_none();

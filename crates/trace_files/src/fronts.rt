@@ -1,4 +1,4 @@
-//! The front of a text, written and let go.
+//! Writing and dropping the first bytes of a text.
 
 ghost use Rattle.std.specs.Prelude.{◌≡◌, ◌≤◌, length, take, drop, IfNone};
 ghost use Rattle.std.specs.Io.KnownBytes.{Appends};
@@ -6,7 +6,8 @@ ghost use Rattle.std.specs.Io.KnownBytes.{Appends};
 use std::io;
 use std::io::{ErrorKind, Write};
 
-/// Writes a text as far as it is taken. Gives how many of its bytes were, and why not all.
+/// Writes as much of a text as the writer accepts. Returns the number of bytes written and, if that is not all of them,
+/// the error.
 pub(crate) fn write_front<W: Write>(out: &mut W, text: &[u8]) -> (usize, Option<io::Error>)
     ensures written { Appends (W.contents out.old) (W.contents out.new) (take result.0 text.now) }
     ensures most { result.0 ≤ length text.now }
@@ -23,7 +24,7 @@ pub(crate) fn write_front<W: Write>(out: &mut W, text: &[u8]) -> (usize, Option<
     (done, None)
 }
 
-/// Lets the first bytes go.
+/// Removes the first `count` bytes.
 pub(crate) fn drop_front(bytes: &mut Vec<u8>, count: usize)
     requires { count ≤ length bytes.old.items }
     ensures { bytes.new.items ≡ drop count bytes.old.items }

@@ -1,4 +1,5 @@
-//! The files of a trace that is written: what init puts away, goes on in, and keeps until a file takes it.
+//! Writes a trace to files: puts a file away when it is long enough, continues in a new one, and keeps text in memory
+//! until a file accepts it.
 #![tactic(auto)]
 
 mod file_logs;

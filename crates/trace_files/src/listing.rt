@@ -1,4 +1,4 @@
-//! The list of a trace's pieces, as init adds to it.
+//! Appends to the list of a trace's pieces.
 
 use program_io::{Reason, refuse_too_large, write_text};
 use std::alloc::Global;
@@ -9,11 +9,12 @@ use std::os::unix::fs::{FileExt, OpenOptionsExt};
 use std::rt::Files;
 use trace_pieces::{ListLine, is_list, line_text};
 
-/// How many bytes of a file show that it is a list.
+/// The number of bytes at the start of a file from which a list is recognized.
 const FRONT: usize = 256;
 
-/// Adds a line to the list at a path, which is made with a mode where it is missing; nothing is added through a link. Where
-/// a line was cut off, this one is set apart from it. An error names the list.
+/// Appends a line to the list at `path`, which is created with the given mode if it does not exist. Symbolic links are
+/// not followed. If the last line of the list is incomplete, the new line is separated from it. An error names the
+/// list.
 pub(crate) fn append_line<R: Files<File = File>>(
     rt: &R,
     alloc: Global,
@@ -38,7 +39,7 @@ fn append<R: Files<File = File>>(
     let text = line_text(alloc, line)?;
     let length = file.metadata()?.len();
     if !is_list_front(&file)? {
-        return Err(io::Error::other("it is no list of pieces"));
+        return Err(io::Error::other("not a list of pieces"));
     }
     let text = if is_cut_off(&file, length)? {
         format!(in alloc; "\n{text}")?
@@ -49,7 +50,7 @@ fn append<R: Files<File = File>>(
     write_text(&mut file, text.as_bytes())
 }
 
-/// An error with the path that it is of in front.
+/// Prefixes an error with the path that it concerns.
 pub(crate) fn of_path(alloc: Global, path: &str, error: &io::Error) -> io::Error {
     match format!(in alloc; "{path}: {}", Reason(error)) {
         Ok(message) => io::Error::other(message.as_str()),
@@ -57,13 +58,13 @@ pub(crate) fn of_path(alloc: Global, path: &str, error: &io::Error) -> io::Error
     }
 }
 
-/// The list at a path, to read and to add to.
+/// Opens the list at `path` for reading and appending.
 fn opened<R: Files<File = File>>(rt: &R, path: &str, mode: u32) -> io::Result<File> {
     let mut options = OpenOptions::new();
     options.read(true).append(true).mode(mode);
     match symlink_metadata(rt, path) {
         Ok(found) if found.is_file() => options.open(rt, path),
-        Ok(_) => Err(io::Error::other("it is no plain file")),
+        Ok(_) => Err(io::Error::other("not a regular file")),
         Err(error) if error.kind() == ErrorKind::NotFound => options
             .create_new(true)
             .open(rt, path),
@@ -71,7 +72,7 @@ fn opened<R: Files<File = File>>(rt: &R, path: &str, mode: u32) -> io::Result<Fi
     }
 }
 
-/// A file has a line of a list in front, or none but one that was cut off.
+/// Returns whether a file begins with a line of a list, or has no complete line in its first bytes.
 fn is_list_front(file: &File) -> io::Result<bool> {
     let mut front = [0; FRONT];
     let count = file.read_at(&mut front, 0)?;
@@ -79,7 +80,7 @@ fn is_list_front(file: &File) -> io::Result<bool> {
     Ok(is_list(front) || !front.contains(&b'\n'))
 }
 
-/// The last byte of a file of this length is no newline.
+/// Returns whether the last byte of a file of this length is not a newline.
 fn is_cut_off(file: &File, length: u64) -> io::Result<bool> {
     if length == 0 {
         return Ok(false);

@@ -1,4 +1,4 @@
-//! The files of a trace in the operating system.
+//! The files of a trace in the file system.
 
 ghost use Rattle.std.specs.Prelude.{◌≡◌, ◌++◌, [], take, Some};
 
@@ -18,20 +18,23 @@ use trace_pieces::{
     ListLine, Piece, PieceList, are_same, list_path, newest_piece, number_of_file, piece_path,
 };
 
-/// How often the lock of a trace is asked for, since one that asks whether an init lives holds it too, for a moment.
+/// The number of attempts to take the lock of a trace. A program that checks whether an init is running also holds the
+/// lock for a moment.
 const LOCK_TRIES: u32 = 100;
 
-/// How many names are tried for the file that is to come to the path of a trace.
+/// The number of names that are tried for the new file of a trace.
 const NAMES: u32 = 100;
 
-/// The bits of a mode that say who may read and write.
+/// The permission bits for reading and writing.
 const MODES: u32 = 0o666;
 
-/// The error by which link(2) says that a file system has no links (EPERM).
+/// The error number by which link(2) reports that a file system has no hard links (EPERM).
 const NO_LINKS: i32 = 1;
 
-/// Takes the lock of a trace, a plain file, where the file system has locks: it is released where the file is dropped,
-/// and tells until then that init lives. False where another run holds it.
+/// Takes the lock of a trace, and returns false if another run holds it.
+///
+/// The lock shows that init is running; it is released when the file is dropped. If the file is not a plain file, or
+/// its file system has no locks, the function returns true without a lock.
 pub fn takes_lock(file: &File) -> bool {
     if !file.metadata().is_ok_and(|found| found.is_file()) {
         return true;
@@ -45,7 +48,7 @@ pub fn takes_lock(file: &File) -> bool {
     false
 }
 
-/// Bytes. None are ever made: it is the type of what is noted.
+/// A list of bytes that exists in proofs only: it is the type of a note, and no value of it is ever created.
 pub struct ByteList {
     bytes: Vec<u8>,
 }
@@ -58,7 +61,7 @@ impl Model for ByteList {
     ghost view = { λ list. list.bytes.items };
 }
 
-/// How the note of no bytes is read.
+/// Marks the note of no bytes.
 struct Empty;
 
 impl Reads<(), ByteList> for Empty {
@@ -67,7 +70,7 @@ impl Reads<(), ByteList> for Empty {
     ghost value = { λ _. [] };
 }
 
-/// How the note of more bytes is read: so many of a buffer's first.
+/// Marks the note of more bytes: the bytes noted before, followed by the first bytes of a buffer.
 struct Taken;
 
 impl<'a> Reads<(&'a Noted<ByteList>, &'a [u8], usize), ByteList> for Taken {
@@ -76,29 +79,31 @@ impl<'a> Reads<(&'a Noted<ByteList>, &'a [u8], usize), ByteList> for Taken {
     ghost value = { λ taken. taken.0.now.value ++ take taken.2 taken.1.now };
 }
 
-/// The files of a trace in the operating system: the one that is written to, which is begun anew where the first bytes
-/// come, so that what stood in it is there until then; and behind one that is put away another. Beside them stands the list
-/// of those that were put away. Proofs alone can read the bytes that they have taken.
+/// The files of a trace in the file system.
+///
+/// One file is being written. Its previous contents are removed only when the first bytes are written. When it is put
+/// away, another one follows it. Beside the files is the list of those that were put away. Only proofs can read the
+/// bytes that the files have taken.
 #[derive(Drop)]
 pub struct OsFiles<'a, R> {
     rt: &'a R,
     alloc: Global,
     file: File,
     is_begun: bool,
-    /// How many bytes it took.
+    /// The number of bytes that the file has taken.
     length: u64,
-    /// The least number that a piece of the run can have.
+    /// The lowest number that a piece of this run can have.
     first: u64,
-    /// What the list lacks of the file that was put away last.
+    /// The line on the file put away last, if it is not in the list yet.
     unlisted: Option<ListLine>,
-    /// How many pieces of the run are kept, where not all are; and those that the list has.
+    /// The number of pieces of this run to keep, if not all are kept, and the pieces in the list.
     most: Option<u64>,
     pieces: PieceList,
     taken: Noted<ByteList>,
 }
 
 impl<R: Files<File = File>> OsFiles<'_, R> {
-    /// Goes on in another file.
+    /// Continues in another file.
     fn go_on_in(&mut self, file: File)
         ensures { self.new.taken.value ≡ self.old.taken.value }
     {
@@ -106,8 +111,8 @@ impl<R: Files<File = File>> OsFiles<'_, R> {
         self.length = 0;
     }
 
-    /// Begins the file anew. Where a list of pieces is there it says so before and behind that: who reads it between the two
-    /// knows the run before by the bytes that the file has still.
+    /// Truncates the file for a new run. If there is a list of pieces, this is recorded in it before and after the
+    /// truncation; whoever reads the list in between recognizes the earlier run by the bytes that the file still has.
     fn begin_run(&mut self, path: &str) -> io::Result<()>
         ensures { self.new.taken.value ≡ self.old.taken.value }
     {
@@ -122,7 +127,7 @@ impl<R: Files<File = File>> OsFiles<'_, R> {
         self.list(path, ListLine::Begun(self.first))
     }
 
-    /// Adds a line to the list of pieces.
+    /// Appends a line to the list of pieces.
     fn list(&mut self, path: &str, line: ListLine) -> io::Result<()>
         ensures { self.new.taken.value ≡ self.old.taken.value }
     {
@@ -134,7 +139,7 @@ impl<R: Files<File = File>> OsFiles<'_, R> {
         Ok(())
     }
 
-    /// The pieces that the list has behind a line more; none are kept in mind where all files are kept.
+    /// Returns the pieces in the list after one more line. If all files are kept, no pieces are remembered.
     fn pieces_with(&self, line: ListLine) -> Result<PieceList, AllocError> {
         match self.most {
             Some(_) => self.pieces.with(self.alloc, line),
@@ -142,9 +147,11 @@ impl<R: Files<File = File>> OsFiles<'_, R> {
         }
     }
 
-    /// Takes the oldest pieces away, where there are more than are kept. The list says so before each is removed: behind a
-    /// kill between the two a file is there that is read no more, and never one that is missing to a reader. Where the list
-    /// can't say so none is removed, and it is tried again behind the next.
+    /// Removes the oldest pieces if there are more than are to be kept.
+    ///
+    /// Each removal is recorded in the list first. If init is killed between the two steps, a file remains that is no
+    /// longer read, but no reader ever finds one missing. If the list cannot be written, nothing is removed, and this
+    /// is tried again after the next piece.
     fn take_away(&mut self, path: &str) -> io::Result<()>
         ensures { self.new.taken.value ≡ self.old.taken.value }
     {
@@ -158,7 +165,7 @@ impl<R: Files<File = File>> OsFiles<'_, R> {
         Ok(())
     }
 
-    /// Removes a piece that the list has no more, where its file is what was put away.
+    /// Removes a piece that is no longer in the list, if its file is the one that was put away.
     fn remove(&self, path: &str, piece: Piece) -> io::Result<()> {
         if piece.number == 0 {
             return Ok(());
@@ -172,7 +179,7 @@ impl<R: Files<File = File>> OsFiles<'_, R> {
         }
     }
 
-    /// Adds to the list of pieces what it lacks, and makes it where none is there.
+    /// Appends to the list of pieces what is missing from it, and creates the list if it does not exist.
     fn list_piece(&mut self, path: &str) -> io::Result<()>
         ensures { self.new.taken.value ≡ self.old.taken.value }
     {
@@ -188,16 +195,16 @@ impl<R: Files<File = File>> OsFiles<'_, R> {
         Ok(())
     }
 
-    /// The number behind that of the newest piece.
+    /// Returns the number after that of the newest piece.
     fn next_number(&self, path: &str) -> io::Result<u64> {
         match newest_piece(self.rt, self.alloc, path)?.checked_add(1) {
             Some(number) => Ok(number),
-            None => Err(io::Error::other("a piece has the greatest number")),
+            None => Err(io::Error::other("a piece has the highest possible number")),
         }
     }
 
-    /// A new file at the path, whose own file is put away, and what the list is to say of that. The new one has its lock
-    /// before it comes there.
+    /// Puts the trace's file away and puts a new file at the path. Returns the new file, and the line about the old one
+    /// for the list. The new file is locked before it appears at the path.
     fn next_file(&self, path: &str) -> io::Result<(File, ListLine)> {
         let (file, new) = self.made_beside(path)?;
         match self.exchange(path, new.as_str()) {
@@ -209,7 +216,7 @@ impl<R: Files<File = File>> OsFiles<'_, R> {
         }
     }
 
-    /// What the list says of the file where it was put away by this number, or by none.
+    /// Returns the line about a file that was put away under this number, or under the name of no piece.
     fn put_away_by(&self, number: Option<u64>) -> ListLine {
         match number {
             Some(number) => ListLine::Piece(number, self.length),
@@ -217,13 +224,14 @@ impl<R: Files<File = File>> OsFiles<'_, R> {
         }
     }
 
-    /// The number by which the file was renamed; None where it is that of no piece.
+    /// Returns the number under which the file was renamed, or `None` if its name is not that of a piece.
     fn own_number(&self, path: &str) -> Option<u64> {
         let own = self.file.metadata().ok()?;
         number_of_file(self.rt, self.alloc, path, &own).ok()?
     }
 
-    /// A new file beside the path, and its own path, at which nothing stood: `TRACE.new`, else `TRACE.new-1`, and so on.
+    /// Creates a new file beside the path, under a name that did not exist, and returns it with that name: `TRACE.new`,
+    /// or else `TRACE.new-1`, and so on.
     fn made_beside(&self, path: &str) -> io::Result<(File, String)> {
         let mut new = format!(in self.alloc; "{path}.new")?;
         for number in 1..NAMES {
@@ -237,7 +245,7 @@ impl<R: Files<File = File>> OsFiles<'_, R> {
         Ok((self.created(new.as_str())?, new))
     }
 
-    /// A new file, under its lock, which no more users may read than the one before.
+    /// Creates a locked file that is accessible to no more users than the current one.
     fn created(&self, path: &str) -> io::Result<File> {
         let mode = self.file.metadata()?.mode();
         let file = OpenOptions::new()
@@ -249,15 +257,15 @@ impl<R: Files<File = File>> OsFiles<'_, R> {
         Ok(file)
     }
 
-    /// Gives the file at the path the name of a piece, where it is the trace's own, and another file that of the path. Gives
-    /// the piece's number; where no file stood there, the one by which it was renamed.
+    /// Renames the trace's file, if it is at the path, to a piece, and the new file to the path. Returns the number of
+    /// the piece; if there was no file at the path, the number under which the trace's file was renamed before, if any.
     fn exchange(&self, path: &str, new: &str) -> io::Result<Option<u64>> {
         match metadata(self.rt, path) {
-            Ok(found) if !found.is_file() => return Err(io::Error::other("it is no plain file")),
+            Ok(found) if !found.is_file() => return Err(io::Error::other("not a regular file")),
             Ok(found) if are_same(&found, &self.file.metadata()?) => {
                 return self.exchange_piece(path, new).map(Some);
             }
-            Ok(_) => return Err(io::Error::other("another file stands there")),
+            Ok(_) => return Err(io::Error::other("another file is in its place")),
             Err(error) if error.kind() == ErrorKind::NotFound => {}
             Err(error) => return Err(error),
         }
@@ -266,8 +274,8 @@ impl<R: Files<File = File>> OsFiles<'_, R> {
         Ok(number)
     }
 
-    /// The same, of the trace's own file. Where the file system lets it, that has both names until the new one comes; where
-    /// this fails it keeps its own alone.
+    /// Does the same for the trace's file at the path. If the file system allows it, the file has both names until the
+    /// new one replaces it; if that fails, it keeps only its own.
     fn exchange_piece(&self, path: &str, new: &str) -> io::Result<u64> {
         let number = self.next_number(path)?;
         let piece = piece_path(self.alloc, path, number)?;
@@ -285,16 +293,16 @@ impl<R: Files<File = File>> OsFiles<'_, R> {
     }
 }
 
-/// Removes the file of a piece that has the length which the list said.
+/// Removes the file of a piece if it has the length given in the list.
 fn removed<R: Files>(rt: &R, path: &str, piece: Piece) -> io::Result<()> {
     let found = symlink_metadata(rt, path)?;
     if !found.is_file() || !piece.is_whole(found.len()) {
-        return Err(io::Error::other("it is not what was put away"));
+        return Err(io::Error::other("not the file that was rotated"));
     }
     remove_file(rt, path)
 }
 
-/// Gives a file a name more, which no file has. False where it can't have two.
+/// Gives a file a second name that does not exist yet. Returns false if the file cannot have two names.
 fn has_linked<R: Files>(rt: &R, path: &str, other: &str) -> io::Result<bool> {
     match hard_link(rt, path, other) {
         Ok(()) => Ok(true),
@@ -303,7 +311,7 @@ fn has_linked<R: Files>(rt: &R, path: &str, other: &str) -> io::Result<bool> {
     }
 }
 
-/// A file system answers so where it has no links, or none from one to the other.
+/// Returns whether the error means that the file system has no hard links, or none between these names.
 fn is_without_links(error: &io::Error) -> bool {
     error.raw_os_error() == Some(NO_LINKS)
         || matches!(
@@ -339,7 +347,7 @@ impl<R: Files<File = File>> TraceFiles for OsFiles<'_, R> {
         self.length
     }
 
-    /// Of what is no plain file nothing is left to lose.
+    /// A file that is not a plain file has no previous contents to remove.
     fn begin(&mut self, path: &str) -> io::Result<()> {
         if !self.is_begun && self.file.metadata()?.is_file() {
             self.begin_run(path)?;
@@ -348,7 +356,7 @@ impl<R: Files<File = File>> TraceFiles for OsFiles<'_, R> {
         Ok(())
     }
 
-    /// The list has the one that was put away before, so that it lacks one at most.
+    /// The file put away before is added to the list first, so that the list lacks at most one.
     fn put_away(&mut self, path: &str) -> io::Result<Option<io::Error>> {
         self.list_piece(path)?;
         let (file, line) = self.next_file(path)?;
@@ -372,7 +380,7 @@ impl<R: Files<File = File>> TraceFiles for OsFiles<'_, R> {
     }
 }
 
-/// How the note of what files took is read behind what was told before.
+/// Marks the note of the bytes that files took, after those noted before.
 struct Joined;
 
 impl<'a> Reads<(&'a Noted<ByteList>, &'a Noted<ByteList>), ByteList> for Joined {
@@ -381,7 +389,7 @@ impl<'a> Reads<(&'a Noted<ByteList>, &'a Noted<ByteList>), ByteList> for Joined 
     ghost value = { λ both. both.0.now.value ++ both.1.now.value };
 }
 
-/// Where the files of a trace in the operating system come from. Proofs alone can read the bytes that they took.
+/// The source of trace files in the file system. Only proofs can read the bytes that the files took.
 #[derive(Drop)]
 pub struct OsTraces<'a, R> {
     rt: &'a R,
@@ -390,7 +398,7 @@ pub struct OsTraces<'a, R> {
 }
 
 impl<'a, R: Files<File = File>> OsTraces<'a, R> {
-    /// Their source, whose files have taken nothing.
+    /// Creates a source whose files have taken nothing.
     pub fn new(rt: &'a R, alloc: Global) -> OsTraces<'a, R>
         ensures { result.told.value ≡ [] }
     {

@@ -1,7 +1,8 @@
--- The unreaped children are the known ones, less those whose end is not told, with those whose birth is not told.
+-- The unreaped children are the known ones, without those whose end is not told yet, and with those whose birth is not
+-- told yet.
 use Rattle.trace_laws.proofs.Words.{◌≡◌, refl, sym, ◌∙◌, ap, ℕ, Bool, true, false, not, ◌&&◌, ◌||◌, ◌==◌, List, [], ◌∷◌}
 use Rattle.trace_laws.proofs.Words.{◌++◌, filter, arith, list_any, and_parts, or_parts, eqb-true, Look, same_id, Birth}
-use Rattle.trace_laws.proofs.Words.{NoBirth, Reaped, Still, NoLook, Hit, Miss, Told, Goal, Event, Child, is_of}
+use Rattle.trace_laws.proofs.Words.{NoBirth, Reaped, Still, NoLook, Hit, Miss, Told, Goal, Event, Child, is_child_of}
 use Rattle.trace_laws.proofs.Words.{is_child, undone_of, is_untold, unreaped_children, known_children, is_order}
 use Rattle.trace_laws.proofs.Words.{may_come, is_sound, has_untold_birth, has_untold_end, is_unreaped, is_known, Agrees}
 use Rattle.trace_laws.proofs.Words.{same_id-is, same_id-from, any_within, any_without}
@@ -11,7 +12,7 @@ use Rattle.trace_laws.proofs.Orders.{told_same, told_other}
 use Rattle.trace_laws.proofs.Keeps.{look_undone, sound_holds, sound_ind}
 use Rattle.trace_laws.proofs.Births.{at_moment}
 
--- where nothing of the id is untold, no birth of it is
+-- an id without untold acts has no untold birth
 born_told : (id : List ℕ) (n : ℕ) (past : List Event) → is_untold id past ≡ false → has_untold_birth id n past ≡ false
 born_told id n [] h = refl
 born_told id n (Told i ∷ past) h = grind (arith, born_told id n past)
@@ -24,12 +25,12 @@ born_told id n (Hit i ∷ past) h = born_told id n past (or_parts (same_id id i)
 born_told id n (Miss i ∷ past) h = born_told id n past (or_parts (same_id id i) (is_untold id past) h).1
 born_told id n (_ ∷ past) h = born_told id n past h
 
--- the pair of id and number is among the children of the id
-same_pair : (id : List ℕ) (n : ℕ) (xs ys : List Child) → filter (is_of id) xs ≡ filter (is_of id) ys
+-- a child is found by id and number in two lists alike, if both have the same children of the id
+same_pair : (id : List ℕ) (n : ℕ) (xs ys : List Child) → filter (is_child_of id) xs ≡ filter (is_child_of id) ys
     → list_any (is_child id n) xs ≡ list_any (is_child id n) ys
 same_pair id n xs ys same = grind (arith, any_within)
 
--- accounts in plain tests
+-- Boolean identities: how a birth and a reaping change the two sides of the agreement
 born_agrees : (born u k e b : Bool) → u ≡ (k && not e || b) → (born || u) ≡ (k && not e || (born || b))
 born_agrees born u k e b h = grind arith
 
@@ -40,7 +41,7 @@ reaped_agrees x u k e b h none = grind arith
 told_agrees : (u : Bool) → u ≡ (u && true || false)
 told_agrees u = grind arith
 
--- a reaping takes just its own pair away
+-- a reaping removes only the child with its id and number
 pub reaped_pair : (id i : List ℕ) (n m : ℕ) (xs : List Child) (b : Bool) → (same_id id i && n == m) ≡ b
     → list_any (is_child id n) (filter (λ child. not (is_child i m child)) xs) ≡ (not b && list_any (is_child id n) xs)
 reaped_pair id i n m xs b same = grind (arith, any_without, same_id-is, eqb-true, any_within, same_id-from, eq-eqb)

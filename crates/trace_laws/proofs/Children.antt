@@ -1,5 +1,5 @@
--- What a run that nothing disturbs keeps of an entry: where it starts, whether anything of it runs, and that no child
--- of it ends but one that init waits for.
+-- Entries in an undisturbed run: where an entry starts, whether it has a child or an order, and that only children that
+-- init waits for end.
 use Rattle.trace_laws.proofs.Words.{◌≡◌, refl, sym, ◌∙◌, ap, subst, inl, inr, ℕ, Bool, true, false, not, ◌&&◌, ◌||◌}
 use Rattle.trace_laws.proofs.Words.{◌==◌, cond, List, [], ◌∷◌, filter, Option, Some, None, is_some, arith, list_any}
 use Rattle.trace_laws.proofs.Words.{list_all, option_map_or, false≢true, and_parts, and_from, and_right, or_left}
@@ -8,9 +8,11 @@ use Rattle.trace_laws.proofs.Words.{OrderKind, Start, Look, Term, Kill, same_id,
 use Rattle.trace_laws.proofs.Words.{waited_of, same_id-is, same_id-self, both_ways, falsely, or_either, not_from}
 use Rattle.trace_laws.proofs.Words.{and_false, any_less, any_filtered, entry_of, is_distinct, NewTable, Asked, Birth}
 use Rattle.trace_laws.proofs.Words.{NoBirth, Death, Reaped, Still, NoLook, Hit, Miss, Told, Goal, Event, table_of}
-use Rattle.trace_laws.proofs.Words.{stage_of, Child, is_of, is_child, has_child, open_of, undone_of, is_untold, is_dead}
+use Rattle.trace_laws.proofs.Words.{stage_of, Child, is_child_of, is_child, has_child, open_of, undone_of, is_untold}
+use Rattle.trace_laws.proofs.Words.{is_dead}
 use Rattle.trace_laws.proofs.Words.{newborn, unreaped_children, kept_children, known_children, starts_in, starts_now}
-use Rattle.trace_laws.proofs.Words.{is_order, brings, is_asked, is_called, is_wanted, nothing_runs, next_stage, first}
+use Rattle.trace_laws.proofs.Words.{is_order, adds_or_changes, is_asked, is_called, is_wanted, has_no_running_child}
+use Rattle.trace_laws.proofs.Words.{next_stage, first}
 use Rattle.trace_laws.proofs.Words.{is_due, goal_of, is_awaited}
 use Rattle.std.proofs.lemmas.Bool.{eq-eqb}
 use Rattle.init_words.specs.declared.stages.Stage.TheVariants as stage
@@ -25,11 +27,11 @@ use Rattle.trace_laws.proofs.Told.{stop_known}
 use Rattle.trace_laws.proofs.Plain.{Plain, Comes, plain_ind, plain_holds, plain_distinct}
 use Rattle.trace_laws.proofs.Firsts.{Entered, entered}
 
--- the entry is that of its id in the table in force
+-- the entry is the one that the table in force has for its id
 abbrev pub IsFound : Entry → List Event → Type 0
 IsFound e past = entry_of e.id (table_of past) ≡ Some e
 
--- a child that died though init doesn't wait for it
+-- the child has died although init does not wait for it
 abbrev is_lost : List Event → Child → Bool
 is_lost past child = not (is_awaited past child) && is_dead child.id child.number past
 
@@ -68,7 +70,7 @@ none_lost goal past plain = plain_ind goal NoneLost (λ table distinct. refl) go
 -- an entry that was asked starts in the stage
 wanted_starts : (e : Entry) (past : List Event) → is_wanted e past ≡ true → starts_in e (stage_of past) ≡ true
 wanted_starts e past h = (and_parts (starts_now e past)
-    (wanted_by e.act (nothing_runs e.id past) (not (is_asked e.id past)) (is_called e past)) h).0
+    (wanted_by e.act (has_no_running_child e.id past) (not (is_asked e.id past)) (is_called e past)) h).0
 
 abbrev AskedStarts : List Event → Type 0
 AskedStarts past = (e : Entry) → IsFound e past → is_asked e.id past ≡ true → starts_in e (stage_of past) ≡ true
@@ -76,7 +78,7 @@ AskedStarts past = (e : Entry) → IsFound e past → is_asked e.id past ≡ tru
 asked_starts : (goal : Goal) (past : List Event) → Plain goal past → AskedStarts past
 asked_starts goal past plain = plain_ind goal AskedStarts begins goes past plain.runs plain.mild where
   begins : (table : List Entry) → is_distinct table ≡ true → AskedStarts (NewTable table ∷ [])
-  begins table distinct e found h = absurd (false≢true (sym (and_false (not (brings e.id table []))) ∙ h))
+  begins table distinct e found h = absurd (false≢true (sym (and_false (not (adds_or_changes e.id table []))) ∙ h))
 
   goes : (happening : Event) (p : List Event) → Comes goal happening p → AskedStarts p → AskedStarts (happening ∷ p)
   goes (NewTable table) p comes before e found h = absurd (false≢true comes.mild)
@@ -93,7 +95,7 @@ asked_starts goal past plain = plain_ind goal AskedStarts begins goes past plain
           subst (λ (x : Entry). starts_in x (stage_of p) ≡ true) (sym is) (wanted_starts may.run.entry p may.run.wanted)
   goes (_) p comes before e found h = before e found h
 
--- it started in a stage before this one
+-- the entry starts in an earlier stage than this one
 abbrev starts_before : Entry → Option Stage → Bool
 starts_before e None = false
 starts_before e (Some stage.Sysinit) = false
@@ -104,12 +106,12 @@ moved : (e : Entry) (goal : Goal) (o : Option Stage) (now : Stage) (grace : ℕ)
     ≡ step.Enter now grace → (starts_in e o || starts_before e o) ≡ true → starts_before e (Some now) ≡ true
 moved e goal o now grace is h = grind arith
 
--- an order that is no start goes to a known child
+-- an order that is not a start goes to a known child
 asked_known : (goal : Goal) (i : List ℕ) (ask : OrderKind) (p : List Event) → is_due goal (step.Order i ask) p ≡ true
     → same_ask Start ask ≡ false → has_child i (known_children p) ≡ true
 asked_known goal i ask p may other = grind (arith, due_facts, stop_known)
 
--- an entry with a child or an order was asked, in this stage or in one before
+-- an entry with a child or an open order was asked, in this stage or in an earlier one
 abbrev KeptAsked : List Event → Type 0
 KeptAsked past = (e : Entry) → IsFound e past → (has_child e.id (kept_children past) || is_some (open_of e.id past))
     ≡ true → (is_asked e.id past || starts_before e (stage_of past)) ≡ true
@@ -124,7 +126,7 @@ kept_asked goal past plain =
       later i ask p may other before e found true same h = before e found
           (or_left (has_child e.id (kept_children p)) (is_some (open_of e.id p))
           (subst (λ x. has_child x (kept_children p)
-          ≡ true) (sym (same_id-is e.id i same)) (known_kept (is_of i) p (asked_known goal i ask p may other))))
+          ≡ true) (sym (same_id-is e.id i same)) (known_kept (is_child_of i) p (asked_known goal i ask p may other))))
       later i ask p may other before e found false same h = before e found h
 
       goes : (happening : Event) (p : List Event) → Comes goal happening p → KeptAsked p → KeptAsked (happening ∷ p)
@@ -159,14 +161,14 @@ kept_asked goal past plain =
         split false same h = before e found h
       goes (Told i) p comes before e found h = before e found (or_either (has_child e.id (kept_children (Told i ∷ p)))
           (is_some (cond (same_id e.id i) None (open_of e.id p))) h (λ kept. or_left (has_child e.id (kept_children p))
-          (is_some (open_of e.id p)) (kept_before_told (is_of e.id) i p kept)) (λ asked. or_right
+          (is_some (open_of e.id p)) (kept_before_told (is_child_of e.id) i p kept)) (λ asked. or_right
           (has_child e.id (kept_children p)) (is_some (open_of e.id p)) (still (same_id e.id i) asked))) where
             still : (b : Bool) → is_some (cond b None (open_of e.id p)) ≡ true → is_some (open_of e.id p) ≡ true
             still true h = absurd (false≢true h)
             still false h = h
       goes (_) p comes before e found h = before e found h
 
--- of an entry that init doesn't wait for, and that was asked, there is a start that is not done, or a child
+-- an entry that init does not wait for and that was asked has a child, or a start that is not carried out yet
 abbrev AskedRuns : List Event → Type 0
 AskedRuns past = (e : Entry) → IsFound e past → waited_of e ≡ false → is_asked e.id past ≡ true
     → (is_order Start (undone_of e.id past) || has_child e.id (unreaped_children past)) ≡ true
@@ -178,21 +180,21 @@ other_order ask o other h = ap (is_order Start) (is_order-is ask o h) ∙ other
 asked_runs : (goal : Goal) (past : List Event) → Plain goal past → AskedRuns past
 asked_runs goal past plain = plain_ind goal AskedRuns begins goes past plain.runs plain.mild where
   begins : (table : List Entry) → is_distinct table ≡ true → AskedRuns (NewTable table ∷ [])
-  begins table distinct e found free h = absurd (false≢true (sym (and_false (not (brings e.id table []))) ∙ h))
+  begins table distinct e found free h = absurd (false≢true (sym (and_false (not (adds_or_changes e.id table []))) ∙ h))
 
-  -- where no start of the id is undone, it has a child
+  -- an id without a start to be carried out has a child
   child : (e : Entry) (p : List Event) → (is_order Start (undone_of e.id p) || has_child e.id (unreaped_children p))
       ≡ true → is_order Start (undone_of e.id p) ≡ false → has_child e.id (unreaped_children p) ≡ true
   child e p h none = grind arith
 
-  -- an order or an act of another kind
+  -- an order or an act of another kind leaves this unchanged
   other : (e : Entry) (i : List ℕ) (o : Option OrderKind) (p : List Event)
       → (same_id e.id i ≡ true → is_order Start (undone_of e.id p) ≡ false) → (b : Bool) → same_id e.id i ≡ b
       → (is_order Start (undone_of e.id p) || has_child e.id (unreaped_children p)) ≡ true
       → (is_order Start (cond b o (undone_of e.id p)) || has_child e.id (unreaped_children p)) ≡ true
   other e i o p none b same h = grind arith
 
-  -- an order is given where none is open
+  -- an order is given only to an id without an open order
   unasked : (e : Entry) (i : List ℕ) (ask : OrderKind) (p : List Event) → is_due goal (step.Order i ask) p ≡ true
       → same_id e.id i ≡ true → is_order Start (undone_of e.id p) ≡ false
   unasked e i ask p may same = falsely (is_order Start (undone_of e.id p)) (is_some (open_of e.id p)) (undone_some Start
@@ -276,7 +278,7 @@ apart e o h = grind arith
 not_some : {A : Type 0} (o : Option A) → is_some o ≡ false → o ≡ None
 not_some o h = grind arith
 
--- of an entry of the stage that wasn't asked there is no child, and no order
+-- an entry of the stage that was not asked has no child and no open order
 pub unasked_free : (goal : Goal) (past : List Event) → Plain goal past → (e : Entry) → IsFound e past
     → starts_in e (stage_of past) ≡ true → is_asked e.id past ≡ false
     → (has_child e.id (kept_children past) ≡ false) × (open_of e.id past ≡ None)
@@ -287,14 +289,15 @@ unasked_free goal past plain e found here unasked =
     (or_from (is_asked e.id past) (starts_before e (stage_of past)) unasked (apart e (stage_of past) here))) in
     (none.0, not_some (open_of e.id past) none.1)
 
--- of an entry of the stage that init doesn't wait for nothing runs exactly where it wasn't asked
+-- an entry of the stage that init does not wait for is idle exactly if it was not asked
 pub idle_unasked : (goal : Goal) (past : List Event) → Plain goal past → (e : Entry) → IsFound e past
-    → waited_of e ≡ false → starts_in e (stage_of past) ≡ true → nothing_runs e.id past ≡ not (is_asked e.id past)
+    → waited_of e ≡ false → starts_in e (stage_of past) ≡ true
+    → has_no_running_child e.id past ≡ not (is_asked e.id past)
 idle_unasked goal past plain e found free here = split (is_asked e.id past) refl where
   running : (is_order Start (undone_of e.id past) || has_child e.id (unreaped_children past)) ≡ true
-      → nothing_runs e.id past ≡ false
+      → has_no_running_child e.id past ≡ false
   running h = grind (arith, undone_is_open, is_order-is, unreaped_kept)
 
-  split : (b : Bool) → is_asked e.id past ≡ b → nothing_runs e.id past ≡ not b
+  split : (b : Bool) → is_asked e.id past ≡ b → has_no_running_child e.id past ≡ not b
   split true asked = running (asked_runs goal past plain e found free asked)
   split false unasked = grind (arith, unasked_free)

@@ -1,12 +1,14 @@
--- What each due step says of the past: facts by its kind, rank by rank.
+-- What each due step implies about the past, rank by rank.
 use Rattle.trace_laws.proofs.Words.{◌≡◌, refl, sym, ◌∙◌, ap, subst, ◌⊎◌, ℕ, Bool, true, false, not, ◌&&◌, cond, List}
 use Rattle.trace_laws.proofs.Words.{[], ◌∷◌, ◌++◌, Option, Some, None, is_none, arith, list_any, list_all, false≢true}
 use Rattle.trace_laws.proofs.Words.{and_parts, or_left, or_right, not-true, Entry, Level, Letter, Stage, OrderKind}
 use Rattle.trace_laws.proofs.Words.{Start, Look, Term, Kill, PowerKind, same_id, same_ask, waited_of, has_id, entry_of}
 use Rattle.trace_laws.proofs.Words.{is_distinct, Step, Reread, Order, Reexec, Idle, Goal, Event, table_of, stage_of}
-use Rattle.trace_laws.proofs.Words.{Child, is_of, has_child, open_of, is_quiet, is_idle, kept_children, known_children}
+use Rattle.trace_laws.proofs.Words.{Child, is_child_of, has_child, open_of, is_quiet, is_idle, kept_children}
+use Rattle.trace_laws.proofs.Words.{known_children}
 use Rattle.trace_laws.proofs.Words.{is_wanted, is_owed, is_excluded, entries_before, stop_due, is_held, is_full}
-use Rattle.trace_laws.proofs.Words.{level_wish, goal_of, powers, letters, wish_stands, in_run, is_limited, same_id-is}
+use Rattle.trace_laws.proofs.Words.{level_wish, goal_of, powers, letters, is_request_pending, in_run, is_limited}
+use Rattle.trace_laws.proofs.Words.{same_id-is}
 use Rattle.trace_laws.proofs.Words.{same_id-self, same_ask-is, same_level-is, both_ways, or_either, is_none-is, step_if}
 use Rattle.trace_laws.proofs.Words.{steps_if, none_excluded, due_first, due_reexec, due_reread, enter_level, due_level}
 use Rattle.trace_laws.proofs.Words.{power_steps, letter_steps, due_news, record_ids, stop_step, stops_of, stops_among}
@@ -21,7 +23,7 @@ is_signal Term = true
 is_signal Kill = true
 is_signal _ = false
 
--- of an entry of the table whose turn it is: es is the rest of the table from some place on
+-- the id has an entry that may start now; `es` is the table from some entry on
 pub record MayRun (id : List ℕ) (es : List Entry) (past : List Event) : Type 0 where
   pub entry : Entry
   pub own : entry.id ≡ id
@@ -49,7 +51,7 @@ pub record MayLook (id : List ℕ) (past : List Event) : Type 0 where
 
 pub record MayStop (id : List ℕ) (ask : OrderKind) (past : List Event) : Type 0 where
   pub child : Child
-  pub own : is_of id child ≡ true
+  pub own : is_child_of id child ≡ true
   pub due : stop_due child past ≡ Some ask
   pub unasked : open_of id past ≡ None
   pub within : (q : Child → Bool) → q child ≡ true → list_any q (known_children past) ≡ true
@@ -95,16 +97,16 @@ each_map : (P Q : Step → Type 0) → ((step : Step) → P step → Q step) →
 each_map P Q f [] h = tt
 each_map P Q f (x ∷ xs) h = (f x h.0, each_map P Q f xs h.1)
 
--- 1
+-- rank 1
 firsts : (goal : Goal) (past : List Event) (o : Option Stage) → stage_of past ≡ o
     → Each (Facts past) (due_first goal o past)
 firsts goal past o h = grind arith
 
--- 4
+-- rank 4
 levels : (past : List Event) (o : Option Goal) → is_quiet past ≡ true → Each (Facts past) (enter_level o past)
 levels past o quiet = grind arith
 
--- 5
+-- rank 5
 news : (past : List Event) (kinds : List PowerKind) → is_quiet past ≡ true → Each (Facts past) (power_steps kinds past)
 news past [] quiet = tt
 news past (kind ∷ kinds) quiet = grind (arith, news past kinds)
@@ -118,10 +120,11 @@ stops : (id : List ℕ) (past : List Event) → open_of id past ≡ None → (ch
     → Each (Facts past) (stops_of id children past)
 stops id past unasked [] within = tt
 stops id past unasked (child ∷ children) within = each_append (Facts past)
-    (steps_if (is_of id child) (stop_step id (stop_due child past))) (stops_of id children past) (each_steps_if
-    (Facts past) (is_of id child) (stop_step id (stop_due child past)) (λ own. step own (stop_due child past) refl))
+    (steps_if (is_child_of id child) (stop_step id (stop_due child past))) (stops_of id children past) (each_steps_if
+    (Facts past) (is_child_of id child) (stop_step id (stop_due child past))
+    (λ own. step own (stop_due child past) refl))
     (stops id past unasked children (λ q h. within q (or_right (q child) (list_any q children) h))) where
-      step : is_of id child ≡ true → (o : Option OrderKind) → stop_due child past ≡ o
+      step : is_child_of id child ≡ true → (o : Option OrderKind) → stop_due child past ≡ o
           → Each (Facts past) (stop_step id o)
       step own o h = grind arith
 
@@ -129,7 +132,7 @@ stops_all : (ids : List (List ℕ)) (past : List Event) → Each (Facts past) (s
 stops_all [] past = tt
 stops_all (id ∷ ids) past = grind (arith, each_append, each_steps_if, stops, is_none-is, stops_all ids past)
 
--- 7
+-- rank 7
 run_later : (id : List ℕ) (e : Entry) (es : List Entry) (past : List Event) → is_owed e past ≡ false → MayRun id es past
     → MayRun id (e ∷ es) past
 run_later id e es past free may = record {
@@ -228,7 +231,7 @@ starts past spared (e ∷ es) = each_append (FactsAlong (e ∷ es) past) (steps_
           each_map (FactsAlong es past) (FactsAlong (e ∷ es) past) (facts_later e es past owed)
           (starts_among es past) rest
 
--- 8
+-- rank 8
 stages : (past : List Event) → is_quiet past ≡ true → (goal : Goal) (o : Option Stage)
     → Each (Facts past) (next_stage goal o)
 stages past quiet goal o = grind arith
@@ -237,20 +240,20 @@ over_quiet : (past : List Event) → is_over past ≡ true → is_quiet past ≡
 over_quiet past h =
     let all : List Event → Bool = λ so_far. list_all
     (λ e. not (is_wanted e so_far) && not (waited_of e && has_child e.id (kept_children so_far))) (table_of so_far) in
-    (and_parts (not (wish_stands past)) (is_quiet past)
-    (and_parts (not (wish_stands past) && is_quiet past) (none_excluded past)
-    (and_parts (not (wish_stands past) && is_quiet past && none_excluded past) (all past) h).0).0).1
+    (and_parts (not (is_request_pending past)) (is_quiet past)
+    (and_parts (not (is_request_pending past) && is_quiet past) (none_excluded past)
+    (and_parts (not (is_request_pending past) && is_quiet past && none_excluded past) (all past) h).0).0).1
 
--- 9
+-- rank 9
 settles : (past : List Event) → is_idle past ≡ true → (o : Option Stage) → Each (Facts past) (settle_step o past)
 settles past idle o = grind arith
 
--- 10
+-- rank 10
 looks : (past : List Event) (ids : List (List ℕ)) → Each (Facts past) (looks_among ids past)
 looks past [] = tt
 looks past (id ∷ ids) = grind (arith, looks past ids)
 
--- all the ranks
+-- all ranks together
 dues : (goal : Goal) (past : List Event) → Each (Facts past) (due goal past)
 dues goal past = join _ _ (join _ _ (join _ _ (join _ _ (join _ _ (join _ _
     (join _ _ (join _ _ (join _ _ facts1 facts2) facts3) facts4) facts5) facts6) facts7) facts8) facts9) facts10 where
@@ -283,18 +286,20 @@ dues goal past = join _ _ (join _ _ (join _ _ (join _ _ (join _ _ (join _ _
 
       facts7 : Each (Facts past) (due_starts past)
       facts7 =
-          each_steps_if (Facts past) (not (wish_stands past) && none_excluded past) (starts_among (table_of past) past)
+          each_steps_if (Facts past) (not (is_request_pending past) && none_excluded past)
+          (starts_among (table_of past) past)
           (λ h. starts past (not-true (list_any (is_excluded past) (kept_children past))
-          (and_parts (not (wish_stands past)) (none_excluded past) h).1) (table_of past))
+          (and_parts (not (is_request_pending past)) (none_excluded past) h).1) (table_of past))
 
       facts8 : Each (Facts past) (due_stage goal past)
       facts8 = each_steps_if (Facts past) (is_over past) (next_stage (goal_of goal past) (stage_of past))
           (λ h. stages past (over_quiet past h) (goal_of goal past) (stage_of past))
 
       facts9 : Each (Facts past) (due_settle past)
-      facts9 = each_steps_if (Facts past) (not (wish_stands past) && is_idle past && not (is_announced past))
-          (settle_step (stage_of past) past) (λ h. settles past (and_parts (not (wish_stands past)) (is_idle past)
-          (and_parts (not (wish_stands past) && is_idle past) (not (is_announced past)) h).0).1 (stage_of past))
+      facts9 = each_steps_if (Facts past) (not (is_request_pending past) && is_idle past && not (is_announced past))
+          (settle_step (stage_of past) past)
+          (λ h. settles past (and_parts (not (is_request_pending past)) (is_idle past)
+          (and_parts (not (is_request_pending past) && is_idle past) (not (is_announced past)) h).0).1 (stage_of past))
 
       facts10 : Each (Facts past) (due_looks past)
       facts10 = looks past (record_ids past)
@@ -324,6 +329,6 @@ each_at past step [] each h = absurd (false≢true h)
 each_at past step (x ∷ xs) each h = or_either (same_step step x) (list_any (same_step step) xs) h
     (λ here. same_facts past step x here each.0) (each_at past step xs each.1)
 
--- what a due step says of the past
+-- what a due step implies about the past
 pub due_facts : (goal : Goal) (past : List Event) (step : Step) → is_due goal step past ≡ true → Facts past step
 due_facts goal past step h = each_at past step (due goal past) (dues goal past) h

@@ -1,10 +1,12 @@
--- What the first due step says of the past: a stage that is entered, and an entry that is started.
+-- What the first due step implies about the past, if it enters a stage or starts an entry.
 use Rattle.trace_laws.proofs.Words.{◌≡◌, refl, sym, subst, ◌⊎◌, ℕ, Bool, true, not, ◌&&◌, cond, List, [], ◌∷◌, ◌++◌}
 use Rattle.trace_laws.proofs.Words.{Option, Some, None, is_none, arith, false≢true, and_parts, Entry, Stage, OrderKind}
 use Rattle.trace_laws.proofs.Words.{Start, Look, same_id, same_ask, same_id-is, same_ask-is, Step, Reread, Order}
-use Rattle.trace_laws.proofs.Words.{Reexec, Idle, Goal, Event, table_of, stage_of, Child, is_of, open_of, is_quiet}
-use Rattle.trace_laws.proofs.Words.{is_idle, known_children, is_owed, Signal, stop_by, stop_due, heard_level}
-use Rattle.trace_laws.proofs.Words.{level_wish, goal_of, wants_reexec, wants_reread, wish_stands, step_if, steps_if}
+use Rattle.trace_laws.proofs.Words.{Reexec, Idle, Goal, Event, table_of, stage_of, Child, is_child_of, open_of}
+use Rattle.trace_laws.proofs.Words.{is_quiet}
+use Rattle.trace_laws.proofs.Words.{is_idle, known_children, is_owed, Signal, stop_by, stop_due, last_requested_level}
+use Rattle.trace_laws.proofs.Words.{level_wish, goal_of, wants_reexec, wants_reread, is_request_pending, step_if}
+use Rattle.trace_laws.proofs.Words.{steps_if}
 use Rattle.trace_laws.proofs.Words.{none_excluded, due_first, due_reexec, due_reread, enter_level, due_level, due_news}
 use Rattle.trace_laws.proofs.Words.{record_ids, stop_step, stops_of, stops_among, due_stops, can_start, start_steps}
 use Rattle.trace_laws.proofs.Words.{starts_among, due_starts, is_over, next_stage, due_stage, is_announced, settle_step}
@@ -14,7 +16,7 @@ use Rattle.trace_events.specs.declared.happenings.Happening.TheVariants as happe
 use Rattle.trace_events.specs.declared.steps.Step.TheVariants.{Enter, Call, Power, Hold, Settle}
 use Rattle.trace_laws.proofs.Plain.{Plain, Comes, plain_ind}
 
--- a stage is the first, or the one before it is over
+-- the stage is the first one, or the stage before it is over
 abbrev pub Entered : Goal → List Event → Stage → ℕ → Type 0
 Entered goal past now grace =
     ((stage_of past ≡ None) × (now ≡ stage.Sysinit) × (grace ≡ (goal_of goal past).grace))
@@ -35,18 +37,18 @@ if_steps : (P : Step → Type 0) (b : Bool) (steps : List Step) → P Idle → (
     → P (first (steps_if b steps))
 if_steps P b steps idle f = grind arith
 
--- no level is wished for
-pub unheard : (goal : Goal) (past : List Event) → Plain goal past → heard_level past ≡ None
+-- no request for a level is pending
+pub unheard : (goal : Goal) (past : List Event) → Plain goal past → last_requested_level past ≡ None
 unheard goal past plain =
-    plain_ind goal (λ p. heard_level p ≡ None) (λ table distinct. refl) goes past plain.runs plain.mild where
-      goes : (happening : Event) (p : List Event) → Comes goal happening p → heard_level p ≡ None
-          → heard_level (happening ∷ p) ≡ None
+    plain_ind goal (λ p. last_requested_level p ≡ None) (λ table distinct. refl) goes past plain.runs plain.mild where
+      goes : (happening : Event) (p : List Event) → Comes goal happening p → last_requested_level p ≡ None
+          → last_requested_level (happening ∷ p) ≡ None
       goes happening p comes before = grind arith
 
-unwished : (past : List Event) → heard_level past ≡ None → level_wish past ≡ None
+unwished : (past : List Event) → last_requested_level past ≡ None → level_wish past ≡ None
 unwished past none = grind arith
 
--- the goal is that of the opening
+-- the goal is still the opening goal
 pub same_goal : (goal : Goal) (past : List Event) → Plain goal past → goal_of goal past ≡ goal
 same_goal goal past plain =
     plain_ind goal (λ p. goal_of goal p ≡ goal) (λ table distinct. refl) goes past plain.runs plain.mild where
@@ -68,7 +70,7 @@ module _ (goal : Goal) (past : List Event) where
   news : P (first (due_news past))
   news = grind arith
 
-  -- a signal is no start
+  -- a signal is not a start
   no_start : (b : Bool) (grace now : ℕ) (hits : List Signal) → cond b (stop_by grace now hits) None ≡ Some Start → ⊥
   no_start b grace now hits h = grind arith
 
@@ -77,8 +79,8 @@ module _ (goal : Goal) (past : List Event) where
 
   stops : (id : List ℕ) (children : List Child) → P (first (stops_of id children past))
   stops id [] = tt
-  stops id (child ∷ children) = join P (steps_if (is_of id child) (stop_step id (stop_due child past)))
-      (stops_of id children past) (if_steps P (is_of id child) (stop_step id (stop_due child past)) tt
+  stops id (child ∷ children) = join P (steps_if (is_child_of id child) (stop_step id (stop_due child past)))
+      (stops_of id children past) (if_steps P (is_child_of id child) (stop_step id (stop_due child past)) tt
       (λ _. signal id child (stop_due child past) refl)) (stops id children)
 
   stops_all : (ids : List (List ℕ)) → P (first (stops_among ids past))
@@ -87,7 +89,7 @@ module _ (goal : Goal) (past : List Event) where
       (stops_among ids past) (if_steps P (is_none (open_of id past)) (stops_of id (known_children past) past) tt
       (λ _. stops id (known_children past))) (stops_all ids)
 
-  -- no stage is entered by a start or a hold
+  -- starts and holds do not enter a stage
   abbrev NoEnter : Step → Type 0
   NoEnter (Enter now grace) = ⊥
   NoEnter _ = Unit {0}
@@ -104,7 +106,8 @@ module _ (goal : Goal) (past : List Event) where
         later b rest = grind arith
 
   all_starts : P (first (due_starts past))
-  all_starts = named (first (due_starts past)) refl (if_steps NoEnter (not (wish_stands past) && none_excluded past)
+  all_starts =
+      named (first (due_starts past)) refl (if_steps NoEnter (not (is_request_pending past) && none_excluded past)
       (starts_among (table_of past) past) tt (λ _. starts (table_of past))) where
         named : (step : Step) → first (due_starts past) ≡ step → NoEnter step → P step
         named step is none = grind arith
@@ -113,7 +116,7 @@ module _ (goal : Goal) (past : List Event) where
   stages = grind arith
 
   settles : P (first (due_settle past))
-  settles = if_steps P (not (wish_stands past) && is_idle past && not (is_announced past))
+  settles = if_steps P (not (is_request_pending past) && is_idle past && not (is_announced past))
       (settle_step (stage_of past) past) tt (λ _. by_stage (stage_of past)) where
         by_stage : (o : Option Stage) → P (first (settle_step o past))
         by_stage o = grind arith
@@ -160,7 +163,7 @@ module _ (goal : Goal) (past : List Event) where
 
         stops_now : P (first (due_stops past))
         stops_now =
-            if_steps P (not (wish_stands past)) (stops_among (record_ids past) past) tt
+            if_steps P (not (is_request_pending past)) (stops_among (record_ids past) past) tt
             (λ _. stops_all (record_ids past))
 
 is_enter : (step : Step) (now : Stage) (grace : ℕ) → same_step step (Enter now grace) ≡ true → step ≡ Enter now grace

@@ -1,11 +1,14 @@
--- The law of plans: behind the steps so far stand the starts that are coming in the stage, and the stages after it.
+-- The law of plans: the steps so far, the starts still to come in the stage, and the stages after it together are the
+-- plan.
 use Rattle.trace_laws.proofs.Words.{◌≡◌, refl, sym, ◌∙◌, ap, subst, ℕ, Bool, true, false, not, ◌&&◌, ◌||◌, List, []}
 use Rattle.trace_laws.proofs.Words.{◌∷◌, ◌++◌, map, filter, Option, Some, None, append_assoc, arith, list_any, list_all}
 use Rattle.trace_laws.proofs.Words.{false≢true, and_parts, not-true, or_from, append-nil, Entry, Act, Level, Mark, At}
 use Rattle.trace_laws.proofs.Words.{Start, Stage, starts_by, wanted_by, served_by, waited_of, same_level-is, falsely}
-use Rattle.trace_laws.proofs.Words.{NewTable, Asked, Step, Goal, Event, table_of, stage_of, is_of, has_child, is_quiet}
+use Rattle.trace_laws.proofs.Words.{NewTable, Asked, Step, Goal, Event, table_of, stage_of, is_child_of, has_child}
+use Rattle.trace_laws.proofs.Words.{is_quiet}
 use Rattle.trace_laws.proofs.Words.{kept_children, known_children, is_asked, is_wanted, is_owed, is_owed_before}
-use Rattle.trace_laws.proofs.Words.{is_excluded, is_held, is_level, wish_stands, none_excluded, steps_if, starts_among}
+use Rattle.trace_laws.proofs.Words.{is_excluded, is_held, is_level, is_request_pending, none_excluded, steps_if}
+use Rattle.trace_laws.proofs.Words.{starts_among}
 use Rattle.trace_laws.proofs.Words.{due_starts, is_over, due, first, is_announced, is_served, keeps_order, is_orderly}
 use Rattle.trace_laws.proofs.Words.{may_come, is_started, started_in, start_of, boot_before, steps_along, plan_of}
 use Rattle.trace_laws.proofs.Words.{BeginsWith, is_undisturbed, taken}
@@ -21,13 +24,13 @@ use Rattle.trace_laws.proofs.Children.{IsFound}
 use Rattle.trace_laws.proofs.Starts.{is_coming, started_now, coming_wanted, coming_childless, never_held, AreFound}
 use Rattle.trace_laws.proofs.Starts.{found_all, first_coming}
 
--- the steps of the stages after one
+-- the steps of the stages after the given one
 abbrev after : Goal → List Entry → Stage → List Step
 after goal table stage.Sysinit = steps_along goal.grace table (boot_before goal.level ++ stage.Run goal.level ∷ [])
 after goal table stage.Boot = steps_along goal.grace table (stage.Run goal.level ∷ [])
 after goal table (stage.Run level) = []
 
--- what is left of the plan: the starts that are coming, and the stages after this one
+-- the rest of the plan: the starts still to come, and the stages after this one
 abbrev left_in : Goal → List Entry → List Step → Option Stage → List Step
 left_in goal table coming None = plan_of goal table
 left_in goal table coming (Some now) = coming ++ after goal table now
@@ -36,7 +39,7 @@ abbrev left_of : Goal → List Event → List Step
 left_of goal past =
     left_in goal (table_of past) (map start_of (filter (is_coming past) (table_of past))) (stage_of past)
 
--- in a stage that is over nothing is coming
+-- no starts are to come in a stage that is over
 none_coming : (goal : Goal) (past : List Event) → Plain goal past → (p : Entry → Bool)
     → ((e : Entry) → IsFound e past → p e ≡ true → is_coming past e ≡ false) → (es : List Entry)
     → AreFound (table_of past) es → list_all p es ≡ true → filter (is_coming past) es ≡ []
@@ -50,7 +53,7 @@ over_coming goal past plain over = none_coming goal past plain
     (found_all (table_of past) (plain_distinct goal past plain)) each where
       each : list_all (λ e. not (is_wanted e past) && not (waited_of e && has_child e.id (kept_children past)))
           (table_of past) ≡ true
-      each = (and_parts (not (wish_stands past) && is_quiet past && none_excluded past) (list_all
+      each = (and_parts (not (is_request_pending past) && is_quiet past && none_excluded past) (list_all
           (λ e. not (is_wanted e past) && not (waited_of e && has_child e.id (kept_children past)))
           (table_of past)) over).1
 
@@ -59,7 +62,7 @@ over_coming goal past plain over = none_coming goal past plain
       gone e found h = sym (coming_wanted goal past plain e found) ∙ not-true (is_wanted e past)
           (and_parts (not (is_wanted e past)) (not (waited_of e && has_child e.id (kept_children past))) h).0
 
--- the stage after one is entered
+-- the steps from entering a stage to the end of the plan
 abbrev entering : Goal → List Entry → Stage → ℕ → List Step
 entering goal table now grace = step.Enter now grace ∷ (map start_of (started_in table now) ++ after goal table now)
 
@@ -67,7 +70,7 @@ plan_opens : (goal : Goal) (table : List Entry) (now : Stage) (grace : ℕ) → 
     → plan_of goal table ≡ entering goal table now grace
 plan_opens goal table now grace first is = rw (first, is) refl
 
--- what the entering leaves: the starts of the stage, and the stages after it
+-- entering a stage leaves its starts and the stages after it
 enter_left : (goal : Goal) (past : List Event) (now : Stage) (grace : ℕ) → Comes goal (Enter now grace) past
     → left_of goal past ≡ step.Enter now grace ∷ left_of goal (Enter now grace ∷ past)
 enter_left goal past now grace comes = by_facts (entered goal now grace past comes) where
@@ -77,10 +80,10 @@ enter_left goal past now grace comes = by_facts (entered goal now grace past com
   by_facts : Entered goal past now grace → left_of goal past ≡ entering goal (table_of past) now grace
   by_facts v0 = grind (arith, is_coming, plan_opens, same_goal, over_coming)
 
--- what a start leaves
+-- the first due start is the first start still to come
 starts_first : (past : List Event) (id : List ℕ) → first (due_starts past) ≡ step.Order id Start
     → first (starts_among (table_of past) past) ≡ step.Order id Start
-starts_first past id is = split (not (wish_stands past) && none_excluded past) is where
+starts_first past id is = split (not (is_request_pending past) && none_excluded past) is where
   split : (b : Bool) → first (steps_if b (starts_among (table_of past) past)) ≡ step.Order id Start
       → first (starts_among (table_of past) past) ≡ step.Order id Start
   split b is = grind arith
@@ -93,7 +96,7 @@ start_left goal past id comes = in_stage (stage_of past) refl where
   coming = first_coming goal past comes.before id (table_of past) (found_all (table_of past) (plain_distinct goal past
       comes.before)) (plain_distinct goal past comes.before) (starts_first past id (started goal id past comes))
 
-  -- before the first stage nothing is coming
+  -- before the first stage no start is to come
   none : (es : List Entry) → stage_of past ≡ None → filter (is_coming past) es ≡ []
   none [] is = refl
   none (e ∷ es) is = grind (arith, none es)
@@ -104,7 +107,7 @@ start_left goal past id comes = in_stage (stage_of past) refl where
   in_stage None is = grind arith
   in_stage (Some now) is = ap (λ xs. xs ++ after goal (table_of past) now) coming
 
--- the steps so far and what is left are the plan
+-- the steps so far, followed by the rest of the plan, are the plan
 abbrev Follows : Goal → List Event → Type 0
 Follows goal past = taken past ++ left_of goal past ≡ plan_of goal (table_of past)
 
@@ -128,7 +131,7 @@ pub begins : (goal : Goal) (past : List Event) → is_orderly goal past ≡ true
     → BeginsWith (taken past) (plan_of goal (table_of past))
 begins goal past runs mild = (left_of goal past, follows goal past runs mild)
 
--- where a level is settled, nothing is left
+-- once a level is settled, nothing of the plan is left
 served_asked : (action : Act) (levels : List Mark) (level : Level) (asked up : Bool)
     → (starts_by action levels (stage.Run level) && wanted_by action true true false) ≡ true
     → (not (names (At level) levels) || served_by action asked up) ≡ true → asked ≡ false → up ≡ false → ⊥
@@ -151,7 +154,7 @@ settle_left goal past level comes = in_stage (stage_of past) refl there.0 where
   there : (is_level level (stage_of past) ≡ true) × (not (list_any (is_excluded past) (known_children past)) ≡ true)
   there = and_parts (is_level level (stage_of past)) (not (list_any (is_excluded past) (known_children past))) all.0
 
-  -- an entry that is served isn't coming
+  -- an entry that is served is not to be started
   gone : (l : Level) → stage_of past ≡ Some (stage.Run l) → level ≡ l → (e : Entry) → IsFound e past
       → is_served level (known_children past) past e ≡ true → is_coming past e ≡ false
   gone l is same e found served = split (is_coming past e) refl where
@@ -163,7 +166,7 @@ settle_left goal past level comes = in_stage (stage_of past) refl there.0 where
         subst (λ k. is_started (stage.Run k) e ≡ true) (sym same) (ap (started_now e) (sym is) ∙ parts.1) in
         let childless : has_child e.id (known_children past) ≡ false =
         falsely (has_child e.id (known_children past)) (has_child e.id (kept_children past))
-        (known_kept (is_of e.id) past) (coming_childless goal past plain e found h) in
+        (known_kept (is_child_of e.id) past) (coming_childless goal past plain e found h) in
         absurd (served_asked e.act e.levels.items level (is_asked e.id past)
         (has_child e.id (known_children past) || is_held e.id past) starts
         (and_parts (not (is_owed e past)) (not (names (At level) e.levels.items)

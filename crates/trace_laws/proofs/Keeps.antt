@@ -1,14 +1,15 @@
--- What every sound trace keeps at each of its moments.
+-- What holds at each moment of every sound trace.
 use Rattle.trace_laws.proofs.Words.{◌≡◌, refl, sym, ◌∙◌, ap, subst, inl, inr, ℕ, ◌==◌, Bool, true, false, not, ◌&&◌}
 use Rattle.trace_laws.proofs.Words.{◌||◌, cond, List, [], ◌∷◌, Option, Some, None, is_some, arith, list_any, false≢true}
 use Rattle.trace_laws.proofs.Words.{and_parts, and_from, and_left, and_right, or_left, or_right, or_from, not-true}
 use Rattle.trace_laws.proofs.Words.{none-some, same_Some, Entry, Act, OrderKind, Start, Look, Term, Kill, same_id}
 use Rattle.trace_laws.proofs.Words.{same_ask, waited_by, wanted_by, has_id, entry_of, is_distinct, NewTable, Asked}
 use Rattle.trace_laws.proofs.Words.{Birth, NoBirth, Reaped, Still, NoLook, Hit, Miss, Told, Goal, Event, table_of}
-use Rattle.trace_laws.proofs.Words.{stage_of, Child, is_of, is_child, has_number, has_child, open_of, undone_of}
+use Rattle.trace_laws.proofs.Words.{stage_of, Child, is_child_of, is_child, has_number, has_child, open_of, undone_of}
 use Rattle.trace_laws.proofs.Words.{is_untold, is_quiet, newborn, unreaped_children, kept_children, known_children}
 use Rattle.trace_laws.proofs.Words.{starts_in, is_order, is_asked, is_called, is_wanted, is_owed, entries_before}
-use Rattle.trace_laws.proofs.Words.{is_owed_before, is_excluded, stop_due, is_placed, may_term, is_due, same_id-is}
+use Rattle.trace_laws.proofs.Words.{is_owed_before, is_excluded, stop_due, has_startable_entry, may_term, is_due}
+use Rattle.trace_laws.proofs.Words.{same_id-is}
 use Rattle.trace_laws.proofs.Words.{same_id-self, same_id-apart, both_ways, falsely, or_either, not_from, any_less}
 use Rattle.trace_laws.proofs.Words.{any_within, may_come, is_sound}
 use Rattle.init_words.specs.declared.children.Status.{Status}
@@ -19,11 +20,11 @@ use Rattle.trace_laws.proofs.Orders.{cleared, undone_is_open, quiet_looks, told_
 use Rattle.trace_laws.proofs.Orders.{same_of}
 use Rattle.trace_laws.proofs.Dues.{is_signal, MayRun, MayStart, MayStop, due_facts}
 
--- while a Start of the id is undone: no kept child of it, its entry starts in the stage, no earlier one is owed, no
--- kept child is excluded
+-- while a Start of the id is not carried out, the id has no kept child, its entry starts in the stage, no earlier entry
+-- is owed, and no kept child is excluded
 pub record Ready (id : List ℕ) (past : List Event) : Type 0 where
   pub childless : has_child id (kept_children past) ≡ false
-  pub placed : is_placed id past ≡ true
+  pub placed : has_startable_entry id past ≡ true
   pub ahead : is_owed_before id past ≡ false
   pub spared : list_any (is_excluded past) (kept_children past) ≡ false
 
@@ -36,12 +37,12 @@ pub record Holds (past : List Event) : Type 0 where
   pub stopping : (id : List ℕ) (ask : OrderKind) → undone_of id past ≡ Some ask → is_signal ask ≡ true
       → may_term id past ≡ true
 
--- an order that is due is of an id with no open order
+-- an order is due only if its id has no open order
 pub asked_free : (goal : Goal) (i : List ℕ) (ask : OrderKind) (past : List Event)
     → is_due goal (step.Order i ask) past ≡ true → open_of i past ≡ None
 asked_free goal i ask past h = grind (arith, due_facts)
 
--- where no order of the id is open, nothing of it is untold
+-- an id without an open order has no untold act
 pub free_told : (id : List ℕ) (past : List Event) → ((x : List ℕ) → is_untold x past ≡ true
     → is_some (open_of x past) ≡ true) → open_of id past ≡ None → is_untold id past ≡ false
 free_told id past told free = falsely (is_untold id past) (is_some (open_of id past)) (told id) (ap is_some free)
@@ -49,7 +50,7 @@ free_told id past told free = falsely (is_untold id past) (is_some (open_of id p
 signal_busy : (ask : OrderKind) → is_signal ask ≡ true → same_ask Look ask ≡ false
 signal_busy ask h = grind arith
 
--- at a quiet point no Start and no signal is undone
+-- at a quiet point no Start and no signal is waiting to be carried out
 no_start : {P : Type 0} (id : List ℕ) (past : List Event) → is_quiet past ≡ true → undone_of id past ≡ Some Start → P
 no_start id past quiet is = absurd (false≢true (quiet_looks id Start past quiet (undone_is_open id Start past is)))
 
@@ -58,12 +59,12 @@ no_signal : {P : Type 0} (id : List ℕ) (ask : OrderKind) (past : List Event) �
 no_signal id ask past quiet is signal = both_ways (same_ask Look ask)
     (quiet_looks id ask past quiet (undone_is_open id ask past is)) (signal_busy ask signal)
 
--- an act is done on an order that was open
+-- an act comes only on an open order
 pub undone_some : (ask : OrderKind) (id : List ℕ) (past : List Event) → is_order ask (undone_of id past) ≡ true
     → is_some (open_of id past) ≡ true
 undone_some ask id past h = ap is_some (undone_is_open id ask past (is_order-is ask (undone_of id past) h))
 
--- a birth came on an undone Start, a reaping on an undone Look
+-- a birth comes on a Start that is not carried out yet, a reaping on such a Look
 pub start_undone : (goal : Goal) (id : List ℕ) (n : ℕ) (past : List Event) → may_come goal (Birth id n) past ≡ true
     → is_order Start (undone_of id past) ≡ true
 start_undone goal id n past may =
@@ -74,7 +75,7 @@ pub look_undone : (goal : Goal) (id : List ℕ) (n : ℕ) (status : Status) (pas
     → (is_order Look (undone_of id past) ≡ true) × (list_any (is_child id n) (unreaped_children past) ≡ true)
 look_undone goal id n status past may = grind arith
 
--- so its id was ready for it
+-- so the id of a birth was ready for it
 pub born_ready : (goal : Goal) (id : List ℕ) (n : ℕ) (past : List Event) → may_come goal (Birth id n) past ≡ true
     → Holds past → Ready id past
 born_ready goal id n past may holds =
@@ -85,7 +86,7 @@ signal_some : (id : List ℕ) (past : List Event)
 signal_some id past h = or_either (is_order Term (undone_of id past)) (is_order Kill (undone_of id past)) h
     (undone_some Term id past) (undone_some Kill id past)
 
--- the field told
+-- the field `told` is preserved
 act_told : (id i : List ℕ) (past : List Event) → (is_untold id past ≡ true → is_some (open_of id past) ≡ true)
     → is_some (open_of i past) ≡ true → (same_id id i || is_untold id past) ≡ true → is_some (open_of id past) ≡ true
 act_told id i past before here h = or_either (same_id id i) (is_untold id past) h (λ same. let P : List ℕ
@@ -97,7 +98,7 @@ told_keeps : (goal : Goal) (happening : Event) (past : List Event) → may_come 
 told_keeps goal happening past may id before h =
     grind (arith, act_told, undone_some, start_undone, look_undone, signal_some)
 
--- the field done
+-- the field `done` is preserved
 act_done : (id i : List ℕ) (ask : OrderKind) (past : List Event) → (undone_of id past ≡ Some ask → is_untold id past
     ≡ false) → cond (same_id id i) None (undone_of id past) ≡ Some ask → (same_id id i || is_untold id past) ≡ false
 act_done id i ask past before h = cleared (same_id id i) (undone_of id past) ask
@@ -124,26 +125,28 @@ done_keeps goal (Miss i) past may told id ask before h = act_done id i ask past 
 done_keeps goal (_) past may told id ask before h = before h
 
 -- a child that is born of an entry that starts in the stage is not excluded
-pub placed_spared : (id : List ℕ) (n : ℕ) (past : List Event) → is_placed id past ≡ true
+pub placed_spared : (id : List ℕ) (n : ℕ) (past : List Event) → has_startable_entry id past ≡ true
     → is_excluded past (newborn id n past) ≡ false
 placed_spared id n past h = grind arith
 
--- before the first stage no entry starts
-pub not_placed : {P : Type 0} (id : List ℕ) (past : List Event) → stage_of past ≡ None → is_placed id past ≡ true → P
+-- no entry starts before the first stage
+pub not_placed : {P : Type 0} (id : List ℕ) (past : List Event) → stage_of past ≡ None
+    → has_startable_entry id past ≡ true → P
 not_placed id past dawn h = grind arith
 
--- owed, of what is read off the past: a child, an open Start, whether it starts, is fresh, is called
+-- whether an entry is owed, from what init reads off the past: has it a child or an open Start, does it start here, is
+-- it fresh, was it called
 abbrev owed_by : Act → Bool → Bool → Bool → Bool → Bool → Bool
 owed_by action child start starts fresh called =
     waited_by action && (child || start || starts && wanted_by action (not child && not start) fresh called)
 
--- an entry that is owed with a child and a Start is owed with more of them
+-- an entry that is owed stays owed if it gains a child or a Start
 owed_less : (action : Act) (child start more starting starts fresh called : Bool) → (child ≡ true → more ≡ true)
     → (start ≡ true → starting ≡ true) → owed_by action child start starts fresh called ≡ true
     → owed_by action more starting starts fresh called ≡ true
 owed_less action child start more starting starts fresh called f g h = grind arith
 
--- what is owed after a birth, a Told or an order was owed before it
+-- an entry that is owed after a birth, a `told` or an order was owed before it
 born_owed : (action : Act) (own child start starts fresh called : Bool) → (own ≡ true → start ≡ true) → owed_by action
     (own || child) start starts fresh called ≡ true → owed_by action child start starts fresh called ≡ true
 born_owed action own child start starts fresh called f h = grind arith
@@ -170,13 +173,14 @@ owed_asked : (e : Entry) (i : List ℕ) (past : List Event) → (same_id e.id i 
     → is_owed e (Asked i Start ∷ past) ≡ true → is_owed e past ≡ true
 owed_asked e i past wanted h = grind arith
 
--- an entry that is found stands in the table
+-- an entry that is found by its id is in the table
 pub entry_listed : (id : List ℕ) (es : List Entry) (e : Entry) → entry_of id es ≡ Some e
     → list_any (has_id id) es ≡ true
 entry_listed id [] e h = absurd (none-some e h)
 entry_listed id (x ∷ es) e h = grind (arith, entry_listed id es e)
 
--- a test of the entries before an id's follows from another, where it does at each entry that its own id finds
+-- an implication between two tests carries over to the entries before an id, if it holds at each entry that is found by
+-- its own id
 before_less : (p q : Entry → Bool) (id : List ℕ) (es : List Entry) → is_distinct es ≡ true
     → ((e : Entry) → entry_of e.id es ≡ Some e → p e ≡ true → q e ≡ true) → list_any p (entries_before id es) ≡ true
     → list_any q (entries_before id es) ≡ true
@@ -202,7 +206,7 @@ before_less p q id (x ∷ es) distinct less h = at_id (same_id id x.id) h
           (λ here. or_left (q x) (list_any q (entries_before id es)) (less x first here))
           (λ more. or_right (q x) (list_any q (entries_before id es)) (rest more))
 
--- where each entry that is owed after was owed before, no earlier entry becomes owed
+-- if each entry that is owed afterwards was owed before, no earlier entry becomes owed
 ahead_less : (id : List ℕ) (happening : Event) (past : List Event) → is_distinct (table_of past) ≡ true → ((e : Entry)
     → entry_of e.id (table_of past) ≡ Some e → is_owed e (happening ∷ past) ≡ true → is_owed e past ≡ true)
     → is_owed_before id past ≡ false
@@ -218,7 +222,7 @@ run_wanted i past may distinct e found same = subst (λ (x : Entry). is_wanted x
       (sym (may.found distinct) ∙ ap (λ x. entry_of x (table_of past)) (sym (same_id-is e.id i same)) ∙ found)
 
 pub run_placed : (i : List ℕ) (past : List Event) → MayRun i (table_of past) past → is_distinct (table_of past) ≡ true
-    → is_placed i past ≡ true
+    → has_startable_entry i past ≡ true
 run_placed i past may distinct =
     rw (may.found distinct) (and_parts (starts_in may.entry (stage_of past)) _ may.wanted).0
 
@@ -232,7 +236,7 @@ ready_start i past distinct may = record {
   spared = may.spared;
 }
 
--- the field ready
+-- the field `ready` is preserved
 pub start_stays : (b : Bool) (ask : OrderKind) (o : Option OrderKind) → same_ask Start ask ≡ false
     → cond b (Some ask) o ≡ Some Start → o ≡ Some Start
 start_stays b ask o other h = grind arith
@@ -312,20 +316,21 @@ ready_told i past holds id h = cleared (same_id id i) (undone_of id past) Start 
       let was = holds.ready id is in
       record {
         childless = falsely (has_child id (kept_children (Told i ∷ past))) (has_child id (kept_children past))
-            (kept_before_told (is_of id) i past) was.childless;
+            (kept_before_told (is_child_of id) i past) was.childless;
         placed = was.placed;
         ahead = ahead_less id (Told i) past holds.distinct (λ e found. owed_told e i past) was.ahead;
         spared = falsely (list_any (is_excluded past) (kept_children (Told i ∷ past)))
             (list_any (is_excluded past) (kept_children past)) (kept_before_told (is_excluded past) i past) was.spared;
       }
 
--- an act on another order leaves what it found
+-- an act on another order does not change what is read for this id
 act_ready : (id : List ℕ) (past : List Event) (b : Bool) → cond b None (undone_of id past) ≡ Some Start
     → (undone_of id past ≡ Some Start → Ready id past) → Ready id past
 act_ready id past b h before = cleared b (undone_of id past) Start (λ differ is. before is) h
 
 same_ready : (id : List ℕ) (happening : Event) (past : List Event) → has_child id (kept_children (happening ∷ past))
-    ≡ has_child id (kept_children past) → is_placed id (happening ∷ past) ≡ is_placed id past → is_owed_before id
+    ≡ has_child id (kept_children past) → has_startable_entry id (happening ∷ past) ≡ has_startable_entry id past
+    → is_owed_before id
     (happening ∷ past) ≡ is_owed_before id past → list_any (is_excluded (happening ∷ past)) (kept_children
     (happening ∷ past)) ≡ list_any (is_excluded past) (kept_children past) → Ready id past → Ready id (happening ∷ past)
 same_ready id happening past e1 e2 e3 e4 was = record {
@@ -361,18 +366,19 @@ ready_keeps goal (Miss i) past may holds id h =
     same_ready id (Miss i) past refl refl refl refl (act_ready id past (same_id id i) h (holds.ready id))
 ready_keeps goal happening past may holds id h = same_ready id happening past refl refl refl refl (holds.ready id h)
 
--- the field stopping
+-- the field `stopping` is preserved
 pub stop_excluded : (child : Child) (ask : OrderKind) (past : List Event) → stop_due child past ≡ Some ask
     → is_excluded past child ≡ true
 stop_excluded child ask past h = grind arith
 
--- a child that a signal is due to is known, so unreaped where no order of its id is open
+-- a child to which a signal is due is known, and so unreaped if its id has no open order
 pub stop_unreaped : (id : List ℕ) (ask : OrderKind) (past : List Event) → ((x : List ℕ) → is_untold x past ≡ true
     → is_some (open_of x past) ≡ true) → (may : MayStop id ask past) → (p : Child → Bool) → p may.child ≡ true
-    → list_any (λ child. is_of id child && p child) (unreaped_children past) ≡ true
+    → list_any (λ child. is_child_of id child && p child) (unreaped_children past) ≡ true
 stop_unreaped id ask past told may p holds = sym (same_of id p (known_children past) (unreaped_children past)
     (told_known id past (free_told id past told may.unasked)))
-    ∙ may.within (λ child. is_of id child && p child) (and_from (is_of id may.child) (p may.child) may.own holds)
+    ∙ may.within (λ child. is_child_of id child && p child)
+    (and_from (is_child_of id may.child) (p may.child) may.own holds)
 
 stop_may : (id : List ℕ) (ask : OrderKind) (past : List Event) → ((x : List ℕ) → is_untold x past ≡ true
     → is_some (open_of x past) ≡ true) → MayStop id ask past → may_term id past ≡ true
@@ -394,7 +400,7 @@ stop_keeps goal (Enter s grace) past may holds id ask h signal = elim (due_facts
       none_there : list_any (λ (child : Child). true) (kept_children past) ≡ false → ⊥
       none_there none = both_ways (list_any (λ (child : Child). true) (kept_children past))
           (unreaped_kept (λ child. true) past
-          (any_less (λ child. is_of id child && is_excluded past child) (λ child. true)
+          (any_less (λ child. is_child_of id child && is_excluded past child) (λ child. true)
           (λ child _. refl) (unreaped_children past) (holds.stopping id ask h signal))) none
 stop_keeps goal (Asked i given) past may holds id ask h signal = at_id (same_id id i) refl h where
   at_id : (b : Bool) → same_id id i ≡ b → cond b (Some given) (undone_of id past) ≡ Some ask → may_term id past ≡ true
@@ -403,12 +409,13 @@ stop_keeps goal (Asked i given) past may holds id ask h signal = at_id (same_id 
   at_id false differ h = holds.stopping id ask h signal
 stop_keeps goal (Birth i n) past may holds id ask h signal = grind arith
 stop_keeps goal (Reaped i n status) past may holds id ask h signal = cleared (same_id id i) (undone_of id past) ask
-    (λ differ is. any_within (λ child. is_of id child && is_excluded past child) (λ child. not (is_child i n child))
+    (λ differ is. any_within (λ child. is_child_of id child && is_excluded past child)
+    (λ child. not (is_child i n child))
     (other differ) (unreaped_children past) ∙ holds.stopping id ask is signal) h where
-      other : same_id id i ≡ false → (child : Child) → (is_of id child && is_excluded past child) ≡ true
+      other : same_id id i ≡ false → (child : Child) → (is_child_of id child && is_excluded past child) ≡ true
           → not (is_child i n child) ≡ true
       other differ child own = not_from (is_child i n child) (and_left (same_id i child.id) (n == child.number)
-          (same_id-apart id i child.id differ (and_parts (is_of id child) (is_excluded past child) own).0))
+          (same_id-apart id i child.id differ (and_parts (is_child_of id child) (is_excluded past child) own).0))
 stop_keeps goal (Told i) past may holds id ask h signal =
     cleared (same_id id i) (undone_of id past) ask (λ differ is. holds.stopping id ask is signal) h
 stop_keeps goal (NoBirth i) past may holds id ask h signal =
@@ -423,7 +430,7 @@ stop_keeps goal (Miss i) past may holds id ask h signal =
     cleared (same_id id i) (undone_of id past) ask (λ differ is. holds.stopping id ask is signal) h
 stop_keeps goal (_) past may holds id ask h signal = holds.stopping id ask h signal
 
--- the fields distinct and dawn
+-- the fields `distinct` and `dawn` are preserved
 distinct_keeps : (goal : Goal) (happening : Event) (past : List Event) → may_come goal happening past ≡ true
     → is_distinct (table_of past) ≡ true → is_distinct (table_of (happening ∷ past)) ≡ true
 distinct_keeps goal happening past may distinct = grind arith
@@ -446,7 +453,7 @@ keeps goal happening past may holds = record {
 pub begins : (table : List Entry) → is_distinct table ≡ true → Holds (NewTable table ∷ [])
 begins table distinct = grind arith
 
--- what holds at the first table and is kept by each happening that may come holds of every sound trace
+-- induction: what holds at the first table and is preserved by each happening that may come holds of every sound trace
 pub sound_ind : (goal : Goal) (P : List Event → Type 0) → ((table : List Entry) → is_distinct table ≡ true → P
     (NewTable table ∷ [])) → ((happening : Event) (past : List Event) → may_come goal happening past ≡ true → is_sound
     goal past ≡ true → P past → P (happening ∷ past)) → (past : List Event) → is_sound goal past ≡ true → P past
@@ -456,7 +463,7 @@ sound_ind goal P first next (happening ∷ past) h =
     let parts = and_parts (may_come goal happening past) (is_sound goal past) h in
     next happening past parts.0 parts.1 (sound_ind goal P first next past parts.1)
 
--- every sound trace keeps all this
+-- all of this holds of every sound trace
 pub sound_holds : (goal : Goal) (past : List Event) → is_sound goal past ≡ true → Holds past
 sound_holds goal past h =
     sound_ind goal Holds begins (λ happening before may sound. keeps goal happening before may) past h

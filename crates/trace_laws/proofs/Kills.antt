@@ -1,12 +1,13 @@
--- Of each unreaped child at most one Hit of a KILL is told in a spell.
+-- In each spell of an unreaped child, at most one KILL that was sent is told.
 use Rattle.trace_laws.proofs.Words.{◌≡◌, ◌≤◌, ◌+◌, refl, sym, ◌∙◌, ap, subst, ℕ, Bool, true, false, not, ◌&&◌, ◌||◌}
 use Rattle.trace_laws.proofs.Words.{cond, nat_le, List, [], ◌∷◌, ◌++◌, filter, map, length, Option, Some, None, arith}
 use Rattle.trace_laws.proofs.Words.{le_trans, le_refl, length-append, list_any, list_all, false≢true, and_parts}
 use Rattle.trace_laws.proofs.Words.{and_from, or_left, or_parts, le-leb, leb-true, filter-append, OrderKind, Start}
 use Rattle.trace_laws.proofs.Words.{Look, Term, Kill, same_id, Asked, Birth, NoBirth, Reaped, Still, NoLook, Hit, Miss}
-use Rattle.trace_laws.proofs.Words.{Told, Goal, Event, Child, grace_of, time_of, is_of, is_child, open_of, undone_of}
+use Rattle.trace_laws.proofs.Words.{Told, Goal, Event, Child, grace_of, time_of, is_child_of, is_child, open_of}
+use Rattle.trace_laws.proofs.Words.{undone_of}
 use Rattle.trace_laws.proofs.Words.{is_untold, newborn, unreaped_children, is_order, Signal, untold_hits, told_at}
-use Rattle.trace_laws.proofs.Words.{in_spell, spell_hits, is_due, may_come, is_sound, kills_once, same_id-is}
+use Rattle.trace_laws.proofs.Words.{in_spell, spell_hits, is_due, may_come, is_sound, at_most_one_kill, same_id-is}
 use Rattle.trace_laws.proofs.Words.{same_id-self, same_id-sym, both_ways, any_less, all_less, all_fail}
 use Rattle.trace_events.specs.declared.steps.Step.TheVariants as step
 use Rattle.trace_laws.proofs.Tests.{is_order-is}
@@ -17,7 +18,7 @@ use Rattle.trace_laws.proofs.Keeps.{sound_holds, sound_ind, asked_free, free_tol
 use Rattle.trace_laws.proofs.Births.{one_child, at_moment}
 use Rattle.trace_laws.proofs.Signals.{OneRipe, kill_ripe}
 
--- the told Hits of a KILL, those under way, and one to come
+-- the KILLs that were told, those sent but not told, and the one that was ordered but not carried out
 abbrev killing : Signal → Bool
 killing signal = is_order Kill signal.order
 
@@ -45,7 +46,7 @@ told_same_kills : (now : ℕ) (orders : List (Option OrderKind))
 told_same_kills now [] = refl
 told_same_kills now (order ∷ orders) = grind (arith, told_same_kills now orders)
 
--- an act done on an order that was not given: nothing new is under way
+-- an act on another order adds nothing that is under way
 act_less : (b : Bool) (n : ℕ) (order : Option OrderKind) → n + coming (cond b None order) ≤ n + coming order
 act_less b n order = grind arith
 
@@ -57,7 +58,7 @@ asked_less : (b : Bool) (n : ℕ) (ask : OrderKind) (order : Option OrderKind) �
     → n + coming (cond b (Some ask) order) ≤ n + coming order
 asked_less b n ask order other = grind arith
 
--- a Hit is of the order that was undone
+-- a signal is sent on the order that was not carried out yet
 hit_less : (b : Bool) (orders : List (Option OrderKind)) (left given : Option OrderKind) → (b ≡ true → left ≡ given)
     → length (filter (is_order Kill) (cond b (given ∷ orders) orders)) + coming (cond b None left)
     ≤ length (filter (is_order Kill) orders) + coming left
@@ -73,7 +74,7 @@ undone_given : (id : List ℕ) (past : List Event) → (is_order Term (undone_of
     || is_order Kill (undone_of id past)) ≡ true → undone_of id past ≡ open_of id past
 undone_given id past h = grind (arith, is_order-is, undone_is_open)
 
--- every happening but the order of a KILL keeps the count of a child's from rising
+-- no happening other than the order of a KILL increases the count for a child
 abbrev is_kill : Event → Bool
 is_kill (Asked i Kill) = true
 is_kill _ = false
@@ -108,7 +109,7 @@ kills_less goal (Miss i) past may other child = add_less _ _ _ _ (spell_same (in
 kills_less goal happening past may other child = add_less _ _ _ _
     (spell_same (in_spell child happening past) (spell_hits child past)) (le_refl (other_kills child.id past))
 
--- where nothing of an id is untold, no Hit of it is
+-- an id without untold acts has no untold signal
 pub hits_told : (id : List ℕ) (past : List Event) → is_untold id past ≡ false → untold_hits id past ≡ []
 hits_told id [] h = refl
 hits_told id (Told i ∷ past) h = grind (arith, hits_told id past)
@@ -123,7 +124,7 @@ hits_told id (NoLook i ∷ past) h = hits_told id past (or_parts (same_id id i) 
 hits_told id (Miss i ∷ past) h = hits_told id past (or_parts (same_id id i) (is_untold id past) h).1
 hits_told id (_ ∷ past) h = hits_told id past h
 
--- where at most one passes p, and one passes p and r, all that pass p pass r
+-- if at most one element passes `p`, and one passes both `p` and `r`, then every element that passes `p` passes `r`
 one_all : (p r : Child → Bool) (xs : List Child) → length (filter p xs) ≤ 1 → list_any (λ x. p x && r x) xs ≡ true
     → list_all (λ x. not (p x) || r x) xs ≡ true
 one_all p r [] one there = refl
@@ -149,17 +150,19 @@ all_filtered : (p q : Child → Bool) (xs : List Child) → list_all p xs ≡ tr
 all_filtered p q [] h = refl
 all_filtered p q (x ∷ xs) h = grind (arith, all_filtered p q xs)
 
--- each unreaped child has at most one
+-- each unreaped child has at most one KILL
 abbrev few_kills : List Event → Child → Bool
 few_kills past child = nat_le (kills child past) 1
 
--- at the order of a KILL none was told to the child, and none is under way
+-- when a KILL is ordered, none was told to the child, and none is under way
 abbrev no_kill : List Event → Child → Bool
 no_kill past child = nat_le (told_kills child past) 0
 
 kill_first : (goal : Goal) (i : List ℕ) (past : List Event) → is_due goal (step.Order i Kill) past ≡ true → is_sound
-    goal past ≡ true → list_all (λ child. not (is_of i child) || no_kill past child) (unreaped_children past) ≡ true
-kill_first goal i past due sound = one_all (is_of i) (no_kill past) (unreaped_children past) (one_child goal past sound
+    goal past ≡ true
+    → list_all (λ child. not (is_child_of i child) || no_kill past child) (unreaped_children past) ≡ true
+kill_first goal i past due sound =
+    one_all (is_child_of i) (no_kill past) (unreaped_children past) (one_child goal past sound
     i) (stop_unreaped i Kill past (sound_holds goal past sound).told may (no_kill past) none) where
       may : MayStop i Kill past
       may = due_facts goal past (step.Order i Kill) due
@@ -205,13 +208,16 @@ sound_kills goal past h = sound_ind goal (λ before. list_all (few_kills before)
           (fewer (Reaped i n status) before may refl) (unreaped_children (Reaped i n status ∷ before))
           (all_filtered (few_kills before) (λ child. not (is_child i n child)) (unreaped_children before) few)
       next (Asked i Kill) before may sound few = all_less (λ child. few_kills before child
-          && (not (is_of i child) || no_kill before child)) (few_kills (Asked i Kill ∷ before)) one
-          (unreaped_children before) (all_and (few_kills before) (λ child. not (is_of i child) || no_kill before child)
+          && (not (is_child_of i child) || no_kill before child)) (few_kills (Asked i Kill ∷ before)) one
+          (unreaped_children before)
+          (all_and (few_kills before) (λ child. not (is_child_of i child) || no_kill before child)
           (unreaped_children before) few (kill_first goal i before may sound)) where
-            one : (child : Child) → (few_kills before child && (not (is_of i child) || no_kill before child)) ≡ true
+            one : (child : Child)
+                → (few_kills before child && (not (is_child_of i child) || no_kill before child)) ≡ true
                 → few_kills (Asked i Kill ∷ before) child ≡ true
             one child both =
-                let parts = and_parts (few_kills before child) (not (is_of i child) || no_kill before child) both in
+                let parts =
+                and_parts (few_kills before child) (not (is_child_of i child) || no_kill before child) both in
                 le-leb (kills child (Asked i Kill ∷ before)) 1 (killed_less (same_id child.id i) (in_spell child
                 (Asked i Kill) before) (untold_hits child.id before) (undone_of child.id before)
                 (spell_hits child before)
@@ -230,8 +236,8 @@ sound_kills goal past h = sound_ind goal (λ before. list_all (few_kills before)
           (fewer happening before may refl) (unreaped_children before) few
 
 pub killed_once : (goal : Goal) (later past : List Event) → is_sound goal (later ++ past) ≡ true
-    → kills_once past ≡ true
-killed_once goal later past h = at_moment goal (λ before. kills_once before ≡ true) refl (λ before sound. all_less
+    → at_most_one_kill past ≡ true
+killed_once goal later past h = at_moment goal (λ before. at_most_one_kill before ≡ true) refl (λ before sound. all_less
     (few_kills before) (λ child. nat_le (told_kills child before) 1) (λ child few. le-leb (told_kills child before) 1
     (told child before few)) (unreaped_children before) (sound_kills goal before sound)) later past h where
       told : (child : Child) (before : List Event) → few_kills before child ≡ true → told_kills child before ≤ 1

@@ -1,8 +1,9 @@
--- What init reads of its kept children off the known ones.
+-- What init reads off the kept children can be read off the known children.
 use Rattle.trace_laws.proofs.Words.{is_none, ◌≡◌, ◌≤◌, refl, ap, ℕ, Bool, true, false, not, ◌&&◌, ◌||◌, List, ◌∷◌}
 use Rattle.trace_laws.proofs.Words.{filter, length, Option, Some, None, lit≤, ◌⊎◌, inl, inr, arith, list_any}
 use Rattle.trace_laws.proofs.Words.{false≢true, and_parts, and_from, Entry, OrderKind, Start, Look, Term, Kill}
-use Rattle.trace_laws.proofs.Words.{waited_of, is_distinct, NewTable, Birth, Told, Goal, Event, Child, is_of, has_child}
+use Rattle.trace_laws.proofs.Words.{waited_of, is_distinct, NewTable, Birth, Told, Goal, Event, Child, is_child_of}
+use Rattle.trace_laws.proofs.Words.{has_child}
 use Rattle.trace_laws.proofs.Words.{open_of, is_quiet, newborn, unreaped_children, kept_children, known_children}
 use Rattle.trace_laws.proofs.Words.{wanted_by, starts_now, is_order, is_asked, is_called, is_wanted, is_owed}
 use Rattle.trace_laws.proofs.Words.{is_excluded, can_start, both_ways, same_tests, or_either, any_less, may_come}
@@ -26,12 +27,12 @@ quiet_start id past quiet = read (open_of id past) refl where
   read (Some Term) is = refl
   read (Some Kill) is = refl
 
--- at a quiet point the kept children of each id are the known ones
+-- at a quiet point the kept children of each id are its known ones
 pub quiet_known : (goal : Goal) (past : List Event) → is_sound goal past ≡ true → is_quiet past ≡ true → (id : List ℕ)
-    → filter (is_of id) (kept_children past) ≡ filter (is_of id) (known_children past)
+    → filter (is_child_of id) (kept_children past) ≡ filter (is_child_of id) (known_children past)
 quiet_known goal past sound quiet id = kept_known goal past sound id (quiet_start id past quiet)
 
--- an id with no open Start has a kept child exactly if it has a known one
+-- an id without an open Start has a kept child exactly if it has a known one
 pub has_known : (goal : Goal) (past : List Event) → is_sound goal past ≡ true → (id : List ℕ)
     → is_order Start (open_of id past) ≡ false → has_child id (kept_children past) ≡ has_child id (known_children past)
 has_known goal past sound id free =
@@ -43,8 +44,7 @@ pub busy_known : (goal : Goal) (past : List Event) → is_sound goal past ≡ tr
     ≡ (has_child id (known_children past) || is_order Start (open_of id past))
 busy_known goal past sound id = grind (arith, has_known)
 
--- so what init reads of an entry off its kept children it may read off the known ones: whether it is idle, wanted,
--- owed, can start
+-- so whether an entry is idle, wanted, owed, or can start may be read off the known children
 pub idle_known_child : (goal : Goal) (past : List Event) → is_sound goal past ≡ true → (id : List ℕ)
     → (not (has_child id (kept_children past)) && not (is_order Start (open_of id past)))
     ≡ (not (has_child id (known_children past)) && not (is_order Start (open_of id past)))
@@ -64,7 +64,7 @@ pub can_start_known : (goal : Goal) (past : List Event) → is_sound goal past �
     → can_start e past ≡ (is_wanted e past && not (has_child e.id (known_children past)) && is_none (open_of e.id past))
 can_start_known goal past sound e = grind (arith, has_known)
 
--- an excluded child that is kept is known: one whose birth is not told is not excluded
+-- an excluded child that is kept is known, because a child whose birth is not told is not excluded
 pub excluded_told : (goal : Goal) (past : List Event) → is_sound goal past ≡ true → (q : Child → Bool)
     → list_any (λ child. is_excluded past child && q child) (kept_children past) ≡ true
     → list_any (λ child. is_excluded past child && q child) (known_children past) ≡ true
@@ -104,32 +104,33 @@ excluded_told goal past h = sound_ind goal (λ before. (q : Child → Bool) → 
             excluded child = is_excluded before child && q child
 
             others : Child → Bool
-            others child = not (is_of i child) && q child
+            others child = not (is_child_of i child) && q child
 
-            swap : (child : Child) → (not (is_of i child) && excluded child) ≡ true
+            swap : (child : Child) → (not (is_child_of i child) && excluded child) ≡ true
                 → (is_excluded before child && others child) ≡ true
             swap child both =
-                let outer = and_parts (not (is_of i child)) (excluded child) both in
+                let outer = and_parts (not (is_child_of i child)) (excluded child) both in
                 let inner = and_parts (is_excluded before child) (q child) outer.1 in
                 and_from (is_excluded before child) (others child) inner.0
-                (and_from (not (is_of i child)) (q child) outer.0 inner.1)
+                (and_from (not (is_child_of i child)) (q child) outer.0 inner.1)
 
             back : (child : Child) → (is_excluded before child && others child) ≡ true
-                → (not (is_of i child) && excluded child) ≡ true
+                → (not (is_child_of i child) && excluded child) ≡ true
             back child both =
                 let outer = and_parts (is_excluded before child) (others child) both in
-                let inner = and_parts (not (is_of i child)) (q child) outer.1 in
-                and_from (not (is_of i child)) (excluded child) inner.0
+                let inner = and_parts (not (is_child_of i child)) (q child) outer.1 in
+                and_from (not (is_child_of i child)) (excluded child) inner.0
                 (and_from (is_excluded before child) (q child) outer.0 inner.1)
 
-            read : (list_any (λ child. is_of i child && excluded child) (unreaped_children before) ≡ true)
-                ⊎ (list_any (λ child. not (is_of i child) && excluded child) (kept_children before) ≡ true)
-                → (list_any (λ child. is_of i child && excluded child) (unreaped_children before) ≡ true)
-                ⊎ (list_any (λ child. not (is_of i child) && excluded child) (known_children before) ≡ true)
+            read : (list_any (λ child. is_child_of i child && excluded child) (unreaped_children before) ≡ true)
+                ⊎ (list_any (λ child. not (is_child_of i child) && excluded child) (kept_children before) ≡ true)
+                → (list_any (λ child. is_child_of i child && excluded child) (unreaped_children before) ≡ true)
+                ⊎ (list_any (λ child. not (is_child_of i child) && excluded child) (known_children before) ≡ true)
             read (inl own) = inl own
             read (inr other) =
-                inr (any_less (λ child. is_excluded before child && others child) (λ child. not (is_of i child)
-                && excluded child) back (known_children before) (rest others (any_less (λ child. not (is_of i child)
+                inr (any_less (λ child. is_excluded before child && others child) (λ child. not (is_child_of i child)
+                && excluded child) back (known_children before)
+                (rest others (any_less (λ child. not (is_child_of i child)
                 && excluded child) (λ child. is_excluded before child && others child) swap
                 (kept_children before) other)))
       next happening before may sound rest q there = rest q there
@@ -147,11 +148,11 @@ excluded_known goal past sound = same_tests (list_any (is_excluded past) (kept_c
 
 -- no id has two known children
 pub known_single : (goal : Goal) (past : List Event) → is_sound goal past ≡ true → (id : List ℕ)
-    → length (filter (is_of id) (known_children past)) ≤ 1
+    → length (filter (is_child_of id) (known_children past)) ≤ 1
 known_single goal past h = sound_ind goal (λ before. (id : List ℕ)
-    → length (filter (is_of id) (known_children before)) ≤ 1) (λ table distinct id. lit≤ tt) next past h where
+    → length (filter (is_child_of id) (known_children before)) ≤ 1) (λ table distinct id. lit≤ tt) next past h where
       next : (happening : Event) (before : List Event) → may_come goal happening before ≡ true
           → is_sound goal before ≡ true
-          → ((id : List ℕ) → length (filter (is_of id) (known_children before)) ≤ 1) → (id : List ℕ)
-          → length (filter (is_of id) (known_children (happening ∷ before))) ≤ 1
+          → ((id : List ℕ) → length (filter (is_child_of id) (known_children before)) ≤ 1) → (id : List ℕ)
+          → length (filter (is_child_of id) (known_children (happening ∷ before))) ≤ 1
       next happening before may sound rest id = grind (arith, told_same, one_child, told_other)

@@ -1,7 +1,8 @@
 -- A sound trace is lawful.
 use Rattle.trace_laws.proofs.Words.{◌≡◌, ◌∷◌, refl, ℕ, Bool, true, not, cond, List, [], Some, None, is_none, arith}
 use Rattle.trace_laws.proofs.Words.{and_from, Start, Look, Term, Kill, Birth, Asked, Goal, Event, unreaped_children}
-use Rattle.trace_laws.proofs.Words.{is_settled, may_come, is_sound, is_alone, is_placed, is_in_turn, are_spared}
+use Rattle.trace_laws.proofs.Words.{is_settled, may_come, is_sound, has_no_unreaped_child, has_startable_entry}
+use Rattle.trace_laws.proofs.Words.{is_in_turn, no_unreaped_is_excluded}
 use Rattle.trace_laws.proofs.Words.{is_free, is_due_hold, may_term, may_kill, broken, is_lawful, first_breach}
 use Rattle.trace_events.specs.declared.happenings.Happening.TheVariants.{Settle, Hold}
 use Rattle.trace_laws.proofs.Keeps.{sound_ind}
@@ -10,7 +11,7 @@ use Rattle.trace_laws.proofs.Settling.{settle_settled}
 use Rattle.trace_laws.proofs.Limits.{start_free, hold_due}
 use Rattle.trace_laws.proofs.Signals.{term_may, kill_may}
 
--- where the tests of a law hold, it is not broken
+-- if the test of each law succeeds, no law is broken
 none_of_four : (a b c d : Bool) → a ≡ true → b ≡ true → c ≡ true → d ≡ true → is_none {T = ℕ}
     (cond (not a) (Some 1) (cond (not b) (Some 2) (cond (not c) (Some 3) (cond (not d) (Some 4) None)))) ≡ true
 none_of_four a b c d ha hb hc hd = rw (ha, hb, hc, hd) refl
@@ -22,7 +23,8 @@ unbroken : (goal : Goal) (happening : Event) (past : List Event) → may_come go
     → is_sound goal past ≡ true → is_none (broken happening past) ≡ true
 unbroken goal (Birth id n) past may sound =
     let h = and_from (may_come goal (Birth id n) past) (is_sound goal past) may sound in
-    none_of_four (is_alone id past) (is_placed id past) (is_in_turn id past) (are_spared past) (birth_alone goal [] id n
+    none_of_four (has_no_unreaped_child id past) (has_startable_entry id past) (is_in_turn id past)
+    (no_unreaped_is_excluded past) (birth_alone goal [] id n
     past h) (birth_placed goal [] id n past h) (birth_in_turn goal [] id n past h) (birth_spared goal [] id n past h)
 unbroken goal (Settle level) past may sound = none_of_one (is_settled level (unreaped_children past) past) 5
     (settle_settled goal [] level past (and_from (may_come goal (Settle level) past) (is_sound goal past) may sound))

@@ -9,7 +9,7 @@ use Rattle.trace_laws.proofs.Dues.{MayRun, MayStart, MayHold, due_facts}
 use Rattle.trace_laws.proofs.Keeps.{sound_holds}
 use Rattle.trace_laws.proofs.Births.{step_at}
 
--- the id of an entry whose turn it is is limited as its entry is
+-- whether the respawn limit applies to an id, from the entry that may start now
 run_limited : (id : List ℕ) (past : List Event) (may : MayRun id (table_of past) past)
     → is_distinct (table_of past) ≡ true → is_limited_id id past ≡ is_limited may.entry.act
 run_limited id past may distinct =

@@ -1,13 +1,14 @@
--- The bound on starts: of eleven of a limited entry the last is at least two minutes after the first.
+-- The bound on starts: of eleven starts of an entry to which the respawn limit applies, the last is at least two
+-- minutes after the first.
 use Rattle.trace_laws.proofs.Words.{◌≡◌, ◌≤◌, ◌+◌, ◌-◌, refl, ℕ, Bool, true, false, not, ◌&&◌, ◌||◌, cond, nat_lt}
 use Rattle.trace_laws.proofs.Words.{nat_le, List, [], ◌∷◌, ◌++◌, filter, length, drop, suc, zero, arith, le_trans}
 use Rattle.trace_laws.proofs.Words.{list_all, and_parts, and_from, ltb-false, le-leb, leb-false, le-ltb, not-true, HOLD}
 use Rattle.trace_laws.proofs.Words.{STARTS, WINDOW, Start, Asked, Goal, Event, time_of, start_times, hold_times}
-use Rattle.trace_laws.proofs.Words.{is_held, is_full, is_sound, is_limited_id, is_spaced, keeps_pace, all_less}
+use Rattle.trace_laws.proofs.Words.{is_held, is_full, is_sound, is_limited_id, is_spaced, obeys_respawn_limit, all_less}
 use Rattle.trace_laws.proofs.Words.{all_fail}
 use Rattle.trace_laws.proofs.Limits.{start_free}
 
--- times that fall, the first no later than a bound
+-- a list of times in falling order, the first no later than a bound
 abbrev pub Falling : ℕ → List ℕ → Type 0
 Falling bound [] = Unit {0}
 Falling bound (t ∷ ts) = (t ≤ bound) × Falling t ts
@@ -16,12 +17,12 @@ pub falls_below : (a b : ℕ) (ts : List ℕ) → a ≤ b → Falling a ts → F
 falls_below a b [] le falls = tt
 falls_below a b (t ∷ ts) le falls = (le_trans falls.0 le, falls.1)
 
--- the starts of an id fall in time
+-- the start times of an id are in falling order
 pub starts_fall : (id : List ℕ) (past : List Event) → Falling (time_of past) (start_times id past)
 starts_fall id [] = tt
 starts_fall id (happening ∷ past) = grind (arith, falls_below, starts_fall id past)
 
--- a time is young where its age is below two minutes
+-- a time is young if its age is below two minutes
 abbrev pub is_young : ℕ → ℕ → Bool
 is_young now started = nat_lt (now - started) WINDOW
 
@@ -38,7 +39,7 @@ all_drop p zero ts h = h
 all_drop p (suc k) [] h = refl
 all_drop p (suc k) (t ∷ ts) h = all_drop p k ts (and_parts (p t) (list_all p ts) h).1
 
--- where at most k of falling times are young, those after the first k are old
+-- if at most `k` of a list of falling times are young, all after the first `k` are old
 few_young : (now bound k : ℕ) (ts : List ℕ) → Falling bound ts → length (filter (is_young now) ts) ≤ k
     → list_all (λ t. not (is_young now t)) (drop k ts) ≡ true
 few_young now bound zero [] falls few = refl
@@ -60,7 +61,7 @@ over : (now began : ℕ) → not (nat_lt now (began + HOLD)) ≡ true → nat_le
 over now began h = le-leb (began + HOLD) now (ltb-false now (began + HOLD) (not-true (nat_lt now (began + HOLD)) h))
 
 pub start_paced : (goal : Goal) (later : List Event) (id : List ℕ) (past : List Event)
-    → is_sound goal (later ++ Asked id Start ∷ past) ≡ true → keeps_pace (Asked id Start) past ≡ true
+    → is_sound goal (later ++ Asked id Start ∷ past) ≡ true → obeys_respawn_limit (Asked id Start) past ≡ true
 start_paced goal later id past h = split (is_limited_id id past) (start_free goal later id past h) where
   split : (b : Bool) → (not b || not (is_held id past) && not (is_full id past)) ≡ true
       → (not b || is_spaced (time_of past) (start_times id past)

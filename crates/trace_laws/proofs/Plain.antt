@@ -1,4 +1,4 @@
--- Runs that nothing disturbs, one happening after another.
+-- Undisturbed runs, one happening at a time.
 use Rattle.trace_laws.proofs.Words.{◌≡◌, true, ◌&&◌, List, [], ◌∷◌, false≢true, and_parts, Entry, is_distinct, NewTable}
 use Rattle.trace_laws.proofs.Words.{Goal, Event, table_of, due, first, may_come, keeps_order, is_orderly, is_mild}
 use Rattle.trace_laws.proofs.Words.{is_undisturbed}
@@ -10,7 +10,7 @@ pub record Plain (goal : Goal) (past : List Event) : Type 0 where
   pub runs : is_orderly goal past ≡ true
   pub mild : is_undisturbed past ≡ true
 
--- a happening that goes on with one
+-- a happening that continues such a run
 pub record Comes (goal : Goal) (happening : Event) (past : List Event) : Type 0 where
   pub mild : is_mild happening past ≡ true
   pub next : keeps_order (first (due goal past)) happening ≡ true

@@ -1,5 +1,5 @@
--- A trace as `initd run` writes it: an orderly one, that nothing disturbs, up to the announcement. In it the system
--- acts while steps are due, so it is no run of `initd simulate`.
+-- A worked example: a trace as `initd run` writes it, orderly and undisturbed, up to the announcement. The system acts
+-- while steps are still due, so it is not a run of `initd simulate`.
 use Rattle.trace_laws.proofs.Words.{◌≡◌, refl, ℕ, true, false, List, [], ◌∷◌, codes, Entry, Act, Mark, At, Start, Look}
 use Rattle.trace_laws.proofs.Words.{NewTable, Asked, Birth, Death, Reaped, Told, Clock, Nudge, Goal, Event}
 use Rattle.trace_laws.proofs.Words.{is_announced, is_sound, is_run, is_orderly, is_undisturbed}

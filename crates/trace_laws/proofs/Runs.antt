@@ -1,4 +1,4 @@
--- A run is sound, as each orderly trace is, and the first step of a due list is due.
+-- A run is sound, as every orderly trace is, and the first of the due steps is due.
 use Rattle.trace_laws.proofs.Words.{◌≡◌, true, false, ◌&&◌, List, [], ◌∷◌, arith, list_any, false≢true, and_parts}
 use Rattle.trace_laws.proofs.Words.{and_from, NewTable, Step, Idle, Goal, Event, due, first, same_step, is_due}
 use Rattle.trace_laws.proofs.Words.{may_come, is_sound, is_lawful, is_next, is_run, keeps_order, is_orderly}
@@ -38,7 +38,7 @@ run_lawful goal past h = sound_lawful goal past (run_sound goal past h)
 pub same_step-self : (step : Step) → same_step step step ≡ true
 same_step-self step = grind (arith, same_stage-self, same_power-self, same_id-self, same_ask-self, same_level-self)
 
--- the first due step is due, where there is one
+-- the first of the due steps is due, if there is one
 first_among : (steps : List Step) (step : Step) → first steps ≡ step → same_step Idle step ≡ false
     → list_any (same_step step) steps ≡ true
 first_among steps step is busy = grind (arith, same_step-self)

@@ -1,7 +1,8 @@
--- Where a level is announced settled, it is settled by the unreaped children.
+-- When a level is announced settled, it is settled according to the unreaped children.
 use Rattle.trace_laws.proofs.Words.{◌≡◌, refl, sym, ◌∙◌, ap, ℕ, Bool, true, not, ◌&&◌, List, ◌∷◌, ◌++◌, filter, Option}
 use Rattle.trace_laws.proofs.Words.{Some, arith, list_any, list_all, and_parts, and_from, not-true, Entry, Level, Stage}
-use Rattle.trace_laws.proofs.Words.{entry_of, Goal, Event, table_of, stage_of, Child, is_of, is_idle, unreaped_children}
+use Rattle.trace_laws.proofs.Words.{entry_of, Goal, Event, table_of, stage_of, Child, is_child_of, is_idle}
+use Rattle.trace_laws.proofs.Words.{unreaped_children}
 use Rattle.trace_laws.proofs.Words.{known_children, may_live, is_excluded, is_level, is_served, is_settled, may_come}
 use Rattle.trace_laws.proofs.Words.{is_sound, same_id-self, Passing, passing, falsely, not_from, any_less, all_less}
 use Rattle.trace_laws.proofs.Words.{all_fail}
@@ -14,30 +15,33 @@ use Rattle.trace_laws.proofs.Dues.{MaySettle, due_facts}
 use Rattle.trace_laws.proofs.Keeps.{sound_holds, free_told}
 use Rattle.trace_laws.proofs.Births.{step_at}
 
--- where no order is open, the known children of each id are its unreaped ones
+-- at an idle point the known children of each id are its unreaped ones
 pub idle_known : (goal : Goal) (past : List Event) → is_sound goal past ≡ true → is_idle past ≡ true → (id : List ℕ)
-    → filter (is_of id) (known_children past) ≡ filter (is_of id) (unreaped_children past)
+    → filter (is_child_of id) (known_children past) ≡ filter (is_child_of id) (unreaped_children past)
 idle_known goal past sound idle id =
     told_known id past (free_told id past (sound_holds goal past sound).told (idle_none id past idle))
 
--- a test that finds a child in one list finds it in another that has the same children of each id
-pub same_any : (p : Child → Bool) (xs ys : List Child) → ((id : List ℕ) → filter (is_of id) xs ≡ filter (is_of id) ys)
+-- a child that passes a test in one list is in every other list with the same children of each id
+pub same_any : (p : Child → Bool) (xs ys : List Child)
+    → ((id : List ℕ) → filter (is_child_of id) xs ≡ filter (is_child_of id) ys)
     → list_any p xs ≡ true → list_any p ys ≡ true
-same_any p xs ys same h = any_less own p (λ child both. (and_parts (is_of found.item.id child) (p child) both).1) ys
+same_any p xs ys same h =
+    any_less own p (λ child both. (and_parts (is_child_of found.item.id child) (p child) both).1) ys
     (sym (same_of found.item.id p xs ys (same found.item.id)) ∙ found.within own
-    (and_from (is_of found.item.id found.item) (p found.item) (same_id-self found.item.id) found.passes)) where
+    (and_from (is_child_of found.item.id found.item) (p found.item) (same_id-self found.item.id) found.passes)) where
       found : Passing p xs
       found = passing p xs h
 
       own : Child → Bool
-      own child = is_of found.item.id child && p child
+      own child = is_child_of found.item.id child && p child
 
-same_served : (level : Level) (xs ys : List Child) (past : List Event) → ((id : List ℕ) → filter (is_of id) xs
-    ≡ filter (is_of id) ys) → (e : Entry) → is_served level xs past e ≡ true → is_served level ys past e ≡ true
+same_served : (level : Level) (xs ys : List Child) (past : List Event) → ((id : List ℕ) → filter (is_child_of id) xs
+    ≡ filter (is_child_of id) ys) → (e : Entry) → is_served level xs past e ≡ true → is_served level ys past e ≡ true
 same_served level xs ys past same e h = grind (arith, same_has)
 
 same_settled : (level : Level) (xs ys : List Child) (past : List Event) → ((id : List ℕ)
-    → filter (is_of id) xs ≡ filter (is_of id) ys) → ((id : List ℕ) → filter (is_of id) ys ≡ filter (is_of id) xs)
+    → filter (is_child_of id) xs ≡ filter (is_child_of id) ys)
+    → ((id : List ℕ) → filter (is_child_of id) ys ≡ filter (is_child_of id) xs)
     → is_settled level xs past ≡ true → is_settled level ys past ≡ true
 same_settled level xs ys past same back h =
     let all = and_parts (is_level level (stage_of past) && not (list_any (is_excluded past) xs))
@@ -59,7 +63,8 @@ settle_settled goal later level past h =
       may : MaySettle level past
       may = due_facts goal past (step.Settle level) parts.0
 
-      same : (id : List ℕ) → filter (is_of id) (known_children past) ≡ filter (is_of id) (unreaped_children past)
+      same : (id : List ℕ)
+          → filter (is_child_of id) (known_children past) ≡ filter (is_child_of id) (unreaped_children past)
       same = idle_known goal past parts.1 may.idle
 
 -- in a settled level each unreaped child belongs to an entry of the level

@@ -1,4 +1,4 @@
--- How the spell of a child goes on, happening by happening, and what a Told adds to it.
+-- How each happening changes the spell of a child, and what a `told` adds to it.
 use Rattle.trace_laws.proofs.Words.{◌≡◌, refl, sym, ◌∙◌, ap, subst, ℕ, Bool, true, false, not, ◌&&◌, ◌||◌, cond, List}
 use Rattle.trace_laws.proofs.Words.{[], ◌∷◌, ◌++◌, map, Some, None, is_some, arith, and_right, or_parts, or_from}
 use Rattle.trace_laws.proofs.Words.{none-some, Entry, Stage, OrderKind, Start, Look, Term, Kill, Answer, same_id}
@@ -23,7 +23,7 @@ missed_none child [] free = refl
 missed_none child (Nudge ∷ past) free = refl
 missed_none child (happening ∷ past) free = rw free refl
 
--- so where the child is excluded as before, its spell goes on
+-- so the spell of a child continues while the child stays excluded
 spell_on : (child : Child) (past : List Event)
     → cond (is_excluded past child && true) (spell_hits child past) [] ≡ spell_hits child past
 spell_on child past = grind (arith, spell_none)
@@ -32,7 +32,7 @@ missed_on : (child : Child) (past : List Event)
     → (is_excluded past child && true && is_missed child past) ≡ is_missed child past
 missed_on child past = grind (arith, missed_none)
 
--- a happening that changes neither what is excluded nor what is told, and is no birth and no round
+-- a happening that does not change which children are excluded or what was told, and is neither a birth nor a round
 abbrev pub is_still : Event → Bool
 is_still (NewTable table) = false
 is_still (Enter stage grace) = false
@@ -49,7 +49,7 @@ pub missed_still : (child : Child) (happening : Event) (past : List Event) → i
     → is_missed child (happening ∷ past) ≡ is_missed child past
 missed_still child happening past still = grind (arith, missed_on)
 
--- a round leaves the spell; that no Miss was told since computes
+-- a round does not change the spell; it clears the mark of a signal that failed
 pub spell_nudge : (child : Child) (past : List Event) → spell_hits child (Nudge ∷ past) ≡ spell_hits child past
 spell_nudge child past = spell_on child past
 
@@ -74,12 +74,12 @@ pub missed_table : (child : Child) (table : List Entry) (past : List Event)
 missed_table child table past =
     ap (λ b. b && is_missed child past) (and_true (is_excluded (NewTable table ∷ past) child))
 
--- a birth of another id leaves the spell
+-- a birth of another id does not change the spell
 pub spell_birth : (child : Child) (i : List ℕ) (n : ℕ) (past : List Event)
     → spell_hits child (Birth i n ∷ past) ≡ cond (same_id child.id i) [] (spell_hits child past)
 spell_birth child i n past = grind (arith, spell_none)
 
--- a Told adds the Hits of its id that are under way
+-- `told` adds the signals of its id that are under way
 pub spell_told : (child : Child) (i : List ℕ) (past : List Event)
     → spell_hits child (Told i ∷ past) ≡ cond (same_id child.id i && is_excluded past child)
     (map (told_at (time_of past)) (untold_hits child.id past) ++ spell_hits child past) (spell_hits child past)
@@ -90,7 +90,7 @@ pub missed_told : (child : Child) (i : List ℕ) (past : List Event) → is_miss
 missed_told child i past = ap (λ b. b && (same_id child.id i && has_untold_miss child.id past || is_missed child past))
     (and_true (is_excluded past child))
 
--- where nothing of an id is untold, no Miss of it is
+-- an id without untold acts has no untold failed signal
 pub misses_told : (id : List ℕ) (past : List Event) → is_untold id past ≡ false → has_untold_miss id past ≡ false
 misses_told id [] h = refl
 misses_told id (Told i ∷ past) h = grind (arith, misses_told id past)
@@ -105,7 +105,7 @@ misses_told id (NoLook i ∷ past) h = misses_told id past (or_parts (same_id id
 misses_told id (Hit i ∷ past) h = misses_told id past (or_parts (same_id id i) (is_untold id past) h).1
 misses_told id (_ ∷ past) h = misses_told id past h
 
--- an answer under way is all that is under way: a Hit of the open order, a Miss, or neither
+-- a single answer is under way: a signal that was sent on the open order, a failed signal, or neither
 pub record Tells (id : List ℕ) (past : List Event) (given : Answer) : Type 0 where
   pub hits : untold_hits id past ≡ cond (is_hit given) (open_of id past ∷ []) []
   pub miss : has_untold_miss id past ≡ is_miss given

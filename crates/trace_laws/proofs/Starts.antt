@@ -1,4 +1,4 @@
--- Which entry is started next, in a run that nothing disturbs.
+-- Which entry is started next in an undisturbed run.
 use Rattle.trace_laws.proofs.Words.{◌≡◌, refl, sym, ◌∙◌, ap, ℕ, Bool, true, false, not, ◌&&◌, ◌||◌, cond, nat_lt}
 use Rattle.trace_laws.proofs.Words.{nat_le, length, ◌+◌, ◌-◌, List, [], ◌∷◌, ◌++◌, map, filter, Option, Some, None}
 use Rattle.trace_laws.proofs.Words.{arith, list_any, false≢true, and_parts, and_right, not-true, HOLD, STARTS, WINDOW}
@@ -12,16 +12,16 @@ use Rattle.trace_laws.proofs.Dues.{MayHold, due_facts}
 use Rattle.trace_laws.proofs.Plain.{Plain, Comes, plain_ind, plain_distinct}
 use Rattle.trace_laws.proofs.Children.{IsFound, unasked_free, idle_unasked}
 
--- the stage in force starts the entry of itself
+-- the stage in force starts the entry by itself
 abbrev pub started_now : Entry → Option Stage → Bool
 started_now e None = false
 started_now e (Some now) = is_started now e
 
--- it does, and the entry wasn't asked
+-- the stage in force starts the entry by itself, and the entry was not asked yet
 abbrev pub is_coming : List Event → Entry → Bool
 is_coming past e = not (is_asked e.id past) && started_now e (stage_of past)
 
--- nothing was called
+-- no entry was called
 uncalled : (goal : Goal) (past : List Event) → Plain goal past → (e : Entry) → is_called e past ≡ false
 uncalled goal past plain e =
     plain_ind goal (λ p. is_called e p ≡ false) (λ table distinct. refl) goes past plain.runs plain.mild where
@@ -39,7 +39,7 @@ pub coming_wanted : (goal : Goal) (past : List Event) → Plain goal past → (e
     → is_wanted e past ≡ is_coming past e
 coming_wanted goal past plain e found = grind (arith, uncalled, idle_unasked)
 
--- what is coming starts in the stage, and wasn't asked
+-- an entry that is to be started starts in the stage and was not asked
 started_starts : (e : Entry) (o : Option Stage) → started_now e o ≡ true → starts_in e o ≡ true
 started_starts e o h = grind arith
 
@@ -58,7 +58,7 @@ coming_can : (goal : Goal) (past : List Event) → Plain goal past → (e : Entr
     → is_coming past e ≡ b → can_start e past ≡ b
 coming_can goal past plain e found b h = grind (arith, coming_free, coming_wanted)
 
--- an entry that wasn't asked has no starts in its window
+-- an entry that was not asked has no starts in its window
 unasked_times : (id : List ℕ) (past : List Event) → is_asked id past ≡ false → start_times id past ≡ []
 unasked_times id [] h = refl
 unasked_times id (NewTable table ∷ past) h = refl
@@ -70,7 +70,7 @@ unasked_window : (id : List ℕ) (past : List Event) → is_asked id past ≡ fa
 unasked_window id past h = ap (λ times. nat_le STARTS
     (length (filter (λ started. nat_lt (time_of past - started) WINDOW) times))) (unasked_times id past h)
 
--- so nothing is held
+-- so no entry is held
 pub no_holds : (goal : Goal) (past : List Event) → Plain goal past → (id : List ℕ) → hold_times id past ≡ []
 no_holds goal past plain id =
     plain_ind goal (λ p. hold_times id p ≡ []) (λ table distinct. refl) goes past plain.runs plain.mild where
@@ -86,12 +86,12 @@ pub never_held : (goal : Goal) (past : List Event) → Plain goal past → (id :
 never_held goal past plain id =
     ap (list_any (λ began. nat_lt (time_of past) (began + HOLD))) (no_holds goal past plain id)
 
--- what is coming is started, and not held
+-- an entry that is to be started is started, not held
 coming_starts : (goal : Goal) (past : List Event) → Plain goal past → (e : Entry) → is_coming past e ≡ true
     → start_steps e past ≡ start_of e ∷ []
 coming_starts goal past plain e h = grind (arith, never_held, unasked_window)
 
--- each of these entries is that of its id in the table
+-- each of these entries is the one that the table has for its id
 abbrev pub AreFound : List Entry → List Entry → Type 0
 AreFound table [] = Unit {0}
 AreFound table (e ∷ es) = (entry_of e.id table ≡ Some e) × AreFound table es
@@ -105,13 +105,13 @@ pub found_all : (table : List Entry) → is_distinct table ≡ true → AreFound
 found_all [] distinct = tt
 found_all (e ∷ es) distinct = grind (arith, same_id-self, found_behind, found_all es)
 
--- entries of other ids are coming as before
+-- whether entries of other ids are to be started does not change
 still_coming : (id : List ℕ) (past : List Event) (es : List Entry) → list_any (has_id id) es ≡ false
     → filter (is_coming past) es ≡ filter (is_coming (Asked id Start ∷ past)) es
 still_coming id past [] none = refl
 still_coming id past (x ∷ es) none = grind (arith, same_id-sym, still_coming id past es)
 
--- the first start that is due is that of the first entry that is coming
+-- the first due start is that of the first entry that is to be started
 pub first_coming : (goal : Goal) (past : List Event) → Plain goal past → (id : List ℕ) (es : List Entry)
     → AreFound (table_of past) es → is_distinct es ≡ true → first (starts_among es past) ≡ Order id Start → map start_of
     (filter (is_coming past) es) ≡ Order id Start ∷ map start_of (filter (is_coming (Asked id Start ∷ past)) es)
@@ -126,7 +126,7 @@ first_coming goal past plain id (e ∷ es) found distinct is =
       behind true h = absurd (cc)
       behind false h = h
 
-      -- it is not coming afterwards either
+      -- it is not to be started again afterwards
       still : (same asked now : Bool) → (not asked && now) ≡ false → (not (same || asked) && now) ≡ false
       still true asked now h = refl
       still false asked now h = h

@@ -1,16 +1,18 @@
--- The stopping of a child: it is excluded while its signal is open, and its Hits are of a TERM and then of a KILL.
--- With it: what is so of a child whose birth is not told, what a Told leaves, and that no id has two records.
+-- Stopping a child: the child is excluded while a signal to it is open, and the signals sent to it are a TERM and then
+-- a KILL. Also: what holds of a child whose birth is not told, what a `told` leaves, and that no id has two records.
 use Rattle.trace_laws.proofs.Words.{◌≡◌, ◌≤◌, refl, sym, ◌∙◌, ap, inl, inr, ℕ, Bool, true, false, not, ◌&&◌, ◌||◌, cond}
 use Rattle.trace_laws.proofs.Words.{List, [], ◌∷◌, ◌++◌, map, filter, find, length, Option, Some, None, is_some, arith}
 use Rattle.trace_laws.proofs.Words.{list_any, option_map, option_map_or, false≢true, and_parts, and_from, and_right}
 use Rattle.trace_laws.proofs.Words.{not_from_true, not_from_false, not-true, none-some, same_Some, OrderKind, Start}
 use Rattle.trace_laws.proofs.Words.{Look, Term, Kill, Answer, same_id, same_ask, answers, is_hit, ids_of, has_id}
 use Rattle.trace_laws.proofs.Words.{is_distinct, NewTable, Asked, Birth, NoBirth, Reaped, Still, NoLook, Hit, Miss}
-use Rattle.trace_laws.proofs.Words.{Told, Nudge, Goal, Event, table_of, stage_of, time_of, Child, is_of, has_child}
+use Rattle.trace_laws.proofs.Words.{Told, Nudge, Goal, Event, table_of, stage_of, time_of, Child, is_child_of}
+use Rattle.trace_laws.proofs.Words.{has_child}
 use Rattle.trace_laws.proofs.Words.{open_of, undone_of, is_untold, is_quiet, newborn, unreaped_children, kept_children}
 use Rattle.trace_laws.proofs.Words.{known_children, is_order, is_excluded, answered_of, child_after, Signal}
 use Rattle.trace_laws.proofs.Words.{untold_hits, told_at, stop_due, has_untold_miss, in_spell, is_missed, spell_hits}
-use Rattle.trace_laws.proofs.Words.{is_placed, is_due, left_ids, wants_look, may_come, is_sound, same_id-is, both_ways}
+use Rattle.trace_laws.proofs.Words.{has_startable_entry, is_due, removed_ids, wants_look, may_come, is_sound}
+use Rattle.trace_laws.proofs.Words.{same_id-is, both_ways}
 use Rattle.trace_laws.proofs.Words.{falsely, or_either, any_less, any_without, found_any}
 use Rattle.init_words.specs.declared.orders.Answer.TheVariants as answer
 use Rattle.trace_events.specs.declared.happenings.Happening.TheVariants.{Enter}
@@ -27,20 +29,20 @@ use Rattle.trace_laws.proofs.Records.{order_known}
 use Rattle.trace_laws.proofs.Spells.{spell_none, missed_still, missed_told, spell_still, spell_nudge, spell_enter}
 use Rattle.trace_laws.proofs.Spells.{spell_table, spell_birth, spell_told, answered_tells}
 
--- a birth that is not told is of an open Start
+-- a birth that is not told belongs to an open Start
 pub born_open : (goal : Goal) (past : List Event) → is_sound goal past ≡ true → (id : List ℕ) (n : ℕ)
     → answered_of id past ≡ Some (answer.Born n) → open_of id past ≡ Some Start
 born_open goal past sound id n is = grind (arith, answers_open)
 
 -- while a Start is open, its entry starts in the stage
 pub start_placed : (goal : Goal) (past : List Event) → is_sound goal past ≡ true → (id : List ℕ)
-    → open_of id past ≡ Some Start → is_placed id past ≡ true
+    → open_of id past ≡ Some Start → has_startable_entry id past ≡ true
 start_placed goal past h = sound_ind goal (λ before. (id : List ℕ) → open_of id before ≡ Some Start
-    → is_placed id before ≡ true) (λ table distinct id is. absurd (none-some Start is)) next past h where
+    → has_startable_entry id before ≡ true) (λ table distinct id is. absurd (none-some Start is)) next past h where
       next : (happening : Event) (before : List Event) → may_come goal happening before ≡ true
           → is_sound goal before ≡ true
-          → ((id : List ℕ) → open_of id before ≡ Some Start → is_placed id before ≡ true) → (id : List ℕ)
-          → open_of id (happening ∷ before) ≡ Some Start → is_placed id (happening ∷ before) ≡ true
+          → ((id : List ℕ) → open_of id before ≡ Some Start → has_startable_entry id before ≡ true) → (id : List ℕ)
+          → open_of id (happening ∷ before) ≡ Some Start → has_startable_entry id (happening ∷ before) ≡ true
       next (NewTable table) before may sound rest id is =
           absurd (false≢true (quiet_looks id Start before (and_parts (is_quiet before) (is_distinct table) may).0 is))
       next (Enter stage grace) before may sound rest id is = elim (due_facts goal before (step.Enter stage grace) may) [
@@ -49,8 +51,8 @@ start_placed goal past h = sound_ind goal (λ before. (id : List ℕ) → open_o
       ]
       next (Asked i Start) before may sound rest id is = at_id (same_id id i) refl is where
         at_id : (b : Bool) → same_id id i ≡ b → cond b (Some Start) (open_of id before) ≡ Some Start
-            → is_placed id before ≡ true
-        at_id true same is = ap (λ x. is_placed x before) (same_id-is id i same) ∙ run_placed i before
+            → has_startable_entry id before ≡ true
+        at_id true same is = ap (λ x. has_startable_entry x before) (same_id-is id i same) ∙ run_placed i before
             (due_facts goal before (step.Order i Start) may).run (sound_holds goal before sound).distinct
         at_id false differ is = rest id is
       next (Asked i ask) before may sound rest id is =
@@ -72,12 +74,13 @@ quiet_signal id ask past quiet is signal = read ask (quiet_looks id ask past qui
   read : {P : Type 0} (a : OrderKind) → same_ask Look a ≡ true → is_signal a ≡ true → P
   read a look signal = grind arith
 
--- the known child of an id has the id; where the id has no other, what holds of one holds of it
-found_has : (id : List ℕ) (xs : List Child) (child : Child) → find (is_of id) xs ≡ Some child → has_child id xs ≡ true
+-- the child found for an id has that id; if it is the only one, what holds of some child of the id holds of it
+found_has : (id : List ℕ) (xs : List Child) (child : Child) → find (is_child_of id) xs ≡ Some child
+    → has_child id xs ≡ true
 found_has id xs child there =
-    sym (found_any (λ (x : Child). x) (is_of id) xs) ∙ ap (λ o. is_some (option_map (λ (x : Child). x) o)) there
+    sym (found_any (λ (x : Child). x) (is_child_of id) xs) ∙ ap (λ o. is_some (option_map (λ (x : Child). x) o)) there
 
-pub found_own : (id : List ℕ) (xs : List Child) (child : Child) → find (is_of id) xs ≡ Some child → id ≡ child.id
+pub found_own : (id : List ℕ) (xs : List Child) (child : Child) → find (is_child_of id) xs ≡ Some child → id ≡ child.id
 found_own id [] child there = absurd (none-some child there)
 found_own id (x ∷ xs) child there = grind (arith, same_id-is, found_own id xs child)
 
@@ -93,13 +96,13 @@ found_holds p q (x ∷ xs) child one there any = split (p x) one there any (foun
       (any_less (λ y. p y && q y) p (λ y both. (and_parts (p y) (q y) both).0) xs more) (only_one p x xs one))
   split false one there any rest = rest one there any
 
--- what holds of the child that a signal is due to holds of the known child of its id
+-- what holds of the child to which a signal is due holds of the known child of its id
 pub stop_holds : (goal : Goal) (past : List Event) → is_sound goal past ≡ true
     → (id : List ℕ) (ask : OrderKind) (may : MayStop id ask past) (q : Child → Bool) → q may.child ≡ true
-    → (child : Child) → find (is_of id) (known_children past) ≡ Some child → q child ≡ true
+    → (child : Child) → find (is_child_of id) (known_children past) ≡ Some child → q child ≡ true
 stop_holds goal past sound id ask may q holds child there =
-    found_holds (is_of id) q (known_children past) child (known_single goal past sound id) there
-    (may.within (λ x. is_of id x && q x) (and_from (is_of id may.child) (q may.child) may.own holds))
+    found_holds (is_child_of id) q (known_children past) child (known_single goal past sound id) there
+    (may.within (λ x. is_child_of id x && q x) (and_from (is_child_of id may.child) (q may.child) may.own holds))
 
 asked_stop : (goal : Goal) (i : List ℕ) (ask : OrderKind) (past : List Event)
     → is_due goal (step.Order i ask) past ≡ true → is_signal ask ≡ true → MayStop i ask past
@@ -110,25 +113,29 @@ pub dawn_known : {P : Type 0} (goal : Goal) (past : List Event) → is_sound goa
     → (id : List ℕ) → has_child id (known_children past) ≡ true → P
 dawn_known goal past sound dawn id there = grind (arith, any_less, known_kept, sound_holds)
 
--- a Told of another id leaves the known child of an id
+-- a `told` of another id does not change the known child of this id
 other_found : (id i : List ℕ) (past : List Event) (o : Option Child) → same_id id i ≡ false
-    → find (is_of id) (known_children (Told i ∷ past)) ≡ o → find (is_of id) (known_children past) ≡ o
-other_found id i past o differ there = sym (same_find (is_of id) (known_children (Told i ∷ past)) (known_children past)
+    → find (is_child_of id) (known_children (Told i ∷ past)) ≡ o → find (is_child_of id) (known_children past) ≡ o
+other_found id i past o differ there =
+    sym (same_find (is_child_of id) (known_children (Told i ∷ past)) (known_children past)
     (told_other id i (unreaped_children past) (known_children past) differ)) ∙ there
 
 -- while a signal is open, the known child of its id is excluded
 pub signal_excluded : (goal : Goal) (past : List Event) → is_sound goal past ≡ true → (id : List ℕ) (ask : OrderKind)
     → open_of id past ≡ Some ask → is_signal ask ≡ true → (child : Child)
-    → find (is_of id) (known_children past) ≡ Some child → is_excluded past child ≡ true
+    → find (is_child_of id) (known_children past) ≡ Some child → is_excluded past child ≡ true
 signal_excluded goal past h = sound_ind goal (λ before. (id : List ℕ) (ask : OrderKind) → open_of id before ≡ Some ask
-    → is_signal ask ≡ true → (child : Child) → find (is_of id) (known_children before) ≡ Some child → is_excluded before
+    → is_signal ask ≡ true → (child : Child) → find (is_child_of id) (known_children before) ≡ Some child
+    → is_excluded before
     child ≡ true) (λ table distinct id ask is signal child there. absurd (none-some ask is)) next past h where
       next : (happening : Event) (before : List Event) → may_come goal happening before ≡ true
           → is_sound goal before ≡ true
           → ((id : List ℕ) (ask : OrderKind) → open_of id before ≡ Some ask → is_signal ask ≡ true → (child : Child)
-          → find (is_of id) (known_children before) ≡ Some child → is_excluded before child ≡ true) → (id : List ℕ)
+          → find (is_child_of id) (known_children before) ≡ Some child → is_excluded before child ≡ true)
+          → (id : List ℕ)
           (ask : OrderKind) → open_of id (happening ∷ before) ≡ Some ask → is_signal ask ≡ true → (child : Child) → find
-          (is_of id) (known_children (happening ∷ before)) ≡ Some child → is_excluded (happening ∷ before) child ≡ true
+          (is_child_of id) (known_children (happening ∷ before)) ≡ Some child
+          → is_excluded (happening ∷ before) child ≡ true
       next (NewTable table) before may sound rest id ask is signal child there =
           quiet_signal id ask before (and_parts (is_quiet before) (is_distinct table) may).0 is signal
       next (Enter stage grace) before may sound rest id ask is signal child there =
@@ -146,24 +153,24 @@ signal_excluded goal past h = sound_ind goal (λ before. (id : List ℕ) (ask : 
             let stop : MayStop i given before = order (same_Some given ask is) in
             stop_holds goal before sound i given stop (is_excluded before)
             (stop_excluded stop.child given before stop.due)
-            child (ap (λ x. find (is_of x) (known_children before)) (sym (same_id-is id i same)) ∙ there)
+            child (ap (λ x. find (is_child_of x) (known_children before)) (sym (same_id-is id i same)) ∙ there)
         at_id false differ is = rest id ask is signal child there
       next (Told i) before may sound rest id ask is signal child there = cleared (same_id id i) (open_of id before) ask
           (λ differ was. rest id ask was signal child (other_found id i before (Some child) differ there)) is
       next _ before may sound rest id ask is signal child there = rest id ask is signal child there
 
--- and no signal missed it since the last round
+-- while a signal is open, no signal to that child has failed since the last round
 stop_unmissed : (child : Child) (ask : OrderKind) (past : List Event) → stop_due child past ≡ Some ask
     → is_missed child past ≡ false
 stop_unmissed child ask past h = grind arith
 
 abbrev IsUnmissed : List Event → Type 0
 IsUnmissed past = (id : List ℕ) (ask : OrderKind) → open_of id past ≡ Some ask → is_signal ask ≡ true → (child : Child)
-    → find (is_of id) (known_children past) ≡ Some child → is_missed child past ≡ false
+    → find (is_child_of id) (known_children past) ≡ Some child → is_missed child past ≡ false
 
 pub signal_unmissed : (goal : Goal) (past : List Event) → is_sound goal past ≡ true → (id : List ℕ) (ask : OrderKind)
     → open_of id past ≡ Some ask → is_signal ask ≡ true → (child : Child)
-    → find (is_of id) (known_children past) ≡ Some child → is_missed child past ≡ false
+    → find (is_child_of id) (known_children past) ≡ Some child → is_missed child past ≡ false
 signal_unmissed goal past h = sound_ind goal IsUnmissed
     (λ table distinct id ask is signal child there. absurd (none-some ask is)) next past h where
       next : (happening : Event) (before : List Event) → may_come goal happening before ≡ true
@@ -188,14 +195,14 @@ signal_unmissed goal past h = sound_ind goal IsUnmissed
                 (stop_holds goal before sound i given stop (λ (c : Child). not (is_missed c
                 before))
                 (not_from_false (is_missed stop.child before) (stop_unmissed stop.child given before stop.due)) child
-                (ap (λ x. find (is_of x) (known_children before)) (sym (same_id-is id i same)) ∙ there))
+                (ap (λ x. find (is_child_of x) (known_children before)) (sym (same_id-is id i same)) ∙ there))
             at_id false differ is = rest id ask is signal child there
       next (Told i) before may sound rest id ask is signal child there =
           missed_told child i before ∙ cleared (same_id id i) (open_of id before) ask own is where
             own : same_id id i ≡ false → open_of id before ≡ Some ask → (is_excluded before child
                 && (same_id child.id i && has_untold_miss child.id before || is_missed child before)) ≡ false
             own differ was =
-                let known : find (is_of id) (known_children before) ≡ Some child =
+                let known : find (is_child_of id) (known_children before) ≡ Some child =
                 other_found id i before (Some child) differ there in
                 let apart : same_id child.id i ≡ false =
                 ap (λ x. same_id x i) (sym (found_own id (known_children before) child known)) ∙ differ in
@@ -221,7 +228,7 @@ start_childless goal past h = sound_ind goal (λ before. (id : List ℕ) → ope
             → has_child id (known_children before) ≡ false
         at_id true same is = ap (λ x. has_child x (known_children before)) (same_id-is id i same)
             ∙ falsely (has_child i (known_children before)) (has_child i (kept_children before))
-            (known_kept (is_of i) before) (due_facts goal before (step.Order i Start) may).run.childless
+            (known_kept (is_child_of i) before) (due_facts goal before (step.Order i Start) may).run.childless
         at_id false differ is = rest id is
       next (Asked i ask) before may sound rest id is =
           rest id (start_stays (same_id id i) ask (open_of id before) refl is)
@@ -230,7 +237,7 @@ start_childless goal past h = sound_ind goal (λ before. (id : List ℕ) → ope
           (told_other id i (unreaped_children before) (known_children before) differ) ∙ rest id was) is
       next _ before may sound rest id is = rest id is
 
--- while a birth is not told, its id has no known child, and none is to be looked at
+-- while a birth is not told, its id has no known child, and no look at it is due
 pub unborn_childless : (goal : Goal) (past : List Event) → is_sound goal past ≡ true → (id : List ℕ) (n : ℕ)
     → answered_of id past ≡ Some (answer.Born n) → has_child id (known_children past) ≡ false
 unborn_childless goal past sound id n is = start_childless goal past sound id (born_open goal past sound id n is)
@@ -257,61 +264,61 @@ unborn_unlooked goal past h = sound_ind goal (λ before. (id : List ℕ) (n : �
       next Nudge before may sound rest id n is = unborn_childless goal before sound id n is
       next _ before may sound rest id n is = rest id n is
 
--- an id of the table in force is not among those that left
+-- an id of the table in force is not among those that left it
 pub left_apart : (goal : Goal) (past : List Event) → is_sound goal past ≡ true → (id : List ℕ)
-    → list_any (has_id id) (table_of past) ≡ true → list_any (same_id id) (left_ids past) ≡ false
+    → list_any (has_id id) (table_of past) ≡ true → list_any (same_id id) (removed_ids past) ≡ false
 left_apart goal past sound id there = apart past there where
   apart : (before : List Event) → list_any (has_id id) (table_of before) ≡ true
-      → list_any (same_id id) (left_ids before) ≡ false
+      → list_any (same_id id) (removed_ids before) ≡ false
   apart [] there = refl
   apart (NewTable table ∷ before) there = any_without (same_id id) (λ x. not (list_any (has_id x) table))
       (λ x same. not_from_true (list_any (has_id x) table) (ap (λ y. list_any (has_id y) table)
-      (sym (same_id-is id x same)) ∙ there)) (ids_of (table_of before) ++ left_ids before)
+      (sym (same_id-is id x same)) ∙ there)) (ids_of (table_of before) ++ removed_ids before)
   apart (_ ∷ before) there = apart before there
 
--- whether an id has a known child after an answer, by whether it had one before
+-- whether an id has a known child after an answer, given whether it had one before
 abbrev pub has_after : Answer → Bool → Bool
 has_after (answer.Born n) before = true
 has_after (answer.Ended status) before = false
 has_after _ before = before
 
-has_found : (id : List ℕ) (xs : List Child) → has_child id xs ≡ is_some (find (is_of id) xs)
+has_found : (id : List ℕ) (xs : List Child) → has_child id xs ≡ is_some (find (is_child_of id) xs)
 has_found id [] = refl
 has_found id (x ∷ xs) = grind (arith, has_found id xs)
 
--- which ids have a known child after a Told
+-- which ids have a known child after a `told`
 pub told_leaves : (goal : Goal) (past : List Event) → is_sound goal past ≡ true → (id : List ℕ) (given : Answer)
     → answered_of id past ≡ Some given
     → has_child id (known_children (Told id ∷ past)) ≡ has_after given (has_child id (known_children past))
 told_leaves goal past sound id given is = has_found id (known_children (Told id ∷ past))
     ∙ ap is_some (told_child goal past sound id given is) ∙ after given where
-      after : (x : Answer) → is_some (child_after id past x (find (is_of id) (known_children past)))
+      after : (x : Answer) → is_some (child_after id past x (find (is_child_of id) (known_children past)))
           ≡ has_after x (has_child id (known_children past))
       after x = grind (arith, has_found)
 
--- an answer to a Look or a signal is of an id with a known child
+-- an answer to a Look or a signal belongs to an id with a known child
 pub answered_known : (goal : Goal) (past : List Event) → is_sound goal past ≡ true → (id : List ℕ) (given : Answer)
     → answered_of id past ≡ Some given → answers given Start ≡ false → has_child id (known_children past) ≡ true
 answered_known goal past sound id given is other = grind (arith, answers_open, order_known)
 
--- one Hit, of a TERM
+-- exactly one signal was sent, a TERM
 abbrev pub is_one_term : List Signal → Bool
 is_one_term (signal ∷ []) = is_order Term signal.order
 is_one_term _ = false
 
--- no Hit
+-- no signal was sent
 abbrev pub are_none : List Signal → Bool
 are_none [] = true
 are_none _ = false
 
--- no Hit, one of a TERM, or one of a KILL after one of a TERM
+-- no signal was sent, or a TERM, or a TERM and then a KILL
 abbrev pub hits_are : List Signal → Bool
 hits_are [] = true
 hits_are (signal ∷ []) = is_order Term signal.order
 hits_are (signal ∷ first ∷ []) = is_order Kill signal.order && is_order Term first.order
 hits_are _ = false
 
--- the Hits that fit the open order: none at a TERM, one of a TERM at a KILL
+-- the signals sent fit the open order: none at a TERM, one TERM at a KILL
 abbrev pub hits_fit : Option OrderKind → List Signal → Bool
 hits_fit (Some Term) hits = are_none hits
 hits_fit (Some Kill) hits = is_one_term hits
@@ -333,7 +340,7 @@ quiet_fit id past hits quiet are = read (open_of id past) refl where
 cut_are : (b : Bool) (hits : List Signal) → hits_are hits ≡ true → hits_are (cond b hits []) ≡ true
 cut_are b hits are = grind arith
 
--- a TERM is due after none, a KILL after one of a TERM
+-- a TERM is due if no signal was sent, a KILL after exactly one TERM
 pub term_first : (child : Child) (past : List Event) → stop_due child past ≡ Some Term
     → are_none (spell_hits child past) ≡ true
 term_first child past h = grind arith
@@ -343,7 +350,7 @@ pub kill_second : (child : Child) (past : List Event) → stop_due child past �
 kill_second child past h = grind arith
 
 asked_fit : (goal : Goal) (i : List ℕ) (given : OrderKind) (past : List Event) → is_due goal (step.Order i given) past
-    ≡ true → is_sound goal past ≡ true → (child : Child) → find (is_of i) (known_children past) ≡ Some child
+    ≡ true → is_sound goal past ≡ true → (child : Child) → find (is_child_of i) (known_children past) ≡ Some child
     → hits_are (spell_hits child past) ≡ true → hits_fit (Some given) (spell_hits child past) ≡ true
 asked_fit goal i Start past may sound child there are = are
 asked_fit goal i Look past may sound child there are = are
@@ -356,7 +363,7 @@ asked_fit goal i Kill past may sound child there are =
     stop_holds goal past sound i Kill stop (λ x. is_one_term (spell_hits x past))
     (kill_second stop.child past stop.due) child there
 
--- only a signal is answered by a Hit; what fits the open order and the Hit that answers it are as said
+-- only a signal is answered by a hit, and the hit extends fitting signals by one of the allowed shapes
 hit_signal : (given : Answer) (o : Option OrderKind) → option_map_or (answers given) o false ≡ true
     → is_hit given ≡ true → option_map_or is_signal o false ≡ true
 hit_signal given o h hit = grind arith
@@ -367,12 +374,12 @@ told_fit : (b hit : Bool) (now : ℕ) (o : Option OrderKind) (hits : List Signal
 told_fit b hit now o hits signal fit = grind arith
 
 told_hits : (goal : Goal) (past : List Event) → is_sound goal past ≡ true → (id : List ℕ) (given : Answer)
-    → answered_of id past ≡ Some given → ((child : Child) → find (is_of id) (known_children past) ≡ Some child
-    → hits_fit (open_of id past) (spell_hits child past) ≡ true) → (child : Child) → find (is_of id)
+    → answered_of id past ≡ Some given → ((child : Child) → find (is_child_of id) (known_children past) ≡ Some child
+    → hits_fit (open_of id past) (spell_hits child past) ≡ true) → (child : Child) → find (is_child_of id)
     (known_children (Told id ∷ past)) ≡ Some child → hits_are (spell_hits child (Told id ∷ past)) ≡ true
 told_hits goal past sound id given is rest child there =
     after given is (sym (told_child goal past sound id given is) ∙ there) where
-      stays : (x : Answer) → answered_of id past ≡ Some x → find (is_of id) (known_children past) ≡ Some child
+      stays : (x : Answer) → answered_of id past ≡ Some x → find (is_child_of id) (known_children past) ≡ Some child
           → hits_are (spell_hits child (Told id ∷ past)) ≡ true
       stays x is was = ap hits_are (spell_told child id past ∙ ap (λ hits. cond (same_id child.id id && is_excluded past
           child) (map (told_at (time_of past)) hits ++ spell_hits child past) (spell_hits child past)) untold)
@@ -384,7 +391,7 @@ told_hits goal past sound id given is rest child there =
                 ∙ (answered_tells goal past sound id x is).hits
 
       after : (x : Answer) → answered_of id past ≡ Some x
-          → child_after id past x (find (is_of id) (known_children past))
+          → child_after id past x (find (is_child_of id) (known_children past))
           ≡ Some child → hits_are (spell_hits child (Told id ∷ past)) ≡ true
       after (answer.Born n) is here =
           ap (λ x. hits_are (spell_hits x (Told id ∷ past))) (sym (same_Some (newborn id n past) child here))
@@ -396,17 +403,18 @@ told_hits goal past sound id given is rest child there =
       after answer.Hit is here = stays answer.Hit is here
       after answer.Miss is here = stays answer.Miss is here
 
--- the Hits told in the spell of a known child fit the open order of its id
+-- the signals told in the spell of a known child fit the open order of its id
 pub hits_fitting : (goal : Goal) (past : List Event) → is_sound goal past ≡ true → (id : List ℕ) (child : Child)
-    → find (is_of id) (known_children past) ≡ Some child → hits_fit (open_of id past) (spell_hits child past) ≡ true
-hits_fitting goal past h = sound_ind goal (λ before. (id : List ℕ) (child : Child) → find (is_of id)
+    → find (is_child_of id) (known_children past) ≡ Some child
+    → hits_fit (open_of id past) (spell_hits child past) ≡ true
+hits_fitting goal past h = sound_ind goal (λ before. (id : List ℕ) (child : Child) → find (is_child_of id)
     (known_children before) ≡ Some child → hits_fit (open_of id before) (spell_hits child before) ≡ true)
     (λ table distinct id child there. absurd (none-some child there)) next past h where
       next : (happening : Event) (before : List Event) → may_come goal happening before ≡ true
           → is_sound goal before ≡ true
-          → ((id : List ℕ) (child : Child) → find (is_of id) (known_children before) ≡ Some child
+          → ((id : List ℕ) (child : Child) → find (is_child_of id) (known_children before) ≡ Some child
           → hits_fit (open_of id before) (spell_hits child before) ≡ true) → (id : List ℕ) (child : Child)
-          → find (is_of id) (known_children (happening ∷ before)) ≡ Some child
+          → find (is_child_of id) (known_children (happening ∷ before)) ≡ Some child
           → hits_fit (open_of id (happening ∷ before)) (spell_hits child (happening ∷ before)) ≡ true
       next (NewTable table) before may sound rest id child there = quiet_fit id before
           (spell_hits child (NewTable table ∷ before)) (and_parts (is_quiet before) (is_distinct table) may).0
@@ -424,7 +432,7 @@ hits_fitting goal past h = sound_ind goal (λ before. (id : List ℕ) (child : C
             at_id : (b : Bool) → same_id id i ≡ b
                 → hits_fit (cond b (Some given) (open_of id before)) (spell_hits child before) ≡ true
             at_id true same = asked_fit goal i given before may sound child
-                (ap (λ x. find (is_of x) (known_children before)) (sym (same_id-is id i same)) ∙ there)
+                (ap (λ x. find (is_child_of x) (known_children before)) (sym (same_id-is id i same)) ∙ there)
                 (fit_are (open_of id before) (spell_hits child before) (rest id child there))
             at_id false differ = rest id child there
       next (Birth i n) before may sound rest id child there =
@@ -446,7 +454,7 @@ hits_fitting goal past h = sound_ind goal (λ before. (id : List ℕ) (child : C
         own same None is h = absurd (false≢true h)
         own same (Some given) is h =
             ap (λ x. hits_are (spell_hits child (Told x ∷ before))) (sym same) ∙ told_hits goal before sound id given is
-            (rest id) child (ap (λ x. find (is_of id) (known_children (Told x ∷ before))) same ∙ there)
+            (rest id) child (ap (λ x. find (is_child_of id) (known_children (Told x ∷ before))) same ∙ there)
 
         at_id : (b : Bool) → same_id id i ≡ b
             → hits_fit (cond b None (open_of id before)) (spell_hits child (Told i ∷ before)) ≡ true
@@ -454,7 +462,7 @@ hits_fitting goal past h = sound_ind goal (λ before. (id : List ℕ) (child : C
             let one : id ≡ i = same_id-is id i same in
             own one (answered_of id before) refl (answered_untold id before ∙ ap (λ x. is_untold x before) one ∙ may)
         at_id false differ =
-            let was : find (is_of id) (known_children before) ≡ Some child =
+            let was : find (is_child_of id) (known_children before) ≡ Some child =
             other_found id i before (Some child) differ there in
             let apart : same_id child.id i ≡ false =
             ap (λ x. same_id x i) (sym (found_own id (known_children before) child was)) ∙ differ in
@@ -467,8 +475,8 @@ hits_fitting goal past h = sound_ind goal (λ before. (id : List ℕ) (child : C
       next happening before may sound rest id child there =
           ap (hits_fit (open_of id before)) (spell_still child happening before refl) ∙ rest id child there
 
--- so they are none, one of a TERM, or one of a KILL after one of a TERM
+-- so these signals are none, a TERM, or a TERM and then a KILL
 pub hits_shape : (goal : Goal) (past : List Event) → is_sound goal past ≡ true → (id : List ℕ) (child : Child)
-    → find (is_of id) (known_children past) ≡ Some child → hits_are (spell_hits child past) ≡ true
+    → find (is_child_of id) (known_children past) ≡ Some child → hits_are (spell_hits child past) ≡ true
 hits_shape goal past sound id child there =
     fit_are (open_of id past) (spell_hits child past) (hits_fitting goal past sound id child there)

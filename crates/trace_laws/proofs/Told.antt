@@ -1,12 +1,14 @@
--- What a Told tells: the answer under way to an id's order, and the child that init knows of after it.
+-- What `told` reports: the answer under way to an order, and the child that init knows of afterwards.
 use Rattle.trace_laws.proofs.Words.{◌≡◌, ◌≤◌, refl, sym, ◌∙◌, ap, subst, ℕ, Bool, true, false, not, ◌||◌, cond, List}
 use Rattle.trace_laws.proofs.Words.{[], ◌∷◌, filter, find, length, Option, Some, None, is_some, arith, list_any}
 use Rattle.trace_laws.proofs.Words.{option_map_or, false≢true, and_parts, nil_from_length, none-some, same_Some}
 use Rattle.trace_laws.proofs.Words.{OrderKind, Start, Look, Term, Kill, Answer, same_id, answers, has_id, is_distinct}
 use Rattle.trace_laws.proofs.Words.{NewTable, Asked, Birth, NoBirth, Reaped, Still, NoLook, Hit, Miss, Told, Goal}
-use Rattle.trace_laws.proofs.Words.{Event, table_of, Child, is_of, is_child, has_child, open_of, undone_of, is_untold}
+use Rattle.trace_laws.proofs.Words.{Event, table_of, Child, is_child_of, is_child, has_child, open_of, undone_of}
+use Rattle.trace_laws.proofs.Words.{is_untold}
 use Rattle.trace_laws.proofs.Words.{is_quiet, newborn, unreaped_children, kept_children, known_children, is_order}
-use Rattle.trace_laws.proofs.Words.{answered_of, child_after, is_placed, may_come, is_sound, same_id-is, same_id-self}
+use Rattle.trace_laws.proofs.Words.{answered_of, child_after, has_startable_entry, may_come, is_sound, same_id-is}
+use Rattle.trace_laws.proofs.Words.{same_id-self}
 use Rattle.trace_laws.proofs.Words.{both_ways, or_either, any_filtered, any_less, any_none, find_none}
 use Rattle.init_words.specs.declared.orders.Answer.TheVariants as answer
 use Rattle.trace_laws.proofs.Tests.{is_order-is}
@@ -17,32 +19,36 @@ use Rattle.trace_laws.proofs.Keeps.{start_undone, look_undone, sound_holds, soun
 use Rattle.trace_laws.proofs.Keeps.{entry_listed}
 use Rattle.trace_laws.proofs.Births.{one_child}
 
--- an id with no open Start: its kept children are the known ones
+-- the kept children of an id without an open Start are its known ones
 pub kept_known : (goal : Goal) (past : List Event) → is_sound goal past ≡ true → (id : List ℕ) → is_order Start
-    (open_of id past) ≡ false → filter (is_of id) (kept_children past) ≡ filter (is_of id) (known_children past)
+    (open_of id past) ≡ false
+    → filter (is_child_of id) (kept_children past) ≡ filter (is_child_of id) (known_children past)
 kept_known goal past h = sound_ind goal (λ before. (id : List ℕ) → is_order Start (open_of id before) ≡ false
-    → filter (is_of id) (kept_children before) ≡ filter (is_of id) (known_children before))
+    → filter (is_child_of id) (kept_children before) ≡ filter (is_child_of id) (known_children before))
     (λ table distinct id free. refl) next past h where
       next : (happening : Event) (before : List Event) → may_come goal happening before ≡ true
           → is_sound goal before ≡ true
           → ((id : List ℕ) → is_order Start (open_of id before) ≡ false
-          → filter (is_of id) (kept_children before) ≡ filter
-          (is_of id) (known_children before)) → (id : List ℕ) → is_order Start (open_of id (happening ∷ before)) ≡ false
-          → filter (is_of id) (kept_children (happening ∷ before))
-          ≡ filter (is_of id) (known_children (happening ∷ before))
+          → filter (is_child_of id) (kept_children before) ≡ filter
+          (is_child_of id) (known_children before)) → (id : List ℕ)
+          → is_order Start (open_of id (happening ∷ before)) ≡ false
+          → filter (is_child_of id) (kept_children (happening ∷ before))
+          ≡ filter (is_child_of id) (known_children (happening ∷ before))
       next (Birth i n) before may sound same id free = at_id (same_id id i) refl where
         started : open_of i before ≡ Some Start
         started =
             undone_is_open i Start before (is_order-is Start (undone_of i before) (start_undone goal i n before may))
 
-        at_id : (b : Bool) → same_id id i ≡ b → cond b (newborn i n before ∷ filter (is_of id) (kept_children before))
-            (filter (is_of id) (kept_children before)) ≡ filter (is_of id) (known_children before)
+        at_id : (b : Bool) → same_id id i ≡ b
+            → cond b (newborn i n before ∷ filter (is_child_of id) (kept_children before))
+            (filter (is_child_of id) (kept_children before)) ≡ filter (is_child_of id) (known_children before)
         at_id true own = both_ways (is_order Start (open_of id before))
             (ap (λ x. is_order Start (open_of x before)) (same_id-is id i own) ∙ ap (is_order Start) started) free
         at_id false differ = same id free
       next (Told i) before may sound same id free = at_id (same_id id i) refl free where
         at_id : (b : Bool) → same_id id i ≡ b → is_order Start (cond b None (open_of id before)) ≡ false
-            → filter (is_of id) (kept_children (Told i ∷ before)) ≡ filter (is_of id) (known_children (Told i ∷ before))
+            → filter (is_child_of id) (kept_children (Told i ∷ before))
+            ≡ filter (is_child_of id) (known_children (Told i ∷ before))
         at_id true own free = told_same id i (unreaped_children before) (kept_children before) own
             ∙ sym (told_same id i (unreaped_children before) (known_children before) own)
         at_id false differ free =
@@ -50,7 +56,7 @@ kept_known goal past h = sound_ind goal (λ before. (id : List ℕ) → is_order
             ∙ sym (told_other id i (unreaped_children before) (known_children before) differ)
       next (Asked i ask) before may sound same id free = at_id (same_id id i) refl free where
         at_id : (b : Bool) → same_id id i ≡ b → is_order Start (cond b (Some ask) (open_of id before)) ≡ false
-            → filter (is_of id) (kept_children before) ≡ filter (is_of id) (known_children before)
+            → filter (is_child_of id) (kept_children before) ≡ filter (is_child_of id) (known_children before)
         at_id true own free = same id (ap (λ x. is_order Start (open_of x before)) (same_id-is id i own)
             ∙ ap (is_order Start) (asked_free goal i ask before may))
         at_id false differ free = same id free
@@ -61,7 +67,7 @@ one_answered : (b : Bool) (x : Answer) (id : List ℕ) (past : List Event) → i
 one_answered true x id past same = refl
 one_answered false x id past same = same
 
--- an answer is under way exactly where something is untold
+-- an answer is under way exactly if an act is untold
 pub answered_untold : (id : List ℕ) (past : List Event) → is_some (answered_of id past) ≡ is_untold id past
 answered_untold id [] = refl
 answered_untold id (Told i ∷ past) = grind (arith, answered_untold id past)
@@ -139,7 +145,7 @@ answers_open goal past h = sound_ind goal (λ before. (id : List ℕ) (given : A
         at_id false differ = rest id given is
       next (_) before may sound rest id given is = rest id given is
 
--- the first child of an id, where two lists have the same children of it
+-- the first child of an id is the same in two lists with the same children of it
 abbrev first_of : List Child → Option Child
 first_of [] = None
 first_of (child ∷ children) = Some child
@@ -151,19 +157,20 @@ find_first p (x ∷ xs) = grind (arith, find_first p xs)
 pub same_find : (p : Child → Bool) (xs ys : List Child) → filter p xs ≡ filter p ys → find p xs ≡ find p ys
 same_find p xs ys same = find_first p xs ∙ ap first_of same ∙ sym (find_first p ys)
 
--- of a single child of an id that is reaped nothing is left
-reaped_none : (id : List ℕ) (n : ℕ) (xs : List Child) → length (filter (is_of id) xs) ≤ 1
-    → list_any (is_child id n) xs ≡ true → list_any (is_of id) (filter (λ child. not (is_child id n child)) xs) ≡ false
+-- after the only child of an id is reaped, the id has none
+reaped_none : (id : List ℕ) (n : ℕ) (xs : List Child) → length (filter (is_child_of id) xs) ≤ 1
+    → list_any (is_child id n) xs ≡ true
+    → list_any (is_child_of id) (filter (λ child. not (is_child id n child)) xs) ≡ false
 reaped_none id n [] one there = refl
 reaped_none id n (x ∷ xs) one there =
     grind (arith, any_none, nil_from_length, any_filtered, any_less, reaped_none id n xs)
 
--- what child_after reads of the past is the table alone
+-- `child_after` reads nothing of the past but the table
 same_after : (id : List ℕ) (past before : List Event) (given : Answer) (child : Option Child)
     → table_of past ≡ table_of before → child_after id past given child ≡ child_after id before given child
 same_after id past before given child same = grind arith
 
--- nor does a table matter at a quiet point, where no Start is open
+-- at a quiet point a new table does not matter either, since no Start is open
 quiet_after : (id : List ℕ) (past before : List Event) (given : Answer) (child : Option Child) → is_quiet before ≡ true
     → Answers id before given → child_after id past given child ≡ child_after id before given child
 quiet_after id past before (answer.Born n) child quiet open_start = started (open_of id before) refl open_start where
@@ -176,7 +183,7 @@ quiet_after id past before (answer.Born n) child quiet open_start = started (ope
   started (Some Kill) is h = absurd (false≢true h)
 quiet_after id past before _ child quiet open_start = refl
 
--- of an act on an order: its own id's child is as its answer says, another's as before
+-- an act on an order changes the child of its own id as its answer says, and no other child
 act_child : (id i : List ℕ) (x given : Answer) (before past : List Event) (child had there known_there : Option Child)
     → table_of past ≡ table_of before → (same_id id i ≡ true → there ≡ child_after id past x known_there)
     → (same_id id i ≡ false → (there ≡ child) × (known_there ≡ had))
@@ -184,100 +191,110 @@ act_child : (id i : List ℕ) (x given : Answer) (before past : List Event) (chi
     → cond (same_id id i) (Some x) (answered_of id before) ≡ Some given → there ≡ child_after id past given known_there
 act_child id i x given before past child had there known_there table own other rest h = grind arith
 
--- where an order of the id is undone, its unreaped child is the known one
+-- while an order of the id is not carried out, its unreaped child is its known child
 undone_child : (goal : Goal) (i : List ℕ) (ask : OrderKind) (past : List Event) → is_sound goal past ≡ true
     → is_order ask (undone_of i past) ≡ true → (id : List ℕ) → same_id id i ≡ true
-    → find (is_of id) (unreaped_children past) ≡ find (is_of id) (known_children past)
+    → find (is_child_of id) (unreaped_children past) ≡ find (is_child_of id) (known_children past)
 undone_child goal i ask past sound h id own = let P : List ℕ
-    → Type 0 = λ x. find (is_of x) (unreaped_children past) ≡ find (is_of x) (known_children past) in
-    subst P (sym (same_id-is id i own)) (sym (same_find (is_of i) (known_children past) (unreaped_children past)
+    → Type 0 = λ x. find (is_child_of x) (unreaped_children past) ≡ find (is_child_of x) (known_children past) in
+    subst P (sym (same_id-is id i own)) (sym (same_find (is_child_of i) (known_children past) (unreaped_children past)
     (told_known i past ((sound_holds goal past sound).done i ask (is_order-is ask (undone_of i past) h)))))
 
 signal_child : (goal : Goal) (i : List ℕ) (past : List Event) → is_sound goal past ≡ true
     → (is_order Term (undone_of i past) || is_order Kill (undone_of i past)) ≡ true → (id : List ℕ)
-    → same_id id i ≡ true → find (is_of id) (unreaped_children past) ≡ find (is_of id) (known_children past)
+    → same_id id i ≡ true → find (is_child_of id) (unreaped_children past) ≡ find (is_child_of id) (known_children past)
 signal_child goal i past sound h id own = grind (arith, undone_child)
 
--- while an answer is under way, the unreaped child of the id is the one that the answer says
+-- while an answer is under way, the unreaped child of the id is the one that the answer implies
 pub answered_child : (goal : Goal) (past : List Event) → is_sound goal past ≡ true → (id : List ℕ) (given : Answer)
     → answered_of id past ≡ Some given
-    → find (is_of id) (unreaped_children past) ≡ child_after id past given (find (is_of id) (known_children past))
+    → find (is_child_of id) (unreaped_children past)
+    ≡ child_after id past given (find (is_child_of id) (known_children past))
 answered_child goal past h = sound_ind goal (λ before. (id : List ℕ) (given : Answer) → answered_of id before
-    ≡ Some given → find (is_of id) (unreaped_children before) ≡ child_after id before given (find (is_of id)
+    ≡ Some given → find (is_child_of id) (unreaped_children before) ≡ child_after id before given (find (is_child_of id)
     (known_children before))) (λ table distinct id given is. absurd (none-some given is)) next past h where
       next : (happening : Event) (before : List Event) → may_come goal happening before ≡ true
           → is_sound goal before ≡ true
-          → ((id : List ℕ) (given : Answer) → answered_of id before ≡ Some given → find (is_of id) (unreaped_children
-          before) ≡ child_after id before given (find (is_of id) (known_children before)))
+          → ((id : List ℕ) (given : Answer) → answered_of id before ≡ Some given
+          → find (is_child_of id) (unreaped_children
+          before) ≡ child_after id before given (find (is_child_of id) (known_children before)))
           → (id : List ℕ) (given : Answer)
-          → answered_of id (happening ∷ before) ≡ Some given → find (is_of id) (unreaped_children (happening ∷ before))
-          ≡ child_after id (happening ∷ before) given (find (is_of id) (known_children (happening ∷ before)))
+          → answered_of id (happening ∷ before) ≡ Some given
+          → find (is_child_of id) (unreaped_children (happening ∷ before))
+          ≡ child_after id (happening ∷ before) given (find (is_child_of id) (known_children (happening ∷ before)))
       next (NewTable table) before may sound rest id given is = rest id given is
-          ∙ sym (quiet_after id (NewTable table ∷ before) before given (find (is_of id) (known_children before))
+          ∙ sym (quiet_after id (NewTable table ∷ before) before given (find (is_child_of id) (known_children before))
           (and_parts (is_quiet before) (is_distinct table) may).0 (answers_open goal before sound id given is))
       next (Birth i n) before may sound rest id given is =
-          act_child id i (answer.Born n) given before (Birth i n ∷ before) (find (is_of id) (unreaped_children before))
-          (find (is_of id) (known_children before)) (find (is_of id) (unreaped_children (Birth i n ∷ before)))
-          (find (is_of id) (known_children before)) refl own (λ differ. (rw differ refl, refl)) (rest id given) is where
-            own : same_id id i ≡ true → cond (same_id id i) (Some (newborn i n before))
-                (find (is_of id) (unreaped_children before)) ≡ Some (newborn id n before)
-            own same = rw same (ap (λ x. Some (newborn x n before)) (sym (same_id-is id i same)))
+          act_child id i (answer.Born n) given before (Birth i n ∷ before)
+          (find (is_child_of id) (unreaped_children before))
+          (find (is_child_of id) (known_children before))
+          (find (is_child_of id) (unreaped_children (Birth i n ∷ before)))
+          (find (is_child_of id) (known_children before)) refl own (λ differ. (rw differ refl, refl)) (rest id given) is
+        where
+          own : same_id id i ≡ true → cond (same_id id i) (Some (newborn i n before))
+              (find (is_child_of id) (unreaped_children before)) ≡ Some (newborn id n before)
+          own same = rw same (ap (λ x. Some (newborn x n before)) (sym (same_id-is id i same)))
       next (Reaped i n status) before may sound rest id given is = act_child id i (answer.Ended status) given before
-          (Reaped i n status ∷ before) (find (is_of id) (unreaped_children before))
-          (find (is_of id) (known_children before)) (find (is_of id) (unreaped_children (Reaped i n status ∷ before)))
-          (find (is_of id) (known_children before)) refl own (λ differ. (
-            same_find (is_of id) (unreaped_children (Reaped i n status ∷ before)) (unreaped_children before)
+          (Reaped i n status ∷ before) (find (is_child_of id) (unreaped_children before))
+          (find (is_child_of id) (known_children before))
+          (find (is_child_of id) (unreaped_children (Reaped i n status ∷ before)))
+          (find (is_child_of id) (known_children before)) refl own (λ differ. (
+            same_find (is_child_of id) (unreaped_children (Reaped i n status ∷ before)) (unreaped_children before)
                 (reaped_other id i n (unreaped_children before) differ),
             refl,
           )) (rest id given) is where
-            own : same_id id i ≡ true → find (is_of id) (unreaped_children (Reaped i n status ∷ before)) ≡ None
-            own same = ap (λ x. find (is_of x) (unreaped_children (Reaped i n status ∷ before))) (same_id-is id i same)
-                ∙ find_none (is_of i) (unreaped_children (Reaped i n status ∷ before)) (reaped_none i n
+            own : same_id id i ≡ true → find (is_child_of id) (unreaped_children (Reaped i n status ∷ before)) ≡ None
+            own same =
+                ap (λ x. find (is_child_of x) (unreaped_children (Reaped i n status ∷ before))) (same_id-is id i same)
+                ∙ find_none (is_child_of i) (unreaped_children (Reaped i n status ∷ before)) (reaped_none i n
                 (unreaped_children before) (one_child goal before sound i) (look_undone goal i n status before may).1)
       next (NoBirth i) before may sound rest id given is =
           act_child id i answer.NotBorn given before (NoBirth i ∷ before)
-          (find (is_of id) (unreaped_children before)) (find (is_of id) (known_children before))
-          (find (is_of id) (unreaped_children before)) (find (is_of id) (known_children before)) refl
+          (find (is_child_of id) (unreaped_children before)) (find (is_child_of id) (known_children before))
+          (find (is_child_of id) (unreaped_children before)) (find (is_child_of id) (known_children before)) refl
           (undone_child goal i Start before sound may id) (λ differ. (refl, refl)) (rest id given) is
       next (Still i) before may sound rest id given is = act_child id i answer.Alive given before (Still i ∷ before)
-          (find (is_of id) (unreaped_children before)) (find (is_of id) (known_children before))
-          (find (is_of id) (unreaped_children before)) (find (is_of id) (known_children before)) refl
+          (find (is_child_of id) (unreaped_children before)) (find (is_child_of id) (known_children before))
+          (find (is_child_of id) (unreaped_children before)) (find (is_child_of id) (known_children before)) refl
           (undone_child goal i Look before sound may id) (λ differ. (refl, refl)) (rest id given) is
       next (NoLook i) before may sound rest id given is = act_child id i answer.NoLook given before (NoLook i ∷ before)
-          (find (is_of id) (unreaped_children before)) (find (is_of id) (known_children before))
-          (find (is_of id) (unreaped_children before)) (find (is_of id) (known_children before)) refl
+          (find (is_child_of id) (unreaped_children before)) (find (is_child_of id) (known_children before))
+          (find (is_child_of id) (unreaped_children before)) (find (is_child_of id) (known_children before)) refl
           (undone_child goal i Look before sound may id) (λ differ. (refl, refl)) (rest id given) is
       next (Hit i) before may sound rest id given is = act_child id i answer.Hit given before (Hit i ∷ before)
-          (find (is_of id) (unreaped_children before)) (find (is_of id) (known_children before))
-          (find (is_of id) (unreaped_children before)) (find (is_of id) (known_children before)) refl
+          (find (is_child_of id) (unreaped_children before)) (find (is_child_of id) (known_children before))
+          (find (is_child_of id) (unreaped_children before)) (find (is_child_of id) (known_children before)) refl
           (signal_child goal i before sound may id) (λ differ. (refl, refl)) (rest id given) is
       next (Miss i) before may sound rest id given is = act_child id i answer.Miss given before (Miss i ∷ before)
-          (find (is_of id) (unreaped_children before)) (find (is_of id) (known_children before))
-          (find (is_of id) (unreaped_children before)) (find (is_of id) (known_children before)) refl
+          (find (is_child_of id) (unreaped_children before)) (find (is_child_of id) (known_children before))
+          (find (is_child_of id) (unreaped_children before)) (find (is_child_of id) (known_children before)) refl
           (signal_child goal i before sound may id) (λ differ. (refl, refl)) (rest id given) is
       next (Told i) before may sound rest id given is = cleared (same_id id i) (answered_of id before) given (λ differ
           under. rest id given under
-          ∙ ap (child_after id before given) (sym (same_find (is_of id) (known_children (Told i
+          ∙ ap (child_after id before given) (sym (same_find (is_child_of id) (known_children (Told i
           ∷ before)) (known_children before)
           (told_other id i (unreaped_children before) (known_children before) differ)))
           ∙ sym
-          (same_after id (Told i ∷ before) before given (find (is_of id) (known_children (Told i ∷ before))) refl)) is
+          (same_after id (Told i ∷ before) before given
+          (find (is_child_of id) (known_children (Told i ∷ before))) refl)) is
       next happening before may sound rest id given is = rest id given is
-          ∙ sym (same_after id (happening ∷ before) before given (find (is_of id) (known_children before)) refl)
+          ∙ sym (same_after id (happening ∷ before) before given (find (is_child_of id) (known_children before)) refl)
 
--- the child that init knows of after a Told
+-- the child that init knows of after a `told`
 pub told_child : (goal : Goal) (past : List Event) → is_sound goal past ≡ true → (id : List ℕ) (given : Answer)
-    → answered_of id past ≡ Some given → find (is_of id) (known_children (Told id ∷ past))
-    ≡ child_after id past given (find (is_of id) (known_children past))
-told_child goal past h id given is = same_find (is_of id) (known_children (Told id ∷ past)) (unreaped_children past)
+    → answered_of id past ≡ Some given → find (is_child_of id) (known_children (Told id ∷ past))
+    ≡ child_after id past given (find (is_child_of id) (known_children past))
+told_child goal past h id given is =
+    same_find (is_child_of id) (known_children (Told id ∷ past)) (unreaped_children past)
     (told_same id id (unreaped_children past) (known_children past) (same_id-self id))
     ∙ answered_child goal past h id given is
 
--- a signal is due to a known child; the entry of a birth stands in the table
+-- a signal is due only to a known child; the entry of a birth is in the table
 pub stop_known : (id : List ℕ) (ask : OrderKind) (past : List Event) → MayStop id ask past
     → has_child id (known_children past) ≡ true
-stop_known id ask past may = may.within (is_of id) may.own
+stop_known id ask past may = may.within (is_child_of id) may.own
 
-pub placed_listed : (id : List ℕ) (past : List Event) → is_placed id past ≡ true
+pub placed_listed : (id : List ℕ) (past : List Event) → has_startable_entry id past ≡ true
     → list_any (has_id id) (table_of past) ≡ true
 placed_listed id past h = grind (arith, entry_listed)

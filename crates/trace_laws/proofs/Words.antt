@@ -1,4 +1,4 @@
--- The words of the proofs of this crate.
+-- Names that all proofs of this crate import.
 pub use Rattle.std.proofs.Common.{◌≡◌, refl, sym, ◌∙◌, ap, ℕ, Bool, true, false, not, ◌&&◌, ◌||◌, ◌==◌, List, [], ◌∷◌}
 pub use Rattle.std.proofs.Common.{◌++◌, filter, arith, ◌≤◌, cond, length, lit≤, subst, inl, inr, Option, Some, None}
 pub use Rattle.std.proofs.Common.{is_some, ◌⊎◌, is_none, map, append_assoc, ◌+◌, nat_le, le_trans, le_refl}
@@ -14,11 +14,14 @@ pub use Rattle.trace_events.specs.declared.happenings.Happening.TheVariants.{Mis
 pub use Rattle.trace_events.specs.declared.happenings.Happening.TheVariants.{Nudge}
 pub use Rattle.trace_events.specs.declared.steps.Goal.{Goal}
 pub use Rattle.trace_events.specs.Event.{Event}
-pub use Rattle.trace_events.specs.Past.{Child, is_of, is_child, undone_of, is_untold, unreaped_children, known_children}
+pub use Rattle.trace_events.specs.Past.{Child, is_child_of, is_child, undone_of, is_untold, unreaped_children}
+pub use Rattle.trace_events.specs.Past.{known_children}
 pub use Rattle.trace_events.specs.Past.{has_child, newborn, kept_children, table_of, stage_of, open_of, is_dead}
 pub use Rattle.trace_events.specs.Past.{is_quiet, is_idle, has_number, grace_of, time_of, Open, open_orders}
-pub use Rattle.trace_events.specs.Wanted.{is_order, is_owed_before, starts_in, starts_now, brings, is_asked, is_called}
-pub use Rattle.trace_events.specs.Wanted.{is_wanted, nothing_runs, is_owed, is_excluded, entries_before, may_live}
+pub use Rattle.trace_events.specs.Wanted.{is_order, is_owed_before, starts_in, starts_now, adds_or_changes, is_asked}
+pub use Rattle.trace_events.specs.Wanted.{is_called}
+pub use Rattle.trace_events.specs.Wanted.{is_wanted, has_no_running_child, is_owed, is_excluded, entries_before}
+pub use Rattle.trace_events.specs.Wanted.{may_live}
 pub use Rattle.trace_events.specs.Sound.{may_come, is_sound}
 pub use Rattle.trace_events.specs.Agreement.{has_untold_birth, has_untold_end, is_unreaped, is_known, Agrees}
 pub use Rattle.init_words.proofs.Same.{same_id-is, same_id-from, same_id-self, same_ask-is, same_level-is}
@@ -28,7 +31,8 @@ pub use Rattle.init_words.proofs.Tests.{any_within, any_without, falsely, not_fr
 pub use Rattle.init_words.proofs.Tests.{and_false, any_less, any_filtered, is_none-is, all_less, all_fail, same_tests}
 pub use Rattle.init_words.proofs.Tests.{any_none, or_none, Passing, passing, or_false, any_filter, filter_within}
 pub use Rattle.init_words.proofs.Tests.{filter_without, and_true, found_any, find_none}
-pub use Rattle.trace_events.specs.Lawful.{is_alone, is_placed, is_in_turn, are_spared, may_term, is_free, is_due_hold}
+pub use Rattle.trace_events.specs.Lawful.{has_no_unreaped_child, has_startable_entry, is_in_turn}
+pub use Rattle.trace_events.specs.Lawful.{no_unreaped_is_excluded, may_term, is_free, is_due_hold}
 pub use Rattle.trace_events.specs.Lawful.{may_kill, broken, is_lawful, first_breach, is_limited_id}
 pub use Rattle.std.specs.Option.{option_map_or, option_map}
 pub use Rattle.std.proofs.lemmas.Option.{same_Some, none-some}
@@ -44,8 +48,9 @@ pub use Rattle.trace_events.specs.Due.{due_reexec, due_reread, enter_level, due_
 pub use Rattle.trace_events.specs.Due.{due_news, record_ids, stop_step, stops_of, stops_among, due_stops, can_start}
 pub use Rattle.trace_events.specs.Due.{start_steps, starts_among, due_starts, is_over, due_stage, is_announced}
 pub use Rattle.trace_events.specs.Due.{is_settled, settle_step, due_settle, looks_among, due_looks, due, same_step}
-pub use Rattle.trace_events.specs.Due.{can_look, is_served, left_ids, wants_look}
-pub use Rattle.trace_events.specs.Wishes.{goal_of, level_wish, powers, letters, wish_stands, in_run, heard_level}
+pub use Rattle.trace_events.specs.Due.{can_look, is_served, removed_ids, wants_look}
+pub use Rattle.trace_events.specs.Wishes.{goal_of, level_wish, powers, letters, is_request_pending, in_run}
+pub use Rattle.trace_events.specs.Wishes.{last_requested_level}
 pub use Rattle.trace_events.specs.Wishes.{wants_reexec, wants_reread, is_level, other_than}
 pub use Rattle.trace_laws.specs.Runs.{is_awaited, BeginsWith, is_undisturbed, taken, is_mild}
 pub use Rattle.init_words.specs.declared.levels.Level.{Level}
@@ -54,7 +59,7 @@ pub use Rattle.init_words.specs.declared.orders.PowerKind.{PowerKind}
 pub use Rattle.trace_events.specs.declared.steps.Step.{Step}
 pub use Rattle.trace_events.specs.declared.steps.Step.TheVariants.{Reread, Order, Reexec, Idle}
 pub use Rattle.trace_events.specs.Spells.{stop_due, Signal, stop_by, untold_hits, told_at, in_spell, spell_hits}
-pub use Rattle.trace_events.specs.Spells.{is_ripe, has_untold_miss, is_missed, tells_hits}
+pub use Rattle.trace_events.specs.Spells.{is_grace_over, has_untold_miss, is_missed, tells_hits}
 pub use Rattle.trace_events.specs.Timing.{is_held, is_full, start_times, hold_times}
 pub use Rattle.std.proofs.lemmas.List.{append-nil, nil_from_length}
 pub use Rattle.init_words.specs.declared.actions.Act.{Act}
@@ -63,7 +68,7 @@ pub use Rattle.init_words.specs.declared.levels.Mark.TheVariants.{At}
 pub use Rattle.trace_laws.specs.Orderly.{keeps_order, is_orderly}
 pub use Rattle.trace_laws.specs.Plans.{is_started, started_in, start_of, boot_before, steps_along, plan_of}
 pub use Rattle.std.proofs.lemmas.List.Elements.{filter-append}
-pub use Rattle.trace_events.specs.Bounds.{kills_once, targets, is_spaced, keeps_pace, hits_its_own}
+pub use Rattle.trace_events.specs.Bounds.{at_most_one_kill, targets, is_spaced, obeys_respawn_limit, hits_ordered_child}
 pub use Rattle.std.proofs.lemmas.List.Folds.{list_any-append}
 pub use Rattle.respawn_limit.specs.declared.TheConstants.{HOLD, STARTS, WINDOW}
 pub use Rattle.trace_events.specs.Run.{is_run, is_next}

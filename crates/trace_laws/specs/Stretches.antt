@@ -1,4 +1,4 @@
--- Stretches of a trace, between one happening and a later one.
+-- Stretches of a trace: the happenings between two others.
 use Rattle.std.specs.Prelude.{ℕ, Bool, true, false, ◌&&◌, ◌==◌, ◌+◌, if◌then◌else◌, List, [], ◌∷◌}
 use Rattle.trace_laws.specs.Words.{Start, NewTable, Asked, Reaped, Event, Child, is_excluded, is_unreaped}
 use Rattle.init_words.specs.Ids.{same_id}
@@ -11,19 +11,19 @@ is_steady (NewTable table ∷ stretch) = false
 is_steady (Enter stage grace ∷ stretch) = false
 is_steady (_ ∷ stretch) = is_steady stretch
 
--- how many Starts of the id are ordered in the stretch
+-- the number of starts of the id that were ordered in the stretch
 abbrev pub count_starts : List ℕ → List Event → ℕ
 count_starts id [] = 0
 count_starts id (Asked i Start ∷ stretch) =
     if same_id id i then count_starts id stretch + 1 else count_starts id stretch
 count_starts id (_ ∷ stretch) = count_starts id stretch
 
--- the happening is an order about the id
+-- the happening is an order for the id
 abbrev pub is_order_of : List ℕ → Event → Bool
 is_order_of id (Asked i ask) = same_id id i
 is_order_of id _ = false
 
--- the happening is the reaping of the child of this id and number
+-- the happening is the reaping of the child with this id and number
 abbrev pub is_reaping_of : List ℕ → ℕ → Event → Bool
 is_reaping_of id n (Reaped i m status) = same_id id i && n == m
 is_reaping_of id n _ = false

@@ -1,4 +1,4 @@
--- What a happening's text, or a part of it, makes of what a log over a writer took.
+-- How writing a happening's text, or a part of it, changes what a log over a writer took.
 use Rattle.std.proofs.Common.{◌≡◌, ℕ, true, false, List, [], ◌∷◌, ◌++◌, append-nil, Option, Some, None, Result, Ok, Err}
 use Rattle.std.proofs.Common.{is_err, refl, sym, ap, ◌∙◌}
 use Rattle.std.proofs.lemmas.Bool.{false≢true}
@@ -11,10 +11,10 @@ use Rattle.trace_text.proofs.ReadTexts.{trace_text-push, are_in_range-push, even
 use Rattle.trace_log.specs.declared.faults.LogFault.{LogFault}
 use Rattle.trace_log.specs.declared.faults.LogFault.TheVariants.{Device, Memory}
 use Rattle.trace_log.specs.Faults.{Leaves}
-use Rattle.trace_log.specs.Logs.{Gains, Stays}
+use Rattle.trace_log.specs.Logs.{AcceptsHappening, Stays}
 use Rattle.trace_log.specs.Streams.{Stream, HasText, IsCut, KnowsText, stream_state}
 
--- the text of a log that has not failed is all of its bytes
+-- the bytes of a log that has not failed are the text of the trace and nothing else
 all_text : (trace : List Event) (bytes : List ℕ) → HasText false trace bytes → trace_text trace ≡ bytes
 all_text trace bytes has =
     sym (append-nil (trace_text trace)) ∙ ap (λ part. trace_text trace ++ part) (sym (has.nothing refl)) ∙ has.whole
@@ -63,12 +63,13 @@ module _ {W X : Type 0} (contents : W → Option (List ℕ)) (old new : Stream W
   where
     pub taken_ok : old.failed ≡ false → new.failed ≡ is_err result
         → OnOk result (Appends (contents old.writer) (contents new.writer) (event_text h))
-        → OnOk result (is_in_range h ≡ true → Gains (stream_state contents old) (stream_state contents new) h)
+        → OnOk result
+        (is_in_range h ≡ true → AcceptsHappening (stream_state contents old) (stream_state contents new) h)
     taken_ok works flag written = by result flag written
       where
         by : (r : Result X LogFault) → new.failed ≡ is_err r
             → OnOk r (Appends (contents old.writer) (contents new.writer) (event_text h))
-            → OnOk r (is_in_range h ≡ true → Gains (stream_state contents old) (stream_state contents new) h)
+            → OnOk r (is_in_range h ≡ true → AcceptsHappening (stream_state contents old) (stream_state contents new) h)
         by (Ok x) flag written =
             λ ranged trace. rw (works, flag) (gains (contents old.writer) (contents new.writer) h trace ranged written)
         by (Err fault) flag written = tt

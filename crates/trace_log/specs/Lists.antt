@@ -1,12 +1,13 @@
--- What a log in memory took: the happenings of its list.
+-- Which happenings a log in memory took: those of its list.
 use Rattle.std.specs.Prelude.{◌≡◌, Bool, List, None}
 use Rattle.trace_events.specs.Event.{Event}
 use Rattle.trace_log.specs.Logs.{LogState}
 
--- a log in memory: its list, the oldest first, and whether it has failed
+-- a log in memory: its list, oldest first, and whether it has failed
 pub record Listed : Type 0 where
   pub list : List Event
   pub failed : Bool
 
+-- the state of a log in memory as contracts see it: it took the happenings of its list
 abbrev pub list_state : Listed → LogState
 list_state log = record { taken = λ trace. log.list ≡ trace; failed = log.failed; noted = None }

@@ -1,18 +1,18 @@
--- What a log tells of itself, and what taking a happening makes of it.
+-- The state of a log as contracts see it, and how taking a happening changes it.
 use Rattle.std.specs.Prelude.{ℕ, Bool, List, [], ◌∷◌, ◌++◌, Option}
 use Rattle.trace_events.specs.Event.{Event}
 
--- whether it took these happenings, the oldest first, as far as a contract sees; whether it has failed; and the id
--- whose ends it notes, where there is one
+-- `taken` holds of the happenings that the log took, oldest first; `failed` says whether it has failed; `noted` is the
+-- id whose ends it notes, if any
 pub record LogState : Type 1 where
   pub taken : List Event → Type 0
   pub failed : Bool
   pub noted : Option (List ℕ)
 
--- what it took it has taken still, and this happening behind it
-abbrev pub Gains : LogState → LogState → Event → Type 0
-Gains old new happening = (before : List Event) → old.taken before → new.taken (before ++ happening ∷ [])
+-- if the log had taken some happenings, it has now taken those and this one after them
+abbrev pub AcceptsHappening : LogState → LogState → Event → Type 0
+AcceptsHappening old new happening = (before : List Event) → old.taken before → new.taken (before ++ happening ∷ [])
 
--- what it took it has taken still, and nothing more
+-- if the log had taken some happenings, it has taken them still, and no more
 abbrev pub Stays : LogState → LogState → Type 0
 Stays old new = (before : List Event) → old.taken before → new.taken before

@@ -1,4 +1,4 @@
--- What a log over a writer took, by the writer's bytes.
+-- Which happenings a log over a writer took, as shown by the writer's bytes.
 use Rattle.std.specs.Prelude.{◌≡◌, ◌<◌, ℕ, Bool, true, false, List, [], ◌++◌, length, Option, Some, None}
 use Rattle.trace_events.specs.Event.{Event}
 use Rattle.trace_events.specs.Range.{is_in_range, are_in_range}
@@ -10,7 +10,7 @@ pub record Stream (W : Type 0) : Type 0 where
   pub writer : W
   pub failed : Bool
 
--- a part of a happening's text, from its beginning on, and not the whole
+-- a proper prefix of the text of some happening whose numbers are in range
 pub record IsCut (part : List ℕ) : Type 0 where
   pub happening : Event
   pub rest : List ℕ
@@ -18,8 +18,8 @@ pub record IsCut (part : List ℕ) : Type 0 where
   pub joined : part ++ rest ≡ event_text happening
   pub short : 0 < length rest
 
--- The bytes are the text of the trace; after it, once the log has failed, stands a part of the text of the happening
--- that it did not take, which may be empty.
+-- The bytes are the text of the trace, whose numbers are in range. If the log has failed, they are followed by a proper
+-- prefix, possibly empty, of the text of the happening that it did not take.
 pub record HasText (failed : Bool) (trace : List Event) (bytes : List ℕ) : Type 0 where
   pub ranged : are_in_range trace ≡ true
   pub part : List ℕ
@@ -27,12 +27,12 @@ pub record HasText (failed : Bool) (trace : List Event) (bytes : List ℕ) : Typ
   pub nothing : failed ≡ false → part ≡ []
   pub cut : failed ≡ true → IsCut part
 
--- they are known, and so
+-- the writer's bytes are known, and they are such a text
 abbrev pub KnowsText : Bool → List Event → Option (List ℕ) → Type 0
 KnowsText failed trace None = ⊥
 KnowsText failed trace (Some bytes) = HasText failed trace bytes
 
--- it took the happenings whose text its writer has, where the writer's bytes are known
+-- the log took the happenings whose text its writer has, if the writer's bytes are known
 abbrev pub stream_state : {W : Type 0} → (W → Option (List ℕ)) → Stream W → LogState
 stream_state contents log =
     record { taken = λ trace. KnowsText log.failed trace (contents log.writer); failed = log.failed; noted = None }

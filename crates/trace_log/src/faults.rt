@@ -1,15 +1,15 @@
-//! Why a log did not take a happening.
+//! Why a log failed to take a happening.
 
 use init_words::Memory;
 use std::error::Error;
 use std::{fmt, io};
 
-/// Why a log did not take a happening.
+/// The reason why a log failed to take a happening.
 #[derive(Clone, Copy, Debug, PartialEq, Eq)]
 pub enum LogFault {
-    /// The writer failed, or took no byte.
+    /// The writer failed, or wrote no byte.
     Device,
-    /// Out of memory.
+    /// Memory allocation failed.
     Memory,
 }
 

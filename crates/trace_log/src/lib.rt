@@ -1,5 +1,5 @@
-//! Where the trace of a run goes, as a trait: a log takes the happenings of a run one at a time, until it fails. One
-//! log keeps them in a list; the other writes the text of each.
+//! The trait of a log, which takes the happenings of a run one at a time until it fails, and two logs: one keeps the
+//! happenings in a list, the other writes the text of each.
 #![tactic(auto)]
 
 mod faults;

@@ -8,7 +8,7 @@ use std::alloc::{Allocator, Global};
 use std::marker::Model;
 use trace_events::{HappeningIn, happening_copy};
 
-/// A log that keeps copies of the happenings in a list, and tells them. It fails only where memory is refused.
+/// A log that keeps copies of the happenings in a list. It fails only if memory allocation fails.
 #[derive(Drop)]
 pub struct ListLog<A: Allocator = Global> {
     list: Vec<HappeningIn<A>, A>,
@@ -26,7 +26,7 @@ impl<A: Allocator> Model for ListLog<A> {
 impl<A: Allocator> ListLog<A> {
     ghost use Rattle.std.specs.Prelude.{false};
 
-    /// A log that took nothing. It takes no memory.
+    /// Creates an empty log. This does not allocate.
     pub fn new(alloc: A) -> ListLog<A>
         ensures { result ≡ record { list = []; failed = false } }
     {
@@ -36,7 +36,7 @@ impl<A: Allocator> ListLog<A> {
         }
     }
 
-    /// What it took, the oldest first.
+    /// Returns the happenings taken, oldest first.
     pub fn list(&self) -> &[HappeningIn<A>]
         ensures { result.now ≡ self.now.list }
     {
@@ -50,7 +50,7 @@ impl<A: Allocator + Copy> Log for ListLog<A> {
 
     ghost state = { list_state };
 
-    /// Takes a happening. Lack of memory is the only fault.
+    /// Appends a copy of the happening. Lack of memory is the only fault.
     fn take<B: Allocator>(&mut self, happening: &HappeningIn<B>) -> Result<(), LogFault>
         requires { self.old.failed ≡ false }
         ensures flag { self.new.failed ≡ is_err result }
@@ -68,7 +68,7 @@ impl<A: Allocator + Copy> Log for ListLog<A> {
     }
 }
 
-/// Adds a copy of the happening to the list.
+/// Appends a copy of the happening to the list.
 fn keep<A: Allocator + Copy, B: Allocator>(
     list: &mut Vec<HappeningIn<A>, A>,
     happening: &HappeningIn<B>,
@@ -91,7 +91,7 @@ impl<A: Allocator + Copy> EndedLog for ListLog<A> {
 
     ghost has_ended = { λ list whole trace. list.items ≡ trace };
 
-    /// The list. Nothing is held back.
+    /// Returns the list. Nothing is held back.
     fn end(self) -> (Vec<HappeningIn<A>, A>, bool) {
         let ListLog { list, failed } = self;
         (list, !failed)

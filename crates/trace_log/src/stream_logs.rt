@@ -1,4 +1,4 @@
-//! A log that writes the text of a trace as it comes.
+//! A log that writes the text of a trace as it grows.
 
 ghost use Rattle.std.specs.Prelude.{◌≡◌, OnOk, IfErr};
 ghost use Rattle.std.specs.Io.KnownBytes.{Appends};
@@ -13,9 +13,11 @@ use std::io::Write;
 use std::marker::Model;
 use trace_events::HappeningIn;
 
-/// A log that writes the text of each happening when it takes it, and keeps nothing: in a file, the trace is on disk up
-/// to the last happening taken. Where the writer fails, a part of the text of the refused happening may follow; where
-/// memory runs out, nothing does.
+/// A log that writes the text of each happening when it takes it, and keeps nothing. With a file as the writer, the
+/// trace is on disk up to the last happening taken.
+///
+/// If the writer fails, a part of the text of the refused happening may have been written; if memory allocation fails,
+/// nothing was.
 #[derive(Drop)]
 pub struct StreamLog<W, A: Allocator = Global> {
     writer: W,
@@ -35,7 +37,7 @@ impl<W: Write, A: Allocator> StreamLog<W, A> {
     ghost use Rattle.std.specs.Prelude.{[], false, IfSome};
     ghost use Rattle.trace_log.specs.Streams.{stream_state};
 
-    /// A log over a writer that holds no bytes. It takes no memory; `take` takes what it needs from the allocator.
+    /// Creates a log over a writer that has no bytes yet. This does not allocate; `take` uses the allocator.
     pub fn new(alloc: A, writer: W) -> StreamLog<W, A>
         requires { IfSome (W.contents writer) (λ bytes. bytes ≡ []) }
         ensures value { result ≡ record { writer = writer; failed = false } }
@@ -49,8 +51,8 @@ impl<W: Write, A: Allocator> StreamLog<W, A> {
         }
     }
 
-    /// The writer. Its bytes are the text of what the log took; after that, once the log has failed, may be a part of
-    /// one happening's.
+    /// Returns the writer. Its bytes are the text of the happenings taken, followed, if the log has failed, by a
+    /// possibly empty part of the text of one more.
     pub fn writer(&self) -> &W
         ensures { result.now ≡ self.now.writer }
     {
@@ -63,19 +65,19 @@ impl<W: Write, A: Allocator + Copy> Log for StreamLog<W, A> {
     ghost use Rattle.std.specs.Io.KnownBytes.{Appends};
     ghost use Rattle.trace_events.specs.Range.{is_in_range};
     ghost use Rattle.trace_text.specs.Lines.{event_text};
-    ghost use Rattle.trace_log.specs.Logs.{Gains, Stays};
+    ghost use Rattle.trace_log.specs.Logs.{AcceptsHappening, Stays};
     ghost use Rattle.trace_log.specs.Faults.{Leaves};
     ghost use Rattle.trace_log.specs.Streams.{stream_state};
 
     ghost state = { stream_state W.contents };
 
-    /// Writes the text of a happening: `Device` where the writer failed or took no byte, `Memory` where there was no
-    /// room to make the text.
+    /// Writes the text of a happening. Fails with `Device` if the writer failed or wrote no byte, and with `Memory` if
+    /// there was no memory for the text.
     fn take<B: Allocator>(&mut self, happening: &HappeningIn<B>) -> Result<(), LogFault>
         requires { self.old.failed ≡ false }
         ensures flag { self.new.failed ≡ is_err result }
         ensures ok { OnOk result (is_in_range happening.now ≡ true
-            → Gains (stream_state W.contents self.old) (stream_state W.contents self.new)
+            → AcceptsHappening (stream_state W.contents self.old) (stream_state W.contents self.new)
             happening.now) }
         ensures err { OnErr result (is_in_range happening.now ≡ true
             → Stays (stream_state W.contents self.old) (stream_state W.contents self.new)) }
@@ -103,7 +105,7 @@ impl<W: Write, A: Allocator + Copy> EndedLog for StreamLog<W, A> {
 
     ghost has_ended = { λ writer whole trace. KnowsText (not whole) trace (W.contents writer) };
 
-    /// The writer. Nothing is held back.
+    /// Returns the writer. Nothing is held back.
     fn end(self) -> (W, bool) {
         let StreamLog {
             writer,
@@ -114,7 +116,7 @@ impl<W: Write, A: Allocator + Copy> EndedLog for StreamLog<W, A> {
     }
 }
 
-/// Writes the text of a happening, by as many writes as it takes.
+/// Writes the text of a happening, calling the writer as often as necessary.
 fn write_happening<A: Allocator + Copy, B: Allocator, W: Write>(
     alloc: A,
     out: &mut W,

@@ -1,4 +1,4 @@
--- What a log gains in two parts.
+-- How a log changes when happenings are passed on to it in two steps.
 use Rattle.trace_log_wrappers.proofs.Words.{sym, ◌∙◌, ap, subst, List, ◌++◌, Ok, Err, OnOk, OnErr, append_assoc, Result}
 use Rattle.trace_log_wrappers.proofs.Words.{Event, LogState, AddsHappenings, AddsFront, Grows}
 
@@ -23,7 +23,7 @@ pub front_err : {T E : Type 0} (r : Result T E) (old one now : LogState) (xs zs 
 front_err (Ok x) old one now xs zs a h = tt
 front_err (Err e) old one now xs zs a h = front_behind old one now xs zs a h
 
--- the same where a part stands for happenings that a trace can hold
+-- the same, on the condition that the happenings can occur in a trace
 pub ranged_ok : {T E : Type 0} (r : Result T E) (Ranged : Type 0) (old one two : LogState) (xs ys : List Event)
     → AddsHappenings old one xs → OnOk r (Ranged → AddsHappenings one two ys)
     → OnOk r (Ranged → AddsHappenings old two (xs ++ ys))

@@ -1,13 +1,13 @@
--- What a brief log has written and holds behind a happening that it took or refused, and at its end.
+-- What a brief log has written and holds after a happening that it took or refused, and at its end.
 use Rattle.trace_log_wrappers.proofs.Words.{◌≡◌, refl, sym, ◌∙◌, ap, subst, Bool, true, false, List, [], ◌∷◌, ◌++◌}
 use Rattle.trace_log_wrappers.proofs.Words.{append-nil, reverse, Ok, Err, OnOk, OnErr, is_ok, ◌&&◌, arith}
 use Rattle.trace_log_wrappers.proofs.Words.{reverse-append, Result, Event, HeldBack, brief_of, Holds, held_events}
 use Rattle.trace_log_wrappers.proofs.Words.{next_held, LogState, AddsHappenings, AddsFront, held_first, newly_first}
-use Rattle.trace_log_wrappers.proofs.Words.{EndsBrief, HandsOn, TookBy, Writes}
+use Rattle.trace_log_wrappers.proofs.Words.{EndsBrief, HandsOn, BriefLogAccepted, Writes}
 use Rattle.std.proofs.Common.{is_err}
 use Rattle.trace_log_wrappers.proofs.Writing.{kept_end, kept_front, kept_next, kept_part}
 
--- a trace with a happening behind it, turned
+-- the reverse of a trace with a happening appended
 turned : (trace : List Event) (happening : Event) → reverse (trace ++ happening ∷ []) ≡ happening ∷ reverse trace
 turned trace happening = reverse-append trace (happening ∷ [])
 
@@ -15,18 +15,18 @@ module _ {T E : Type 0} (r : Result T E) (Ranged : Type 0) (happening : Event) (
     (held next : HeldBack) where
   pub took_ok : old.failed ≡ false → new.failed ≡ is_err r → OnOk r (next ≡ next_held happening held)
       → OnOk r (Ranged → AddsHappenings old new (newly_first happening held))
-      → OnOk r (Ranged → (before : List Event) → TookBy old.failed old held before
-      → TookBy new.failed new next (before ++ happening ∷ []))
+      → OnOk r (Ranged → (before : List Event) → BriefLogAccepted old.failed old held before
+      → BriefLogAccepted new.failed new next (before ++ happening ∷ []))
   took_ok works flag is adds = by r flag is adds
     where
       by : (r : Result T E) → new.failed ≡ is_err r → OnOk r (next ≡ next_held happening held)
           → OnOk r (Ranged → AddsHappenings old new (newly_first happening held))
-          → OnOk r (Ranged → (before : List Event) → TookBy old.failed old held before
-          → TookBy new.failed new next (before ++ happening ∷ []))
+          → OnOk r (Ranged → (before : List Event) → BriefLogAccepted old.failed old held before
+          → BriefLogAccepted new.failed new next (before ++ happening ∷ []))
       by (Err e) flag is adds = tt
       by (Ok x) flag is adds = λ ranged before took.
-          let writes : Writes old held before = subst (λ b. TookBy b old held before) works took in
-          subst (λ b. TookBy b new next (before ++ happening ∷ [])) (sym flag) (record {
+          let writes : Writes old held before = subst (λ b. BriefLogAccepted b old held before) works took in
+          subst (λ b. BriefLogAccepted b new next (before ++ happening ∷ [])) (sym flag) (record {
             written = writes.written ++ newly_first happening held;
             is = adds ranged writes.written writes.is;
             holds = subst (λ trace. Holds next (reverse (writes.written ++ newly_first happening held)) trace)
@@ -38,17 +38,19 @@ module _ {T E : Type 0} (r : Result T E) (Ranged : Type 0) (happening : Event) (
 
   pub took_err : old.failed ≡ false → new.failed ≡ is_err r
       → OnErr r (Ranged → AddsFront old new (newly_first happening held))
-      → OnErr r (Ranged → (before : List Event) → TookBy old.failed old held before → TookBy new.failed new next before)
+      → OnErr r (Ranged → (before : List Event) → BriefLogAccepted old.failed old held before
+      → BriefLogAccepted new.failed new next before)
   took_err works flag adds = by r flag adds
     where
       by : (r : Result T E) → new.failed ≡ is_err r → OnErr r (Ranged → AddsFront old new (newly_first happening held))
           → OnErr r
-          (Ranged → (before : List Event) → TookBy old.failed old held before → TookBy new.failed new next before)
+          (Ranged → (before : List Event) → BriefLogAccepted old.failed old held before
+          → BriefLogAccepted new.failed new next before)
       by (Ok x) flag adds = tt
       by (Err e) flag adds = λ ranged before took.
-          let writes : Writes old held before = subst (λ b. TookBy b old held before) works took in
+          let writes : Writes old held before = subst (λ b. BriefLogAccepted b old held before) works took in
           let parts = adds ranged writes.written writes.is in
-          subst (λ b. TookBy b new next before) (sym flag) (
+          subst (λ b. BriefLogAccepted b new next before) (sym flag) (
             writes.written ++ parts.first,
             record {
               more = happening ∷ [];
@@ -60,22 +62,22 @@ module _ {T E : Type 0} (r : Result T E) (Ranged : Type 0) (happening : Event) (
             parts.gained,
           )
 
--- ---- at its end
+-- The end of a brief log.
 
--- one that has failed hands on nothing more
+-- a log that has failed passes nothing more on
 pub hands_failed : (log : LogState) (held : HeldBack) → log.failed ≡ true → (trace : List Event)
-    → TookBy log.failed log held trace → HandsOn false log.taken trace
-hands_failed log held failed trace took = subst (λ b. TookBy b log held trace) failed took
+    → BriefLogAccepted log.failed log held trace → HandsOn false log.taken trace
+hands_failed log held failed trace took = subst (λ b. BriefLogAccepted b log held trace) failed took
 
 module _ {T E : Type 0} (r : Result T E) (old new : LogState) (held : HeldBack) where
   pub hands_held : old.failed ≡ false → OnOk r (AddsHappenings old new (held_first held))
       → OnErr r (AddsFront old new (held_first held))
-      → (handed : Bool) → handed ≡ is_ok r → (trace : List Event) → TookBy old.failed old held trace
+      → (handed : Bool) → handed ≡ is_ok r → (trace : List Event) → BriefLogAccepted old.failed old held trace
       → HandsOn handed new.taken trace
   hands_held works adds part handed is trace took = subst (λ b. HandsOn b new.taken trace) (sym is) (by r adds part)
     where
       writes : Writes old held trace
-      writes = subst (λ b. TookBy b old held trace) works took
+      writes = subst (λ b. BriefLogAccepted b old held trace) works took
 
       by : (r : Result T E) → OnOk r (AddsHappenings old new (held_first held))
           → OnErr r (AddsFront old new (held_first held)) → HandsOn (is_ok r) new.taken trace
@@ -94,7 +96,7 @@ module _ {T E : Type 0} (r : Result T E) (old new : LogState) (held : HeldBack) 
             parts.gained,
           )
 
--- and the log behind it ends
+-- the other log ends after it
 pub ends : (has_ended : Bool → List Event → Type 0) (taken : List Event → Type 0) (handed whole : Bool)
     (trace : List Event)
     → HandsOn handed taken trace → ((t : List Event) → taken t → has_ended whole t) → (ended : Bool)

@@ -1,4 +1,14 @@
 pub mod AddLemmas
+pub mod Alike
+pub mod BriefWords
+pub mod Briefly
+pub mod HoldLemmas
+pub mod Judged
 pub mod KeepLemmas
+pub mod Lasting
+pub mod Rows
+pub mod SameDues
+pub mod Short
+pub mod Shorter
 pub mod Words
 pub mod Writing

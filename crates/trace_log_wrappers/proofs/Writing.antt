@@ -1,13 +1,13 @@
--- What a brief log has written, behind each happening, and at its end.
+-- What a brief log has written after each happening and at its end.
 use Rattle.trace_log_wrappers.proofs.Words.{◌≡◌, refl, sym, ◌∙◌, ap, ap₂, subst, ℕ, Bool, true, false, List, ◌∷◌, ◌++◌}
 use Rattle.trace_log_wrappers.proofs.Words.{reverse, Option, Some, None, append_assoc, reverse-append, reverse-reverse}
 use Rattle.trace_log_wrappers.proofs.Words.{Event, HeldBack, brief_of, look_events, round_events, reading_events}
 use Rattle.trace_log_wrappers.proofs.Words.{held_events, held_back, written_of, Holds, next_held, newly_by}
 use Rattle.trace_log_wrappers.proofs.Words.{newly_written, held_first, newly_first_by, newly_first}
 use Rattle.trace_events.specs.declared.happenings.Happening.TheVariants.{Clock, Nudge}
-use Rattle.trace_brief.specs.declared.held.HeldLook.{HeldLook}
-use Rattle.trace_brief.specs.declared.held.HeldLook.TheVariants.{Ordered, FoundNothing}
-use Rattle.trace_brief.proofs.HoldLemmas.{holds_next}
+use Rattle.trace_log_wrappers.specs.declared.held.HeldLook.{HeldLook}
+use Rattle.trace_log_wrappers.specs.declared.held.HeldLook.TheVariants.{Ordered, FoundNothing}
+use Rattle.trace_log_wrappers.proofs.HoldLemmas.{holds_next}
 
 turned : (reading : Option ℕ) (round : Bool) (look : Option HeldLook) → reverse (reading_events reading ++ round_events
     round ++ reverse (look_events look)) ≡ look_events look ++ round_events round ++ reading_events reading
@@ -56,7 +56,7 @@ kept_end held before trace holds =
     ∙ ap reverse
     (reverse-append before (held_first held) ∙ ap (λ xs. xs ++ reverse before) (held_turned held) ∙ holds.brief)
 
--- what was written in part is a front of the brief form, and the rest of that
+-- what was written in part is a prefix of the brief form, with the rest after it
 module _ (before first rest more trace : List Event) (all : first ++ rest ≡ more) where
   joined : (before ++ first) ++ rest ≡ before ++ more
   joined = append_assoc before first rest ∙ ap (λ xs. before ++ xs) all

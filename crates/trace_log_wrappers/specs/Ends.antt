@@ -1,4 +1,5 @@
--- What the end of a run tells of its trace, the newest happening first: the last end of an id, and the children.
+-- What is reported at the end of a run, read off its trace, newest happening first: the last end of an id, and the
+-- children.
 use Rattle.std.specs.Prelude.{ℕ, if◌then◌else◌, List, [], ◌∷◌, Option, Some, None}
 use Rattle.init_words.specs.declared.children.Status.{Status}
 use Rattle.init_words.specs.Ids.{same_id}
@@ -11,7 +12,7 @@ last_end id [] = None
 last_end id (Reaped other number status ∷ past) = if same_id id other then Some status else last_end id past
 last_end id (_ ∷ past) = last_end id past
 
--- the number of the id's last child, if it was not reaped
+-- the number of the id's last child, if that child was not reaped
 abbrev pub number_of : List ℕ → List Event → Option ℕ
 number_of id [] = None
 number_of id (Birth other number ∷ past) = if same_id id other then Some number else number_of id past

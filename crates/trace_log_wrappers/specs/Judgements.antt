@@ -1,4 +1,4 @@
--- What a judge finds of the happenings that a log takes.
+-- The verdict of a judge on the happenings that a log takes.
 use Rattle.std.specs.Prelude.{◌≡◌, Bool, if◌then◌else◌, List, length, Some, None, ⊤}
 use Rattle.trace_events.specs.Event.{Event}
 use Rattle.trace_events.specs.Lawful.{first_breach}
@@ -7,18 +7,19 @@ use Rattle.trace_check.specs.Judging.{Judged, Judging}
 use Rattle.trace_log_wrappers.specs.declared.judgements.Judgement.{Judgement}
 use Rattle.trace_log_wrappers.specs.declared.judgements.Judgement.TheVariants.{Lawful, Breach, Unjudged}
 
--- it is found of these happenings, the newest first: they break no law, and are so many; or this is their first breach
-abbrev pub Finds : Judgement → List Event → Type 0
-Finds (Lawful count) past = (first_breach past ≡ None) × (count ≡ length past)
-Finds (Breach position law) past = first_breach past ≡ Some (fault_at position law)
-Finds Unjudged past = ⊤
+-- the verdict on these happenings, newest first, is right: they break no law and are of this number, or this is their
+-- first breach
+abbrev pub IsJudgementOf : Judgement → List Event → Type 0
+IsJudgementOf (Lawful count) past = (first_breach past ≡ None) × (count ≡ length past)
+IsJudgementOf (Breach position law) past = first_breach past ≡ Some (fault_at position law)
+IsJudgementOf Unjudged past = ⊤
 
--- the same of a judge that goes on as long as no law is broken
-abbrev pub FindsBy : Judging → Judgement → List Event → Type 0
-FindsBy judge (Lawful count) past = Judged judge past × (count ≡ length past)
-FindsBy judge (Breach position law) past = first_breach past ≡ Some (fault_at position law)
-FindsBy judge Unjudged past = ⊤
+-- the verdict is right, and as long as no law is broken, the judge has taken these happenings
+abbrev pub JudgedSoFar : Judging → Judgement → List Event → Type 0
+JudgedSoFar judge (Lawful count) past = Judged judge past × (count ≡ length past)
+JudgedSoFar judge (Breach position law) past = first_breach past ≡ Some (fault_at position law)
+JudgedSoFar judge Unjudged past = ⊤
 
--- what is found of nothing, where a judge is asked for or not
+-- the verdict before the first happening, depending on whether a judge was requested
 abbrev pub found_first : Bool → Judgement
 found_first asked = if asked then Lawful 0 else Unjudged

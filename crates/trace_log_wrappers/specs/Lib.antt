@@ -1,6 +1,9 @@
 pub mod Adding
+pub mod Brief
 pub mod Ends
+pub mod Holding
 pub mod Judgements
 pub mod Keeping
 pub mod Notes
+pub mod Readings
 pub mod Watching

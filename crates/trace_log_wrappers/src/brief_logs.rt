@@ -1,24 +1,24 @@
-//! A log of the brief form of a trace: it holds back what a later happening may leave out or change, and hands the rest
-//! to another log.
+//! A log of the brief form of a trace. It holds back the happenings that a later one may omit or change, and passes the
+//! rest on to another log.
 
 ghost use Rattle.std.specs.Prelude.{◌≡◌, ◌++◌, ◌∷◌, [], List, true, false, is_err, reverse, OnOk, OnErr};
 ghost use Rattle.trace_events.specs.Event.{Event};
 ghost use Rattle.trace_events.specs.Range.{is_in_range, is_short};
-ghost use Rattle.trace_brief.specs.Holding.{look_events, round_events, reading_events, written_of, next_held};
+ghost use Rattle.trace_log_wrappers.specs.Holding.{look_events, round_events, reading_events, written_of, next_held};
 ghost use Rattle.trace_log_wrappers.specs.Adding.{AddsHappenings, AddsFront, held_first, newly_first};
-ghost use Rattle.trace_log_wrappers.specs.Keeping.{HandsOn, TookBy, brief_state};
+ghost use Rattle.trace_log_wrappers.specs.Keeping.{HandsOn, BriefLogAccepted, brief_state};
 
+use crate::held::{HeldBack, HeldLook};
 use init_words::OrderKind;
 use std::alloc::{Allocator, Global};
 use std::marker::Model;
-use trace_brief::{HeldBack, HeldLook};
 use trace_events::{Happening, HappeningIn, law_of_ranges};
 use trace_log::{EndedLog, Log, LogFault};
 
-/// A log of a brief trace, in front of another log. It holds back at most four happenings: a reading of the clock, a
-/// round, the order of a look, and that the look found nothing. It takes no memory.
+/// A log that passes on the brief form of its trace to another log.
 ///
-/// `end` writes what is held, and `into_log` takes it apart.
+/// It holds back at most four happenings: a reading of the clock, a round, the order of a look, and that the look found
+/// nothing. It does not allocate. `end` passes on what is held; `into_log` drops it.
 #[derive(Drop)]
 pub struct BriefLog<L> {
     log: L,
@@ -33,7 +33,7 @@ impl<L> Model for BriefLog<L> {
     ghost view = { λ log. record { log = log.log; held = log.held } };
 }
 
-/// Hands the log one happening.
+/// Passes one happening on to the log.
 fn write_to<L: Log, B: Allocator>(log: &mut L, happening: &HappeningIn<B>) -> Result<(), LogFault>
     requires { (L.state log.old).failed ≡ false }
     ensures flag { (L.state log.new).failed ≡ is_err result }
@@ -46,7 +46,7 @@ fn write_to<L: Log, B: Allocator>(log: &mut L, happening: &HappeningIn<B>) -> Re
     log.take(happening)
 }
 
-/// Hands the log a reading that was held.
+/// Passes a held reading on to the log, if there is one.
 fn write_reading<L: Log>(log: &mut L, reading: Option<u64>) -> Result<(), LogFault>
     requires { (L.state log.old).failed ≡ false }
     ensures flag { (L.state log.new).failed ≡ is_err result }
@@ -64,7 +64,7 @@ fn write_reading<L: Log>(log: &mut L, reading: Option<u64>) -> Result<(), LogFau
     }
 }
 
-/// Hands the log a round that was held.
+/// Passes a held round on to the log, if there is one.
 fn write_round<L: Log>(log: &mut L, round: bool) -> Result<(), LogFault>
     requires { (L.state log.old).failed ≡ false }
     ensures flag { (L.state log.new).failed ≡ is_err result }
@@ -80,7 +80,7 @@ fn write_round<L: Log>(log: &mut L, round: bool) -> Result<(), LogFault>
     write_to(log, &happening)
 }
 
-/// Hands the log a look that was held.
+/// Passes a held look on to the log, if there is one.
 fn write_look<L: Log>(log: &mut L, look: &Option<HeldLook>) -> Result<(), LogFault>
     requires { (L.state log.old).failed ≡ false }
     ensures flag { (L.state log.new).failed ≡ is_err result }
@@ -106,7 +106,7 @@ fn write_look<L: Log>(log: &mut L, look: &Option<HeldLook>) -> Result<(), LogFau
     }
 }
 
-/// Hands the log all that was held.
+/// Passes everything held on to the log.
 fn write_held<L: Log>(log: &mut L, held: &HeldBack) -> Result<(), LogFault>
     requires { (L.state log.old).failed ≡ false }
     ensures flag { (L.state log.new).failed ≡ is_err result }
@@ -122,7 +122,7 @@ fn write_held<L: Log>(log: &mut L, held: &HeldBack) -> Result<(), LogFault>
     write_look(log, &held.look)
 }
 
-/// Hands the log a happening, unless it is a reading or a round.
+/// Passes a happening on to the log, unless it is a reading or a round.
 fn write_new<L: Log, B: Allocator>(log: &mut L, happening: &HappeningIn<B>) -> Result<(), LogFault>
     requires { (L.state log.old).failed ≡ false }
     ensures flag { (L.state log.new).failed ≡ is_err result }
@@ -137,7 +137,7 @@ fn write_new<L: Log, B: Allocator>(log: &mut L, happening: &HappeningIn<B>) -> R
     }
 }
 
-/// Hands the log all that was held, and the happening unless it is a reading or a round.
+/// Passes everything held on to the log, and then the happening, unless it is a reading or a round.
 fn write_all<L: Log, B: Allocator>(
     log: &mut L,
     held: &HeldBack,
@@ -159,7 +159,7 @@ fn write_all<L: Log, B: Allocator>(
 }
 
 impl<L: Log> BriefLog<L> {
-    /// A brief log in front of a log that took nothing.
+    /// Creates a brief log in front of a log that has taken nothing.
     pub fn new(log: L) -> BriefLog<L>
         ensures log { result.log ≡ log }
         ensures nothing { (L.state log).taken [] → (brief_state L.state result).taken [] }
@@ -170,7 +170,7 @@ impl<L: Log> BriefLog<L> {
         }
     }
 
-    /// Holds a happening back, or hands the log what was held and then the happening.
+    /// Holds a happening back, or passes on to the log what was held, followed by the happening.
     fn step<B: Allocator>(&mut self, happening: &HappeningIn<B>) -> Result<(), LogFault>
         requires { (L.state self.old.log).failed ≡ false }
         ensures flag { (L.state self.new.log).failed ≡ is_err result }
@@ -195,7 +195,8 @@ impl<L: Log> BriefLog<L> {
         }
     }
 
-    /// The log as it is, also one that has failed. What is held is not written: `end` writes it.
+    /// Returns the other log, whether it has failed or not. Happenings that are still held are lost; `end` passes them
+    /// on instead.
     pub fn into_log(self) -> L
         ensures { result ≡ self.log }
     {
@@ -205,18 +206,19 @@ impl<L: Log> BriefLog<L> {
 }
 
 impl<L: Log> Log for BriefLog<L> {
-    ghost use Rattle.trace_log.specs.Logs.{Gains, Stays};
+    ghost use Rattle.trace_log.specs.Logs.{AcceptsHappening, Stays};
     ghost use Rattle.trace_log_wrappers.specs.Keeping.{Grows};
 
     ghost state = { brief_state L.state };
 
-    /// Takes a happening: holds it back, or hands the log what was held and then the happening. What is written and held
-    /// is the brief form of what it took.
+    /// Takes a happening: holds it back, or passes on to the log what was held, followed by the happening. The
+    /// happenings passed on and held are together the brief form of those taken.
     fn take<B: Allocator>(&mut self, happening: &HappeningIn<B>) -> Result<(), LogFault>
         requires { (L.state self.old.log).failed ≡ false }
         ensures flag { (L.state self.new.log).failed ≡ is_err result }
         ensures ok { OnOk result (is_in_range happening.now ≡ true
-            → Gains (brief_state L.state self.old) (brief_state L.state self.new) happening.now) }
+            → AcceptsHappening (brief_state L.state self.old)
+            (brief_state L.state self.new) happening.now) }
         ensures err { OnErr result (is_in_range happening.now ≡ true
             → Stays (brief_state L.state self.old) (brief_state L.state self.new)) }
         ensures kept { is_in_range happening.now ≡ true
@@ -230,11 +232,11 @@ impl<L: Log> Log for BriefLog<L> {
     }
 }
 
-/// Hands the log all that was held, unless it has failed; gives whether it took that.
+/// Passes everything held on to the log, unless the log has failed. Returns whether the log took it.
 fn hand_on<L: Log>(log: &mut L, held: &HeldBack) -> bool
     ensures failed { (L.state log.old).failed ≡ true → result ≡ false }
     ensures handed { (trace : List Event)
-        → TookBy (L.state log.old).failed (L.state log.old) held.now trace
+        → BriefLogAccepted (L.state log.old).failed (L.state log.old) held.now trace
         → HandsOn result (L.state log.new).taken trace }
 {
     if log.failed() {
@@ -250,7 +252,8 @@ impl<L: EndedLog> EndedLog for BriefLog<L> {
 
     ghost has_ended = { λ left whole trace. EndsBrief (L.has_ended left) whole trace };
 
-    /// Hands the other log all that is held, and ends it. It has then the brief form of the trace, or a part of it.
+    /// Passes everything held on to the other log, and ends that log. It has then taken the brief form of the trace, or
+    /// a part of it.
     fn end(self) -> (L::Left, bool) {
         let BriefLog { mut log, held } = self;
         let handed = hand_on(&mut log, &held);

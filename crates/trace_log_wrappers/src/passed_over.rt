@@ -1,13 +1,14 @@
-//! What is said of a request for a level that changes nothing, and of a level change that a later one passes over.
+//! Warnings about requests for a level: one that changes nothing, and a change of level that a later request replaces.
 //!
-//! It stands on standard error alone, so no contract says it: `tools/pages.d/messages` reads the lines.
+//! The warnings go to standard error only, so no contract covers them; `tools/pages.d/messages` reads the lines.
 
 use init_words::{Level, Stage};
 use initctl_frame::HeardRequest;
 use std::alloc::Allocator;
 use trace_events::{Happening, HappeningIn};
 
-/// The level in force, the grace with which it was entered, and the one that was asked for and isn't entered yet.
+/// The level in force, the grace period with which it was entered, whether it is settled, and the level that was
+/// requested but not entered yet.
 #[derive(Clone, Copy, Default)]
 pub(crate) struct Asked {
     now: Option<Level>,
@@ -17,7 +18,7 @@ pub(crate) struct Asked {
 }
 
 impl Asked {
-    /// Notes a happening, and says on standard error what there is to say of a request for a level.
+    /// Notes a happening, and writes a warning to standard error if a request for a level needs one.
     pub(crate) fn note<A: Allocator>(&mut self, rt: &impl Eprint, happening: &HappeningIn<A>) {
         match happening {
             Happening::Enter(Stage::Run(level), grace) => {
@@ -33,7 +34,7 @@ impl Asked {
         }
     }
 
-    /// The same of a request for a level. One for the level in force leaves no wish.
+    /// Notes a request for a level. A request for the level in force leaves no other level requested.
     fn hear(&mut self, rt: &impl Eprint, asked: Level, grace: u16) {
         let before = self.wish;
         let is_now = self.now == Some(asked);
@@ -41,17 +42,17 @@ impl Asked {
         let level = char::from(asked.code());
         let _ = match before {
             Some(other) if other != asked => eprintln!(rt;
-                "initd: runlevel {} is passed over: runlevel {level} was asked for before it was entered",
+                "initd: runlevel {} is skipped: runlevel {level} was requested before it was entered",
                 char::from(other.code())
             ),
             None if is_now && self.is_settled => eprintln!(rt;
-                "initd: runlevel {level} is settled: the request for it changes nothing"
+                "initd: runlevel {level} is settled; the request for it has no effect"
             ),
             None if is_now && grace != self.grace => eprintln!(rt;
-                "initd: runlevel {level} is being entered: the request for it changes nothing, its {grace} seconds aren't taken"
+                "initd: runlevel {level} is being entered; the request for it has no effect, and its {grace} seconds are ignored"
             ),
             None if is_now => eprintln!(rt;
-                "initd: runlevel {level} is being entered: the request for it changes nothing"
+                "initd: runlevel {level} is being entered; the request for it has no effect"
             ),
             _ => Ok(()),
         };

@@ -1,9 +1,9 @@
-//! What is noted of the happenings of a run for its end to tell: which children are not reaped, and how the last child of
-//! one id ended.
+//! Notes on the happenings of a run that are reported at its end: which children are not reaped, and how the last child
+//! of one id ended.
 
 ghost use Rattle.std.specs.Prelude.{◌≡◌, ◌∷◌, [], true, List, OnOk, Option};
 ghost use Rattle.trace_events.specs.Event.{Event};
-ghost use Rattle.trace_log_wrappers.specs.Notes.{IsLast, IsRunning, NotesOf, is_wanted};
+ghost use Rattle.trace_log_wrappers.specs.Notes.{IsLast, IsRunning, AreNotesOf, is_wanted};
 
 use indexmap::IndexMap;
 use init_words::{ChildNumber, Id, Memory, Status};
@@ -12,13 +12,13 @@ use std::hash::{BuildHasherDefault, FoldHasher};
 use std::marker::Model;
 use trace_events::{Happening, HappeningIn};
 
-/// The numbers of children by id, those that were born first in front.
+/// The child numbers by id, in the order of birth.
 pub type Numbers<A = Global> = IndexMap<Id, ChildNumber, BuildHasherDefault<FoldHasher>, A>;
 
-/// What is noted of the happenings of a run.
+/// Notes on the happenings of a run.
 #[derive(Drop)]
 pub struct RunNotes<A: Allocator = Global> {
-    /// The id whose last end is noted, where one is.
+    /// The id whose last end is noted, if any.
     wanted: Option<Id>,
     last: Option<Status>,
     running: Numbers<A>,
@@ -41,9 +41,9 @@ impl<A: Allocator> Model for RunNotes<A> {
 impl<A: Allocator + Copy> RunNotes<A> {
     ghost use Rattle.std.specs.Prelude.{IfSome, IsSome, ◌↔◌, true};
 
-    /// Notes of nothing, for the last end of this id, where one is wanted. It takes no memory.
+    /// Creates empty notes, which will have the last end of the given id, if any. This does not allocate.
     pub(crate) fn new(alloc: A, wanted: Option<Id>) -> RunNotes<A>
-        ensures nothing { NotesOf result [] }
+        ensures nothing { AreNotesOf result [] }
         ensures wanted { result.wanted ≡ wanted }
     {
         RunNotes {
@@ -54,20 +54,20 @@ impl<A: Allocator + Copy> RunNotes<A> {
         }
     }
 
-    /// How the last child that ended of the id whose last end is noted did so; None where none has ended.
+    /// Returns how the last child that ended of the noted id did so, or `None` if none has ended.
     pub fn last(&self) -> Option<Status>
         ensures value { result ≡ self.now.last }
-        ensures trace { (past : List Event) → NotesOf self.now past
+        ensures trace { (past : List Event) → AreNotesOf self.now past
             → IsLast result self.now.wanted past }
     {
         self.last
     }
 
-    /// The unreaped children; None where there was no memory to note all of them.
+    /// Returns the unreaped children, or `None` if there was not enough memory to note all of them.
     pub fn running(&self) -> Option<&Numbers<A>>
         ensures complete { IsSome result ↔ (self.now.complete ≡ true) }
         ensures value { IfSome result (λ numbers. numbers.now.entries ≡ self.now.running) }
-        ensures trace { (past : List Event) → NotesOf self.now past
+        ensures trace { (past : List Event) → AreNotesOf self.now past
             → IfSome result (λ numbers. IsRunning numbers.now.entries past) }
     {
         if self.is_complete {
@@ -79,8 +79,8 @@ impl<A: Allocator + Copy> RunNotes<A> {
 
     /// Notes a happening.
     pub(crate) fn note<B: Allocator>(&mut self, happening: &HappeningIn<B>)
-        ensures notes { (past : List Event) → NotesOf self.old past
-            → NotesOf self.new (happening.now ∷ past) }
+        ensures notes { (past : List Event) → AreNotesOf self.old past
+            → AreNotesOf self.new (happening.now ∷ past) }
         ensures wanted { self.new.wanted ≡ self.old.wanted }
     {
         self.last = end_behind(self.last, &self.wanted, happening);
@@ -90,7 +90,7 @@ impl<A: Allocator + Copy> RunNotes<A> {
     }
 }
 
-/// The id is the one that is wanted.
+/// Returns whether the id is the one whose last end is noted.
 fn is_wanted(id: &Id, wanted: &Option<Id>) -> bool
     ensures { result ≡ is_wanted id.now wanted.now }
 {
@@ -100,7 +100,7 @@ fn is_wanted(id: &Id, wanted: &Option<Id>) -> bool
     }
 }
 
-/// How the last child of the id that is wanted ended behind a happening, with this end before it.
+/// Returns the last end of the noted id after a happening, given the one before it.
 fn end_behind<B: Allocator>(
     last: Option<Status>,
     wanted: &Option<Id>,
@@ -115,7 +115,7 @@ fn end_behind<B: Allocator>(
     }
 }
 
-/// Keeps the numbers of the unreaped children behind a happening.
+/// Updates the numbers of the unreaped children for a happening.
 fn note_child<A: Allocator, B: Allocator>(
     running: &mut Numbers<A>,
     happening: &HappeningIn<B>,

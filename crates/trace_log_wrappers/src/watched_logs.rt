@@ -1,4 +1,4 @@
-//! A log in front of another one, which watches what that one takes.
+//! A log that watches what another log takes.
 
 use crate::judgements::Judgement;
 use crate::passed_over::Asked;
@@ -12,9 +12,11 @@ use trace_events::HappeningIn;
 use trace_log::{Log, LogFault};
 use trace_text::print_one;
 
-/// A log in front of another one, to which each happening is handed on. What the other one takes is noted, and judged
-/// where a judge is asked for. Standard error is told of the first happening that breaks a law, of a request for a level
-/// that changes nothing, and of a level change that a later one passes over.
+/// A log that passes each happening on to another log, notes what that log takes, and judges it if a judge was
+/// requested.
+///
+/// It warns on standard error about the first happening that breaks a law, about a request for a level that changes
+/// nothing, and about a change of level that a later request replaces.
 #[derive(Drop)]
 pub struct NotingLog<'a, R, L, A: Allocator = Global> {
     rt: &'a R,
@@ -42,11 +44,11 @@ impl<'a, R, L, A: Allocator> Model for NotingLog<'a, R, L, A> {
 impl<'a, R: Eprint, L: Log, A: Allocator + Copy> NotingLog<'a, R, L, A> {
     ghost use Rattle.std.specs.Prelude.{◌≡◌, [], List, reverse};
     ghost use Rattle.trace_events.specs.Event.{Event};
-    ghost use Rattle.trace_log_wrappers.specs.Judgements.{Finds, found_first};
+    ghost use Rattle.trace_log_wrappers.specs.Judgements.{IsJudgementOf, found_first};
     ghost use Rattle.trace_log_wrappers.specs.Watching.{watched_state};
 
-    /// A log in front of this one, with notes of nothing, for the last end of this id, where one is wanted, and with a
-    /// judge where one is asked for. It takes no memory.
+    /// Creates a watching log in front of `log`. It will note the last end of the id `wanted`, if any, and judge the
+    /// happenings if `is_judged` is set. This does not allocate.
     pub fn new(
         rt: &'a R,
         alloc: A,
@@ -74,11 +76,11 @@ impl<'a, R: Eprint, L: Log, A: Allocator + Copy> NotingLog<'a, R, L, A> {
         }
     }
 
-    /// The other log, the notes of what it took, and what is found of that.
+    /// Returns the other log, the notes on what it took, and the verdict on it.
     pub fn into_parts(self) -> (L, RunNotes<A>, Judgement)
         ensures parts { result ≡ (self.entry.log, self.entry.notes, self.entry.judgement) }
         ensures found { (trace : List Event) → (watched_state L.state self.entry).taken trace
-            → Finds result.2 (reverse trace) }
+            → IsJudgementOf result.2 (reverse trace) }
     {
         let NotingLog {
             rt: _,
@@ -89,12 +91,12 @@ impl<'a, R: Eprint, L: Log, A: Allocator + Copy> NotingLog<'a, R, L, A> {
             judge,
             judgement,
         } = self;
-        // By one call: the prover walks over the parts of what is dropped at a function's end, one by one.
+        // A single call, because the prover would otherwise go through the fields of the dropped value one by one.
         drop(judge);
         (log, notes, judgement)
     }
 
-    /// Tells a breach where it is new.
+    /// Warns about a breach if it is new.
     fn tell<B: Allocator>(&self, before: Judgement, happening: &HappeningIn<B>) {
         if let (Judgement::Lawful(_), Judgement::Breach(position, law)) = (before, self.judgement) {
             tell_breach(self.rt, self.alloc, position, law, happening);
@@ -102,7 +104,7 @@ impl<'a, R: Eprint, L: Log, A: Allocator + Copy> NotingLog<'a, R, L, A> {
     }
 }
 
-/// Tells on standard error that a happening breaks a law, and that init goes on.
+/// Warns on standard error that a happening breaks a law and that init continues.
 fn tell_breach<R: Eprint, A: Allocator + Copy, B: Allocator>(
     rt: &R,
     alloc: A,
@@ -118,29 +120,29 @@ fn tell_breach<R: Eprint, A: Allocator + Copy, B: Allocator>(
 
 fn tell_line<R: Eprint>(rt: &R, position: u64, line: &str, law: Law) {
     let line = line.trim_end();
-    let _ = eprintln!(rt; "initd: happening {position}, {line}: {law}: init goes on");
+    let _ = eprintln!(rt; "initd: happening {position}, {line}: {law}; init continues");
 }
 
 impl<R: Eprint, L: Log, A: Allocator + Copy> Log for NotingLog<'_, R, L, A> {
     ghost use Rattle.std.specs.Prelude.{◌≡◌, true, false, is_err, OnOk, OnErr};
     ghost use Rattle.trace_events.specs.Range.{is_in_range};
-    ghost use Rattle.trace_log.specs.Logs.{Gains, Stays};
+    ghost use Rattle.trace_log.specs.Logs.{AcceptsHappening, Stays};
     ghost use Rattle.trace_log_wrappers.specs.Watching.{watched_state};
 
     ghost state = { watched_state L.state };
 
-    /// Hands the happening on. Where the other log took it, it is noted, and judged if no happening before it broke a law;
-    /// where not, neither.
+    /// Passes the happening on. If the other log takes it, it is noted, and judged unless an earlier happening broke a
+    /// law; otherwise it is neither.
     fn take<B: Allocator>(&mut self, happening: &HappeningIn<B>) -> Result<(), LogFault>
         requires { (L.state self.old.log).failed ≡ false }
         ensures flag { (L.state self.new.log).failed ≡ is_err result }
         ensures ok { OnOk result (is_in_range happening.now ≡ true
-            → Gains (watched_state L.state self.old)
+            → AcceptsHappening (watched_state L.state self.old)
             (watched_state L.state self.new) happening.now) }
         ensures err { OnErr result (is_in_range happening.now ≡ true
             → Stays (watched_state L.state self.old) (watched_state L.state self.new)) }
         ensures log_ok { OnOk result (is_in_range happening.now ≡ true
-            → Gains (L.state self.old.log) (L.state self.new.log) happening.now) }
+            → AcceptsHappening (L.state self.old.log) (L.state self.new.log) happening.now) }
         ensures log_err { OnErr result (is_in_range happening.now ≡ true
             → Stays (L.state self.old.log) (L.state self.new.log)) }
         ensures kept { OnErr result (self.new ≡ record self.old { log = self.new.log }) }

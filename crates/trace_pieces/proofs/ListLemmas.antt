@@ -1,4 +1,4 @@
--- What the lines of a run add to its list.
+-- How the lines of a run change its list.
 use Rattle.std.proofs.Common.{◌≡◌, refl, subst, sym, ℕ, Bool, true, false, if◌then◌else◌, nat_le, List, [], ◌∷◌}
 use Rattle.std.proofs.Common.{◌++◌, Some, None, arith, append_assoc, append-nil, le-leb, length, length-append}
 use Rattle.std.proofs.Common.{nat_lt, min}
@@ -6,11 +6,11 @@ use Rattle.trace_pieces.specs.Lists.{IsKept, IsOfRun, PieceList, all_moved_up, a
 use Rattle.trace_pieces.specs.Lists.{number_behind, numbered, with_all, with_most, with_piece, without_found}
 use Rattle.trace_pieces.specs.declared.lists.Piece.{Piece}
 
--- a list whose numbers rise from here, with these pieces
+-- a list with these pieces, whose next number is known, and of which nothing was removed
 abbrev rising : List Piece → ℕ → PieceList
 rising front next = record { next = Some next; pieces = front; lacks_front = false; is_ending = false }
 
--- before a piece comes that has this number, if numbers rise to it or not
+-- the list before a piece with this number is added, with the comparison of numbers as a parameter
 abbrev room_if : Bool → PieceList → ℕ → PieceList
 room_if rises list number =
     if rises
@@ -31,20 +31,20 @@ run_pieces front next (length ∷ lengths) =
     (sym rises) (subst (λ pieces. IsOfRun pieces (with_all (rising (front ++ (piece ∷ [])) (number_behind next))
     (away_from (number_behind next) lengths))) whole later)
 
--- a list whose numbers rise from here, with these pieces, and what it says of those before them
+-- a list with these pieces, whose next number is known, and the mark that older pieces were removed
 abbrev kept : Bool → List Piece → ℕ → PieceList
 kept lacks front next = record { next = Some next; pieces = front; lacks_front = lacks; is_ending = false }
 
--- of the pieces so far these were taken away, and these are listed
+-- some pieces were removed and the others are in the list, within the limit
 abbrev IsFront : ℕ → List Piece → List Piece → Bool → Type 0
 IsFront most taken front lacks =
     (length front ≡ min most (length (taken ++ front))) × (lacks ≡ nat_lt 0 (length taken))
 
--- a list's oldest piece is taken away, if they are too many
+-- the list without its oldest piece if it has too many, with the comparison as a parameter
 abbrev most_if : Bool → PieceList → PieceList
 most_if fits list = without_found list (if fits then None else first_piece list.pieces)
 
--- what becomes of them where a piece more comes
+-- what becomes of the removed and the listed pieces when one more is added
 abbrev Behind : ℕ → List Piece → List Piece → Piece → PieceList → ℕ → Type 0
 Behind most taken front piece list next =
     (more : List Piece) × (rest : List Piece) × (lacks : Bool) × (list ≡ kept lacks rest next)

@@ -1,4 +1,4 @@
--- The name behind the last `/` of a path, and the numbers among names.
+-- The file name in a path, and the numbers of pieces among file names.
 use Rattle.std.proofs.Common.{◌≡◌, refl, ◌∙◌, ap, ℕ, true, false, List, [], ◌∷◌, ◌++◌, Option, Some, None, arith}
 use Rattle.std.proofs.Common.{append-nil, append_assoc, length, length-append, ◌<◌}
 use Rattle.std.specs.List.{filter_map, cons_option}
@@ -16,7 +16,7 @@ has_byte-within : (byte : ℕ) (front after : List ℕ) → has_byte byte (front
 has_byte-within byte [] after = grind arith
 has_byte-within byte (b ∷ front) after = grind (arith, has_byte-within byte front after)
 
--- what stands before a `/` is no part of the name
+-- the part of a path before a `/` does not belong to the file name
 name_at-after : (front path : List ℕ) → name_at (front ++ 47 ∷ path) ≡ name_at path
 name_at-after [] path = refl
 name_at-after (b ∷ front) path = grind (arith, name_at-after front path, has_byte-within 47 front path)
@@ -32,7 +32,7 @@ name_at-lacks (b ∷ path) lacks = grind arith
 pub name_at-whole : (path : List ℕ) → cut 47 path ≡ None → name_at path ≡ path
 name_at-whole path is = name_at-lacks path (cut-lacks 47 path is)
 
--- the numbers among names are that in the first and those in the others
+-- the numbers among file names are the one in the first name, if any, and those in the others
 pub numbers-cut : (trace names name after : List ℕ) (before : List ℕ) → cut 0 names ≡ Some (name, after)
     → (before ++ filter_map (number_in trace) (name ∷ [])) ++ numbers_among trace after
     ≡ before ++ numbers_among trace names

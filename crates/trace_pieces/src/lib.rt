@@ -1,5 +1,5 @@
-//! A trace in pieces: `TRACE.1`, `TRACE.2`, .., which were put away, the oldest first, and `TRACE`, which is written still;
-//! and `TRACE.0.pieces`, the list of them that init makes.
+//! A trace in pieces: `TRACE.1`, `TRACE.2` and so on, which were put away, oldest first; `TRACE`, which is still being
+//! written; and `TRACE.0.pieces`, the list of the pieces that init keeps.
 #![tactic(auto)]
 
 mod lists;

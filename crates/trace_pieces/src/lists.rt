@@ -1,4 +1,4 @@
-//! The list of a trace's pieces, `TRACE.0.pieces`: what became of its files, a line each.
+//! The list of a trace's pieces, `TRACE.0.pieces`, which records in one line each what became of the trace's files.
 
 ghost use Rattle.std.specs.Prelude.{◌≡◌, ◌∷◌, ℕ, List, [], map, string_bytes, is_some, IfOk, OnOk};
 ghost use Rattle.std.specs.List.{list_any};
@@ -12,38 +12,38 @@ use std::alloc::{AllocError, Allocator, Global};
 use std::marker::Model;
 use text_lines::{cut, next_line, read_number};
 
-/// What a line of the list says.
+/// A line of the list.
 #[derive(Clone, Copy)]
 pub enum ListLine {
-    /// A run is about to begin the trace's file anew. A file of it that is put away has at least this number.
+    /// A run is about to truncate the trace's file. Its pieces have at least this number.
     Begins(u64),
-    /// It has begun it anew.
+    /// The run has truncated the file.
     Begun(u64),
-    /// A file was put away by this number, with so many bytes.
+    /// A file was put away under this number, with this length in bytes.
     Piece(u64, u64),
-    /// A file of so many bytes was renamed to what is no piece's name.
+    /// A file of this length in bytes was renamed to a name that is not that of a piece.
     Gone(u64),
-    /// The oldest piece, of this number, is about to be removed.
+    /// The oldest piece, which has this number, is about to be removed.
     Taken(u64),
 }
 
-/// A piece of a run: the number in its name, 0 where it has none any more, and its length in bytes, where the list says it.
+/// A piece of a run: the number in its name, 0 if it no longer has one, and its length in bytes, if the list gives it.
 #[derive(Clone, Copy)]
 pub struct Piece {
     pub number: u64,
     pub length: Option<u64>,
 }
 
-/// The pieces of a run by the list.
+/// The pieces of the last run that a list describes.
 #[derive(Drop)]
 pub struct PieceList {
-    /// The least number of a piece that is to come, while numbers rise; None where one was given by hand.
+    /// The lowest number that the next piece can have; `None` if a number was assigned by hand.
     next: Option<u64>,
-    /// The pieces, the oldest first.
+    /// The pieces, oldest first.
     pieces: Vec<Piece>,
-    /// The oldest were taken away.
+    /// Whether older pieces were removed.
     lacks_front: bool,
-    /// A later run was about to begin the trace's file anew.
+    /// Whether a later run was about to truncate the trace's file.
     is_ending: bool,
 }
 
@@ -62,7 +62,7 @@ impl Model for PieceList {
 }
 
 impl Piece {
-    /// A file of so many bytes is all of it, as far as the list says.
+    /// Returns whether a file of this length can be the whole piece: the list gives this length, or none.
     pub fn is_whole(&self, length: u64) -> bool
         ensures { result ≡ is_whole self.now length }
     {
@@ -73,7 +73,8 @@ impl Piece {
     }
 }
 
-/// A line of the list, with its newline. Its word comes last, so that a line that was cut off is none.
+/// Returns a line of the list, with its newline. The keyword comes last, so that a line that was cut off is not a line
+/// of a list.
 pub fn line_text(alloc: Global, line: ListLine) -> Result<String, AllocError>
     ensures { IfOk result (λ text. string_bytes text ≡ line_text line) }
 {
@@ -86,7 +87,7 @@ pub fn line_text(alloc: Global, line: ListLine) -> Result<String, AllocError>
     }
 }
 
-/// What a line says that has a number and then words.
+/// Returns the line that consists of a number and these words, if there is one.
 fn numbered(number: u64, words: &[u8]) -> Option<ListLine>
     ensures { result ≡ line_after number words.now }
 {
@@ -109,7 +110,7 @@ fn numbered(number: u64, words: &[u8]) -> Option<ListLine>
     None
 }
 
-/// What a line says; None where it is none of the list.
+/// Returns the meaning of a line, or `None` if it is not a line of a list.
 fn line_at(line: &[u8]) -> Option<ListLine>
     ensures { result ≡ line_at line.now }
 {
@@ -117,7 +118,7 @@ fn line_at(line: &[u8]) -> Option<ListLine>
     numbered(read_number(number)?, words)
 }
 
-/// A piece with the next number, where it has this one or a later.
+/// Returns a piece, renumbered by one if it has this number or a later one.
 fn moved_up(number: u64, piece: Piece) -> Piece
     ensures { result ≡ moved_up number piece }
 {
@@ -130,7 +131,7 @@ fn moved_up(number: u64, piece: Piece) -> Piece
     }
 }
 
-/// The same of all: those who give a number again rename all from there on before.
+/// Renumbers all pieces from `number` on by one: whoever assigns a number again has renamed these pieces before.
 fn all_moved_up(alloc: Global, number: u64, pieces: &[Piece]) -> Result<Vec<Piece>, AllocError>
     ensures { IfOk result (λ moved. moved.items ≡ map (moved_up number) pieces.now) }
 {
@@ -140,7 +141,7 @@ fn all_moved_up(alloc: Global, number: u64, pieces: &[Piece]) -> Result<Vec<Piec
         .collect(alloc)
 }
 
-/// A text has a line of a list.
+/// Returns whether a text has at least one line of a list.
 pub fn is_list(text: &[u8]) -> bool
     ensures { result ≡ list_any (λ line. is_some (line_at line)) (lines_of text.now) }
 {
@@ -155,7 +156,7 @@ pub fn is_list(text: &[u8]) -> bool
 }
 
 impl PieceList {
-    /// The list of no line.
+    /// Creates the list without lines.
     pub fn new(alloc: Global) -> PieceList
         ensures { result ≡ no_line }
     {
@@ -167,14 +168,14 @@ impl PieceList {
         }
     }
 
-    /// A piece has this number.
+    /// Returns whether there is a piece with this number.
     fn has_number(&self, number: u64) -> bool
         ensures { result ≡ has_number self.now.pieces number }
     {
         self.pieces.iter().any(|piece| piece.number == number)
     }
 
-    /// The list with a line more.
+    /// Returns a copy of the list after one more line.
     pub fn with(&self, alloc: Global, line: ListLine) -> Result<PieceList, AllocError>
         ensures { IfOk result (λ list. list ≡ with_line self.now line) }
     {
@@ -188,7 +189,7 @@ impl PieceList {
         Ok(list)
     }
 
-    /// Takes what a line says.
+    /// Updates the list for one more line.
     fn take(&mut self, alloc: Global, line: ListLine) -> Result<(), AllocError>
         ensures { OnOk result (self.new ≡ with_line self.old line) }
     {
@@ -213,7 +214,7 @@ impl PieceList {
         Ok(())
     }
 
-    /// The oldest piece is one of them no more.
+    /// Removes the oldest piece, and records that the front is incomplete.
     fn take_oldest(&mut self)
         ensures { self.new ≡ without_oldest self.old }
     {
@@ -223,7 +224,7 @@ impl PieceList {
         self.lacks_front = true;
     }
 
-    /// Takes a line as it stands there, where it is one of a list.
+    /// Updates the list for the text of a line, if it is a line of a list.
     fn take_text(&mut self, alloc: Global, text: &[u8]) -> Result<(), AllocError>
         ensures { OnOk result (self.new ≡ with_text self.old text.now) }
     {
@@ -233,7 +234,7 @@ impl PieceList {
         }
     }
 
-    /// Before a piece comes that has this number.
+    /// Makes the list ready for a piece with this number.
     fn make_room(&mut self, alloc: Global, number: u64) -> Result<(), AllocError>
         ensures { OnOk result (self.new ≡ room_for self.old number) }
     {
@@ -248,7 +249,7 @@ impl PieceList {
         Ok(())
     }
 
-    /// Numbers rise to this one.
+    /// Returns whether the number is not below the next one, which has to be known.
     fn rises_to(&self, number: u64) -> bool
         ensures { result ≡ rises_to self.now.next number }
     {
@@ -266,7 +267,7 @@ impl PieceList {
         Ok(())
     }
 
-    /// The list that a text is. Lines that are none of a list are passed over.
+    /// Reads the list that a text describes. Lines that are not those of a list are ignored.
     pub fn read(alloc: Global, text: &[u8]) -> Result<PieceList, AllocError>
         ensures { IfOk result (λ list. list ≡ list_of text.now) }
     {
@@ -279,15 +280,15 @@ impl PieceList {
         Ok(list)
     }
 
-    /// The number of the piece behind those of the list, which stands there where it was put away and not added yet; None
-    /// where numbers were given by hand.
+    /// Returns the lowest number that the next piece can have, or `None` if a number was assigned by hand. If a file
+    /// with this number exists, it was put away but is not in the list yet.
     pub fn next_number(&self) -> Option<u64>
         ensures { result ≡ self.now.next }
     {
         self.next
     }
 
-    /// The oldest piece, where there are more than so many.
+    /// Returns the oldest piece, if there are more than `most`.
     pub fn oldest_beyond(&self, most: u64) -> Option<Piece>
         ensures { result ≡ oldest_beyond self.now most }
     {
@@ -297,15 +298,18 @@ impl PieceList {
         self.pieces.first().copied()
     }
 
-    /// What was before the pieces was taken away, where those of an empty file are asked for or of another.
+    /// Returns whether pieces before the listed ones were removed. `is_empty` says whether the file at the trace's path
+    /// is empty.
     pub fn lacks_front(&self, is_empty: bool) -> bool
         ensures { result ≡ lacks_front self.now is_empty }
     {
         self.lacks_front && !(self.is_ending && is_empty)
     }
 
-    /// The pieces that come before what stands at the trace's path, the oldest first: of an empty file none where a later
-    /// run was about to begin it anew; and where a file has the next number that one behind those of the list.
+    /// Returns the pieces that precede the file at the trace's path, oldest first.
+    ///
+    /// There are none if that file is empty and a later run was about to truncate it. If `has_next` is set, a file with
+    /// the next number exists, and is the last of them.
     pub fn into_pieces(self, is_empty: bool, has_next: bool) -> Result<Vec<Piece>, AllocError>
         ensures { IfOk result (λ pieces.
             pieces.items ≡ pieces_before self is_empty has_next) }
@@ -331,17 +335,17 @@ impl PieceList {
     }
 }
 
-/// Whatever lines stand before, the pieces of a list are those that the run put away which began last, in the order in
-/// which it did. It does nothing: its contract is the law.
+/// States in its contract that a list has exactly the pieces of the run that began last, in the order in which they
+/// were put away, whatever lines precede them. The function itself does nothing.
 pub fn law_of_a_list()
     ensures { (list : PieceListValue) (first : ℕ) (lengths : List ℕ)
         → IsOfRun (numbered first lengths)
         (with_all list (Begun first ∷ away_from first lengths)) }
 {}
 
-/// Whatever lines stand before, the pieces of a list of which the oldest beyond so many is taken away behind each that is
-/// put away are the newest of the run, and those that were taken away stand before them. It does nothing: its contract is
-/// the law.
+/// States in its contract what a list has if the oldest pieces beyond a limit are removed each time a piece is put
+/// away: the newest pieces of the run, whatever lines precede them, and a mark if others before them were removed. The
+/// function itself does nothing.
 pub fn law_of_a_list_that_keeps()
     ensures { (list : PieceListValue) (first most : ℕ) (lengths : List ℕ)
         → IsKept most (numbered first lengths)

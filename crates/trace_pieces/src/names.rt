@@ -1,4 +1,4 @@
-//! The names of pieces, and of their list.
+//! The names of pieces and of their list.
 
 ghost use Rattle.std.specs.Prelude.{◌≡◌, ◌++◌, ◌∷◌, [], filter_map, string_bytes, IfOk, OnOk};
 ghost use Rattle.program_io.specs.Known.{IsTextAt, KnownTexts};
@@ -12,38 +12,38 @@ use std::rt::Files;
 use std::{fs, io};
 use text_lines::{cut, read_number};
 
-/// The path of a piece.
+/// Returns the path of a piece.
 pub fn piece_path<A: Allocator>(alloc: A, trace: &str, number: u64) -> Result<String<A>, AllocError>
     ensures { IfOk result (λ path. string_bytes path ≡ piece_path trace.now number) }
 {
     format!(in alloc; "{trace}.{number}")
 }
 
-/// The path of the list of a trace's pieces. It stands before them in a folder's order.
+/// Returns the path of the list of a trace's pieces. In a sorted listing of the folder it precedes the pieces.
 pub fn list_path<A: Allocator>(alloc: A, trace: &str) -> Result<String<A>, AllocError>
     ensures { IfOk result (λ path. string_bytes path ≡ list_path trace.now) }
 {
     format!(in alloc; "{trace}.0.pieces")
 }
 
-/// One file is the other.
+/// Returns whether two files are the same file.
 pub fn are_same(one: &Metadata, other: &Metadata) -> bool {
     one.dev() == other.dev() && one.ino() == other.ino()
 }
 
-/// What lists the names in folders.
+/// A source of the file names in folders.
 ///
-/// A contract sees of it the names beside a path, where they are known. They may be known of no path.
+/// A contract sees the names beside a path, if they are known; they may be known for no path.
 pub trait FolderNames {
-    /// The names in the folder in which a path stands; None where they aren't known.
+    /// The file names in the folder of a path; `None` if they are not known.
     ghost names_beside: { Self → KnownTexts };
 
-    /// The names in the folder in which a path stands, with a NUL between each two.
+    /// Returns the file names in the folder of a path, separated by NUL bytes.
     fn read_names(&self, alloc: Global, path: &str) -> io::Result<Vec<u8>>
         ensures { IfOk result (λ names. IsTextAt (names_beside self.now) path.now names.items) };
 }
 
-/// The folders of the operating system. Nothing is known of their names.
+/// The folders of the file system, about whose names contracts know nothing.
 impl<R: Files> FolderNames for R {
     ghost use Rattle.std.specs.Prelude.{None};
 
@@ -56,7 +56,7 @@ impl<R: Files> FolderNames for R {
     }
 }
 
-/// The folder in which a path stands.
+/// Returns the folder of a path.
 fn folder_of(path: &str) -> &str {
     match path.rsplit_once('/') {
         Some(("", _)) => "/.",
@@ -65,7 +65,7 @@ fn folder_of(path: &str) -> &str {
     }
 }
 
-/// The name of the file at a path.
+/// Returns the file name in a path.
 fn name_at(path: &[u8]) -> &[u8]
     ensures { result.now ≡ name_at path.now }
 {
@@ -76,7 +76,7 @@ fn name_at(path: &[u8]) -> &[u8]
     name
 }
 
-/// The number of the piece that has a name, by the name of its trace.
+/// Returns the number of the piece that has a file name, given the file name of the trace.
 fn number_in(trace: &[u8], name: &[u8]) -> Option<u64>
     ensures { result ≡ number_in trace.now name.now }
 {
@@ -84,7 +84,7 @@ fn number_in(trace: &[u8], name: &[u8]) -> Option<u64>
     read_number(after.strip_prefix(b".")?)
 }
 
-/// Adds the number of the piece that has a name, where one has it.
+/// Appends the number of the piece that has a file name, if it is the name of one.
 fn add_number(numbers: &mut Vec<u64>, trace: &[u8], name: &[u8]) -> Result<(), AllocError>
     ensures { OnOk result (numbers.new.items
         ≡ numbers.old.items ++ filter_map (number_in trace.now) (name.now ∷ [])) }
@@ -95,7 +95,7 @@ fn add_number(numbers: &mut Vec<u64>, trace: &[u8], name: &[u8]) -> Result<(), A
     Ok(())
 }
 
-/// The numbers of a trace's pieces among names.
+/// Returns the numbers of a trace's pieces among file names.
 fn numbers_among(alloc: Global, trace: &[u8], names: &[u8]) -> Result<Vec<u64>, AllocError>
     ensures { IfOk result (λ numbers. numbers.items ≡ numbers_among trace.now names.now) }
 {
@@ -109,7 +109,7 @@ fn numbers_among(alloc: Global, trace: &[u8], names: &[u8]) -> Result<Vec<u64>, 
     Ok(numbers)
 }
 
-/// The numbers of a trace's pieces that are there.
+/// Returns the numbers of the existing pieces of a trace.
 fn numbers_there<N: FolderNames>(names: &N, alloc: Global, trace: &str) -> io::Result<Vec<u64>>
     ensures { IfOk result (λ numbers.
         AreNumbers (N.names_beside names.now) trace.now numbers.items) }
@@ -118,7 +118,7 @@ fn numbers_there<N: FolderNames>(names: &N, alloc: Global, trace: &str) -> io::R
     Ok(numbers_among(alloc, name_at(trace.as_bytes()), &list)?)
 }
 
-/// The greatest number of a trace's pieces; 0 where there is none.
+/// Returns the greatest number of a trace's pieces, or 0 if there is none.
 pub fn newest_piece<N: FolderNames>(names: &N, alloc: Global, trace: &str) -> io::Result<u64>
     ensures { IfOk result (λ newest. IsNewest (N.names_beside names.now) trace.now newest) }
 {
@@ -129,7 +129,7 @@ pub fn newest_piece<N: FolderNames>(names: &N, alloc: Global, trace: &str) -> io
     Ok(newest)
 }
 
-/// A file has the name of this piece.
+/// Returns whether a file is the piece with this number.
 pub(crate) fn is_piece<R: Files>(
     rt: &R,
     alloc: Global,
@@ -141,7 +141,7 @@ pub(crate) fn is_piece<R: Files>(
     Ok(fs::metadata(rt, path.as_str()).is_ok_and(|found| are_same(&found, file)))
 }
 
-/// The number of the piece whose name a file has; None where it has that of none.
+/// Returns the number of the piece that a file is, or `None` if it is no piece.
 pub fn number_of_file<R: Files>(
     rt: &R,
     alloc: Global,

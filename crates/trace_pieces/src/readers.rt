@@ -1,4 +1,4 @@
-//! A trace that is read with the pieces before it.
+//! Reads a trace together with the pieces that precede it.
 
 use crate::lists::{Piece, PieceList, is_list};
 use crate::names::{are_same, is_piece, list_path, newest_piece, piece_path};
@@ -13,50 +13,53 @@ use std::{fs, io};
 /// The pieces that are read before a trace's file.
 #[derive(Clone, Copy)]
 struct ReadPieces {
-    /// The numbers of the first and the last one.
+    /// The number of the first piece.
     first: u64,
+    /// The number of the last piece.
     last: u64,
-    /// A list says that these are all.
+    /// Whether a list confirms that these are all pieces.
     are_listed: bool,
 }
 
-/// A trace, from where its run begins. A file that is put away or comes to another path while it is read is read to its
-/// end, and then what came to stand behind it, to the end of what stands at the trace's path. A file that is shorter than
-/// what was read of it was begun anew, and is an error, `InvalidData`.
+/// A reader of a trace, from the beginning of its run.
+///
+/// A file that is put away or renamed while it is being read is read to its end. The reader then continues with the
+/// files that follow it, up to the end of the file at the trace's path. A file that is shorter than what was read of it
+/// was truncated by another run; this is the error `InvalidData`.
 #[derive(Drop)]
 pub struct TraceReader<'a, R> {
     rt: &'a R,
     alloc: Global,
     path: String,
     file: File,
-    /// How many bytes of it were read.
+    /// The number of bytes read of the file.
     position: u64,
-    /// The file behind it: nothing is written to this one any more.
+    /// The file after this one, to which nothing is written any more.
     next: Option<File>,
-    /// The pieces that are to be read before what stands at the path, the newest first.
+    /// The pieces still to be read before the file at the path, newest first.
     later: Vec<Piece>,
     pieces: Option<ReadPieces>,
-    /// What was before the first of its files was taken away.
+    /// Whether the pieces before the first file were removed.
     lacks_front: bool,
 }
 
-/// The pieces of a run by its list.
+/// The pieces of a run according to its list.
 #[derive(Drop)]
 struct ListedPieces {
-    /// Those that are there, the oldest first.
+    /// The pieces that still exist, oldest first.
     pieces: Vec<Piece>,
-    /// Older ones were taken away.
+    /// Whether older pieces were removed.
     lacks_front: bool,
 }
 
 impl<'a, R: Files<File = File>> TraceReader<'a, R> {
-    /// The file at a path, and none before it.
+    /// Opens the file at `path` alone, without any pieces.
     fn alone(rt: &'a R, alloc: Global, path: String) -> io::Result<TraceReader<'a, R>> {
         let file = open_plain(rt, path.as_str())?;
         Ok(TraceReader::of(rt, alloc, path, file))
     }
 
-    /// The trace at a path, of which this file is read first, and then what stands at the path.
+    /// Creates a reader that reads `file` first, and then the file at `path`.
     fn of(rt: &'a R, alloc: Global, path: String, file: File) -> TraceReader<'a, R> {
         TraceReader {
             rt,
@@ -71,12 +74,14 @@ impl<'a, R: Files<File = File>> TraceReader<'a, R> {
         }
     }
 
-    /// The trace at a path. Where a list is there that init made of its pieces, those of the last run are read before its
-    /// file; one that is missing is an error, `NotFound`, and one of another length `InvalidData`. Where none is there and
-    /// the file begins within a run, all are read from the one on in which that begins.
+    /// Opens the trace at `path`.
+    ///
+    /// If there is a list of its pieces, those of the last run are read before the file. A piece that is missing is the
+    /// error `NotFound`, and one of another length `InvalidData`. If there is no list and the file does not begin with
+    /// the start of a run, the pieces are read from the last one that does.
     fn open(rt: &'a R, alloc: Global, path: &str) -> io::Result<TraceReader<'a, R>> {
         match TraceReader::open_once(rt, alloc, path) {
-            // One may have been taken away since the list was read, which says so before.
+            // A piece may have been removed since the list was read; the list records that before the removal.
             Err(error) if error.kind() == ErrorKind::NotFound => {
                 TraceReader::open_once(rt, alloc, path)
             }
@@ -84,10 +89,10 @@ impl<'a, R: Files<File = File>> TraceReader<'a, R> {
         }
     }
 
-    /// The same, by one look at the list.
+    /// Does the same, reading the list once.
     fn open_once(rt: &'a R, alloc: Global, path: &str) -> io::Result<TraceReader<'a, R>> {
         let path = pieced_path(rt, alloc, path)?;
-        // The list is read behind that, and so has each piece before this file.
+        // The list is read after the file was opened, so it has every piece before this file.
         let file = open_plain(rt, path.as_str());
         match listed_pieces(rt, alloc, path.as_str())? {
             Some(
@@ -104,7 +109,7 @@ impl<'a, R: Files<File = File>> TraceReader<'a, R> {
         }
     }
 
-    /// The trace at a path, at which this file stood, of which these pieces are read first.
+    /// Creates a reader that reads these pieces first, and then the file that was at `path`.
     fn with_pieces(
         rt: &'a R,
         alloc: Global,
@@ -132,7 +137,7 @@ impl<'a, R: Files<File = File>> TraceReader<'a, R> {
         Ok(reader)
     }
 
-    /// The trace at a path, at which this file stood, of whose pieces no list is there.
+    /// Opens the trace at `path`, which has no list of pieces. `file` was at that path.
     fn unlisted(
         rt: &'a R,
         alloc: Global,
@@ -155,7 +160,8 @@ impl<'a, R: Files<File = File>> TraceReader<'a, R> {
         Ok(TraceReader::of(rt, alloc, path, file))
     }
 
-    /// What stands at the path; None where nothing does, while a file that was renamed away is still written to.
+    /// Opens the file at the path. Returns `None` if there is none, as while a file that was renamed is still being
+    /// written.
     fn found(&self) -> io::Result<Option<File>> {
         match open_plain(self.rt, self.path.as_str()) {
             Ok(found) => Ok(Some(found)),
@@ -164,8 +170,8 @@ impl<'a, R: Files<File = File>> TraceReader<'a, R> {
         }
     }
 
-    /// The pieces of the list behind the one that has the name of a file, the newest first; none where no piece has it. A
-    /// file that was taken away is an error, since the pieces behind it may have been, too.
+    /// Returns the listed pieces after the one that a file is, newest first, or none if the file is not a piece. A file
+    /// that was removed is an error, because pieces after it may have been removed too.
     fn pieces_after(&self, file: &Metadata) -> io::Result<Vec<Piece>> {
         let path = self.path.as_str();
         let mut later = Vec::new(self.alloc);
@@ -184,7 +190,7 @@ impl<'a, R: Files<File = File>> TraceReader<'a, R> {
         Ok(Vec::new(self.alloc))
     }
 
-    /// Opens a piece that stood behind the file in the list.
+    /// Opens a piece that follows the current file in the list.
     fn open_later(&self, piece: Piece) -> io::Result<File> {
         let path = self.path.as_str();
         match open_piece(self.rt, self.alloc, path, piece) {
@@ -195,7 +201,7 @@ impl<'a, R: Files<File = File>> TraceReader<'a, R> {
         }
     }
 
-    /// A piece that stood in the list was taken away.
+    /// Returns whether a listed piece was removed.
     fn is_taken(&self, piece: Piece) -> io::Result<bool> {
         match listed_pieces(self.rt, self.alloc, self.path.as_str())? {
             Some(listed) => Ok(
@@ -209,12 +215,13 @@ impl<'a, R: Files<File = File>> TraceReader<'a, R> {
         }
     }
 
-    /// The file that came to stand behind this one; None where that stands at the path itself, or none does yet.
+    /// Returns the file that follows the current one, or `None` if that is the file at the path, or if there is no file
+    /// yet.
     fn successor(&mut self) -> io::Result<Option<File>> {
         if let Some(piece) = self.later.pop() {
             return self.open_later(piece).map(Some);
         }
-        // The list is read behind that, and so has each piece between the two.
+        // The list is read after the file at the path was opened, so it has every piece between the two.
         let Some(found) = self.found()? else {
             return Ok(None);
         };
@@ -229,16 +236,16 @@ impl<'a, R: Files<File = File>> TraceReader<'a, R> {
         }
     }
 
-    /// Refuses a file that is shorter than what was read of it. There is none behind it.
+    /// Returns an error if a file is shorter than what was read of it, and otherwise that no file follows it.
     fn refuse_begun_anew(&self, found: &Metadata) -> io::Result<Option<File>> {
         if found.len() < self.position {
-            let message = "another run began it anew: follow it again";
+            let message = "another run has started it anew; run follow again";
             return Err(Error::new(ErrorKind::InvalidData, message));
         }
         Ok(None)
     }
 
-    /// The number of the first piece.
+    /// Returns the number of the first piece.
     fn first_number(&self) -> u64 {
         match self.pieces {
             Some(pieces) => pieces.first,
@@ -246,11 +253,11 @@ impl<'a, R: Files<File = File>> TraceReader<'a, R> {
         }
     }
 
-    /// Why what is there can't be read as a whole run.
+    /// Builds the error that the existing files are not a whole run.
     fn without_front(&self) -> Error {
         let first = self.first_number();
         let message = format!(in self.alloc;
-            "pieces before {first} were taken away by --trace-keep: see initview follow -n"
+            "pieces before {first} were removed by --trace-keep; see initview follow -n"
         );
         match message {
             Ok(message) => Error::new(ErrorKind::NotFound, message.as_str()),
@@ -258,20 +265,20 @@ impl<'a, R: Files<File = File>> TraceReader<'a, R> {
         }
     }
 
-    /// Refuses what is there of a run, where it could be taken for one that begins there.
+    /// Returns an error if the existing files look like a run that begins with them.
     fn refuse_new_run(&mut self) -> io::Result<()> {
         if !begins_run(&mut self.file)? {
             return Ok(());
         }
         let first = self.first_number();
         let message = format!(in self.alloc;
-            "piece {first}, the oldest by --trace-keep, begins with use: follow it later"
+            "piece {first}, the oldest that --trace-keep left, begins with use; run follow later"
         )?;
         Err(Error::new(ErrorKind::InvalidData, message.as_str()))
     }
 
-    /// At the end of the file: goes on in the one behind it. It is read to its end once more before. False where there is
-    /// none.
+    /// Continues with the next file at the end of the current one. When the next file is first found, the current one
+    /// is read to its end once more. Returns false if there is no next file.
     fn go_on(&mut self) -> io::Result<bool> {
         if let Some(file) = self.next.take() {
             self.file = file;
@@ -283,13 +290,14 @@ impl<'a, R: Files<File = File>> TraceReader<'a, R> {
     }
 }
 
-/// A piece that was to be read is there no more.
+/// Builds the error that a piece was removed before it was read.
 fn is_taken_since() -> Error {
-    let message = "a piece was taken away before it was read: read it again";
+    let message = "a piece was removed before it was read; try again";
     Error::new(ErrorKind::InvalidData, message)
 }
 
-/// The path of a trace, or where that is a link beside which no pieces stand, of the file to which it leads.
+/// Returns the path of a trace; if that is a symbolic link without pieces beside it, the path of the file that it
+/// points to, if that has pieces.
 fn pieced_path<R: Files>(rt: &R, alloc: Global, path: &str) -> io::Result<String> {
     let copy = String::from_str(alloc, path)?;
     let is_link = fs::symlink_metadata(rt, path).is_ok_and(|found| found.is_symlink());
@@ -306,14 +314,14 @@ fn pieced_path<R: Files>(rt: &R, alloc: Global, path: &str) -> io::Result<String
     Ok(copy)
 }
 
-/// Pieces of a trace stand beside it, or their list.
+/// Returns whether there are pieces of a trace beside it, or a list of them.
 fn has_pieces<R: Files>(rt: &R, alloc: Global, path: &str) -> io::Result<bool> {
     let list = list_path(alloc, path)?;
     Ok(fs::metadata(rt, list.as_str()).is_ok() || newest_piece(rt, alloc, path)? > 0)
 }
 
-/// The pieces of the run that wrote a trace last, by their list, the oldest first; None where no list of any line is there.
-/// What stands at the path of the trace still is none of them.
+/// Returns the pieces of the run that wrote a trace last according to their list, oldest first, or `None` if there is
+/// no list with any valid line. The file that is still at the path of the trace is not one of them.
 fn listed_pieces<R: Files<File = File>>(
     rt: &R,
     alloc: Global,
@@ -339,7 +347,8 @@ fn listed_pieces<R: Files<File = File>>(
     }))
 }
 
-/// A piece of this number is there, and it is not what stands at the path of the trace as well, nor a copy of that.
+/// Returns whether there is a piece with this number that is neither the file at the path of the trace nor a copy of
+/// it.
 fn stands_apart<R: Files<File = File>>(
     rt: &R,
     alloc: Global,
@@ -356,10 +365,10 @@ fn stands_apart<R: Files<File = File>>(
     }
 }
 
-/// How many bytes of two files are compared at once.
+/// The number of bytes of two files that are compared at a time.
 const COMPARED: usize = 4096;
 
-/// Two files have the same bytes.
+/// Returns whether two files have the same bytes.
 fn have_one_text(mut one: File, mut other: File) -> io::Result<bool> {
     let found = one.metadata()?;
     if are_same(&found, &other.metadata()?) {
@@ -382,7 +391,7 @@ fn have_one_text(mut one: File, mut other: File) -> io::Result<bool> {
     Ok(true)
 }
 
-/// Opens a piece, which has the length that its list says.
+/// Opens a piece, and checks that it has the length given in the list.
 fn open_piece<R: Files<File = File>>(
     rt: &R,
     alloc: Global,
@@ -408,15 +417,15 @@ fn open_piece<R: Files<File = File>>(
     }
     let listed = length.unwrap_or(0);
     let message = format!(in alloc;
-        "{path} has {found} bytes, and had {listed} when it was put away"
+        "{path} has {found} bytes, but had {listed} when it was rotated"
     )?;
     Err(Error::new(ErrorKind::InvalidData, message.as_str()))
 }
 
-/// A file of the run that has the name of no piece.
+/// Builds the error that a file of the run was renamed to a name that is not that of a piece.
 fn is_gone(alloc: Global, path: &str, length: u64) -> Error {
     let message = format!(in alloc;
-        "{length} bytes of {path} are missing: the file was renamed to what is no piece of it"
+        "{length} bytes of {path} are missing: the file was given a name that no piece has"
     );
     match message {
         Ok(message) => Error::new(ErrorKind::NotFound, message.as_str()),
@@ -424,7 +433,7 @@ fn is_gone(alloc: Global, path: &str, length: u64) -> Error {
     }
 }
 
-/// The file begins a run: its first happening reads an inittab. It is read from its first byte on still.
+/// Returns whether a file begins with the start of a run, which is a `use` line. Leaves the position at the first byte.
 fn begins_run(file: &mut File) -> io::Result<bool> {
     let mut first = [0; 1];
     let count = file.read(&mut first)?;
@@ -433,8 +442,7 @@ fn begins_run(file: &mut File) -> io::Result<bool> {
 }
 
 impl<R: Files<File = File>> Read for TraceReader<'_, R> {
-    /// No byte where nothing more stands in the trace. A trace of more than 4,294,967,296 files is an error,
-    /// `FileTooLarge`.
+    /// Returns 0 at the end of the trace. A trace of more than 4,294,967,296 files is the error `FileTooLarge`.
     fn read(&mut self, buf: &mut [u8]) -> io::Result<usize> {
         for _ in 0..PIECES_LIMIT {
             let count = self.file.read(buf)?;
@@ -450,13 +458,14 @@ impl<R: Files<File = File>> Read for TraceReader<'_, R> {
     }
 }
 
-/// What the system or a shell gives by a path, and no plain file: it has no pieces, and ends.
+/// Returns whether a path is standard input or a device, as a shell may pass it. Such a file has no pieces, and is read
+/// to its end.
 pub fn is_given(path: &str) -> bool {
     path == "-" || path.starts_with("/dev/")
 }
 
-/// The files of the operating system, of which a trace is read with the pieces before it, and that is told on standard
-/// error in the name of a program. Nothing is known of their texts.
+/// The files of the file system, where a trace is read together with the pieces that precede it. This is reported on
+/// standard error under the name of a program. Contracts know nothing about their texts.
 #[derive(Drop)]
 pub struct PiecedFiles<'a, R> {
     rt: &'a R,
@@ -466,8 +475,9 @@ pub struct PiecedFiles<'a, R> {
 }
 
 impl<'a, R: Files<File = File> + Eprint> PiecedFiles<'a, R> {
-    /// The files that this system has, for the program of this name. A trace that is shown is read alone where a piece of
-    /// it is missing or has another length, and that is told; else that is an error, `NotFound` or `InvalidData`.
+    /// Creates access to the files for the program of this name. If `is_shown` is set, a trace with a piece that is
+    /// missing or has another length is read without its pieces, and this is reported; otherwise it is an error,
+    /// `NotFound` or `InvalidData`.
     pub fn new(rt: &'a R, alloc: Global, program: &'a str, is_shown: bool) -> PiecedFiles<'a, R> {
         PiecedFiles {
             rt,
@@ -477,7 +487,7 @@ impl<'a, R: Files<File = File> + Eprint> PiecedFiles<'a, R> {
         }
     }
 
-    /// The trace at a path, to be shown from where it is there on: that what was before was taken away is told.
+    /// Opens the trace at `path`, to be shown from its first existing piece on. Reports if earlier pieces were removed.
     pub fn open(&self, path: &str) -> io::Result<TraceReader<'a, R>> {
         let mut trace = self.opened(path)?;
         if trace.lacks_front {
@@ -489,7 +499,8 @@ impl<'a, R: Files<File = File> + Eprint> PiecedFiles<'a, R> {
         Ok(trace)
     }
 
-    /// The trace at a path, from the beginning of its run on. That this was taken away is an error, `NotFound`.
+    /// Opens the trace at `path`, from the beginning of its run. If earlier pieces were removed, this is the error
+    /// `NotFound`.
     fn open_whole(&self, path: &str) -> io::Result<TraceReader<'a, R>> {
         let trace = self.opened(path)?;
         if trace.lacks_front {
@@ -499,7 +510,7 @@ impl<'a, R: Files<File = File> + Eprint> PiecedFiles<'a, R> {
         Ok(trace)
     }
 
-    /// The trace at a path, as far as it is there.
+    /// Opens the existing part of the trace at `path`.
     fn opened(&self, path: &str) -> io::Result<TraceReader<'a, R>> {
         match TraceReader::open(self.rt, self.alloc, path) {
             Ok(trace) => Ok(trace),
@@ -515,12 +526,12 @@ impl<'a, R: Files<File = File> + Eprint> PiecedFiles<'a, R> {
     }
 }
 
-/// A piece is missing, or is not what was put away.
+/// Returns whether the error means that a piece is missing, or is not the file that was put away.
 fn is_of_pieces(error: &Error) -> bool {
     matches!(error.kind(), ErrorKind::NotFound | ErrorKind::InvalidData)
 }
 
-/// Tells which pieces are read before the trace's own file.
+/// Reports which pieces are read before the trace's own file.
 fn tell_pieces<R: Eprint>(rt: &R, program: &str, path: &str, pieces: Option<ReadPieces>) {
     let Some(
         ReadPieces {
@@ -539,7 +550,7 @@ fn tell_pieces<R: Eprint>(rt: &R, program: &str, path: &str, pieces: Option<Read
     };
     if !are_listed {
         let _ = eprintln!(rt;
-            "{program}: {path}.0.pieces is not there: a newer piece that is missing is not noticed"
+            "{program}: {path}.0.pieces does not exist, so a missing newer piece is not noticed"
         );
     }
 }
@@ -557,7 +568,7 @@ impl<R: Files<File = File> + Eprint> Texts for PiecedFiles<'_, R> {
         self.rt.read_file(alloc, path)
     }
 
-    /// The text of a trace, from the beginning of its run on.
+    /// Reads the text of a trace, from the beginning of its run.
     fn read_pieces<P: PieceTaker>(&self, path: &str, taker: &mut P) -> io::Result<()> {
         if is_given(path) {
             return self.rt.read_pieces(path, taker);

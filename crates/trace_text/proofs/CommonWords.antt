@@ -1,4 +1,4 @@
--- The words of the proofs of this crate.
+-- Names that all proofs of this crate import.
 pub use Rattle.std.proofs.Common.{◌≡◌, ℕ, zero, suc, ◌+◌, ◌≤◌, List, [], ◌∷◌, ◌++◌, Option, Some, None, option_and_then}
 pub use Rattle.std.proofs.Common.{refl, ap, ◌∙◌, arith, ◌*◌, ◌-◌, ◌<◌, ◌^◌, Bool, true, false, cond, not, ◌&&◌, nat_lt}
 pub use Rattle.std.proofs.Common.{nat_le, length, sym, codes, decimal, subst, append-nil, length-append, lit<, ◌≢◌}

@@ -1,4 +1,4 @@
--- Whole lines at the front of a text stay the same when more of it comes.
+-- Complete lines at the start of a text do not change when more text follows.
 use Rattle.trace_text.proofs.CommonWords.{◌≡◌, ℕ, zero, suc, ◌+◌, ◌≤◌, List, [], ◌∷◌, ◌++◌, Option, Some, None}
 use Rattle.trace_text.proofs.CommonWords.{option_and_then, refl, ap, ◌∙◌, arith, append_assoc, none-some, cut, newlines}
 use Rattle.trace_text.proofs.CommonWords.{after_lines, cut-parts, cut-lacks, cut-append, newlines-append, newlines-none}
@@ -11,7 +11,7 @@ cut-more text more line rest is =
     ap (λ t. cut 10 (t ++ more)) parts.0 ∙ ap (cut 10) (append_assoc line (10 ∷ rest) more)
     ∙ cut-append 10 line (rest ++ more) parts.1
 
--- a line less
+-- the rest after the first line has one newline fewer
 pub newlines-cut : (text line rest : List ℕ) → cut 10 text ≡ Some (line, rest) → newlines text ≡ newlines rest + 1
 newlines-cut text line rest is =
     let parts = cut-parts 10 text line rest is in
@@ -26,7 +26,7 @@ newlines-cut text line rest is =
 pub newlines-uncut : (text : List ℕ) → cut 10 text ≡ None → newlines text ≡ 0
 newlines-uncut text is = newlines-none text (cut-lacks 10 text is)
 
--- what stands after one line more
+-- the text after `n + 1` lines is that after `n` lines of the rest
 after_cut : (n : ℕ) (text line rest : List ℕ) → cut 10 text ≡ Some (line, rest)
     → after_lines (suc n) text ≡ after_lines n rest
 after_cut n text line rest is = ap (λ o. option_and_then (λ (parts : List ℕ × List ℕ). after_lines n parts.1) o) is
@@ -34,7 +34,7 @@ after_cut n text line rest is = ap (λ o. option_and_then (λ (parts : List ℕ 
 after_uncut : (n : ℕ) (text : List ℕ) → cut 10 text ≡ None → after_lines (suc n) text ≡ None
 after_uncut n text is = ap (λ o. option_and_then (λ (parts : List ℕ × List ℕ). after_lines n parts.1) o) is
 
--- what stands after so many lines of a text that has them
+-- a text with at least `n` newlines has a text after `n` lines
 pub after_lines-some : (n : ℕ) (text : List ℕ) → n ≤ newlines text → (rest : List ℕ) × (after_lines n text ≡ Some rest)
 after_lines-some zero text enough = (text, refl)
 after_lines-some (suc n) text enough = by (cut 10 text) refl (λ rest less. after_lines-some n rest less) where

@@ -1,4 +1,4 @@
--- The text of a happening is read as the happening, and what is read has this text.
+-- The text of a happening is read as that happening, and what is read from a text is printed as that text.
 use Rattle.trace_text.proofs.CommonWords.{◌≡◌, ℕ, ◌+◌, ◌*◌, ◌-◌, ◌<◌, ◌≤◌, ◌^◌, Bool, true, false, cond, not, ◌&&◌}
 use Rattle.trace_text.proofs.CommonWords.{nat_lt, nat_le, List, [], ◌∷◌, ◌++◌, length, Option, Some, None, refl, sym}
 use Rattle.trace_text.proofs.CommonWords.{ap, ◌∙◌, arith, codes, decimal, subst, append-nil, length-append, lit<}
@@ -38,9 +38,9 @@ use Rattle.trace_events.specs.declared.happenings.Handed.TheVariants as handed
 use Rattle.trace_text.specs.declared.reading.TheConstants.{LINE_LIMIT}
 use Rattle.trace_text.proofs.LineWords.{words_read-of}
 
--- THE WORDS OF A HAPPENING ARE WORDS
+-- The words of a happening's line.
 
--- no blank and no newline is in it, and it isn't long
+-- a word has no blank and no newline, and at most 20 bytes
 clean : List ℕ → Bool
 clean word = not (has_byte 32 word) && not (has_byte 10 word) && nat_le (length word) 20
 
@@ -111,7 +111,7 @@ small_cause why = grind arith
 below : (n limit : ℕ) → nat_lt n limit ≡ true → limit ≤ 2 ^ 64 → n < 2 ^ 64
 below n limit is fits = omega (arith, ltb-true n limit is)
 
--- one more word, two, three
+-- lists of words, built one word at a time
 one_more : (word : List ℕ) (words : List (List ℕ)) → clean word ≡ true → all_clean words → all_clean (word ∷ words)
 unfolding all_clean
 one_more word words here more = and_from (clean word) (list_all clean words) here more
@@ -191,7 +191,7 @@ clean_words Nudge is = one_more (codes "nudge") [] refl none_more
 clean_words (Got request) is = one_more (codes "got") _ refl (clean_got request is)
 clean_words (Handed how) is = one_more (codes "handed") _ refl (clean_handed how is)
 
--- AND THEY ARE READ
+-- The words are read as the happening.
 
 pub level_back : (level : Level) → level_of_word (level_word level) ≡ Some level
 level_back level = grind arith
@@ -211,7 +211,7 @@ power_back kind = grind arith
 cause_back : (why : Cause) → cause_of_word (decimal (cause_number why)) ≡ Some why
 cause_back why = grind (arith, decimal_digit)
 
--- how the words of a happening are read: a table's by its count, all others as the happening
+-- how the words of a happening are read: those of a new table as its number of entries, all others as the happening
 abbrev Said : Event → Type 0
 Said (NewTable table) = entries_brought (words_of (NewTable table)) ≡ Some (length table)
 Said h = (entries_brought (words_of h) ≡ None) × (words_read (words_of h) ≡ Some h)
@@ -291,9 +291,9 @@ said Nudge is = (refl, refl)
 said (Got request) is = got_said request is
 said (Handed how) is = handed_said how is
 
--- THE TEXT OF A HAPPENING IS ITS LINE AND WHAT STANDS BEHIND IT
+-- The text of a happening is its line, followed by the lines of its table.
 
--- words behind blanks are words joined by blanks
+-- words that are each preceded by a blank are words joined by blanks
 behind_joined : (word : List ℕ) (words : List (List ℕ)) → word ++ words_behind words ≡ join_with_byte 32 (word ∷ words)
 behind_joined word [] = append-nil word
 behind_joined word (next ∷ words) = ap (λ t. word ++ 32 ∷ t) (behind_joined next words)
@@ -302,7 +302,7 @@ line_joined : (word : List ℕ) (words : List (List ℕ))
     → line_of_words (word ∷ words) ≡ join_with_byte 32 (word ∷ words) ++ 10 ∷ []
 line_joined word words = ap (λ t. t ++ 10 ∷ []) (behind_joined word words)
 
--- a happening's line begins with a word
+-- a happening's line has at least one word
 abbrev Spoken : Event → Type 0
 Spoken h = (name : List ℕ) × (words : List (List ℕ)) × (words_of h ≡ name ∷ words)
 
@@ -329,7 +329,7 @@ spoken Nudge = (codes "nudge", _, refl)
 spoken (Got request) = (codes "got", _, refl)
 spoken (Handed how) = (codes "handed", _, refl)
 
--- the line of words, and a text that begins with it
+-- the line of these words, and a text that begins with it
 line : List (List ℕ) → List ℕ
 line words = join_with_byte 32 words
 
@@ -345,7 +345,7 @@ text_begins h more =
     ∙ append_assoc (line (words_of h) ++ 10 ∷ []) (table_lines h) more
     ∙ append_assoc (line (words_of h)) (10 ∷ []) (table_lines h ++ more)
 
--- clean words joined have no newline, are its pieces, and aren't long
+-- words joined by blanks contain no newline, are the pieces of their line, and are not too long
 unblank : (word : List ℕ) → clean word ≡ true
     → (has_byte 32 word ≡ false) × (has_byte 10 word ≡ false) × (length word ≤ 20)
 unfolding clean
@@ -412,7 +412,7 @@ first_line : (h : Event) (more : List ℕ) → is_in_range h ≡ true
 first_line h more is =
     ap (cut 10) (text_begins h more) ∙ cut-append 10 (line (words_of h)) (table_lines h ++ more) (line_lacks h is)
 
--- it is short, and so is the text of the happening
+-- that line is short, and so is the text of the happening
 pub record FirstLine (h : Event) (more : List ℕ) : Type 0 where
   pub line : List ℕ
   pub first : cut 10 (event_text h ++ more) ≡ Some (line, table_lines h ++ more)
@@ -444,7 +444,7 @@ line_first h more is = record {
   );
 }
 
--- what begins a text is found
+-- the happening that begins a text is found
 table_found : (table : List Entry) (more : List ℕ) → is_table table ≡ true
     → use_begun (length table) (text_of table ++ more) ≡ Some (NewTable table, more)
 table_found table more is = ap (option_map {U = Begun} (λ (parts : List Entry × List ℕ). (NewTable parts.0, parts.1)))
@@ -482,9 +482,9 @@ found_by (Handed how) more is own = by_words (Handed how) more own is
 pub begun-text : (h : Event) (more : List ℕ) → is_in_range h ≡ true → begun (event_text h ++ more) ≡ Some (h, more)
 begun-text h more is = rw (first_line h more is) (found_by h more is (said h is))
 
--- AND WHAT IS FOUND BEGINS THE TEXT
+-- The happening that is found begins the text.
 
--- no table is read from words
+-- no words are read as a new table
 pub no_use : (given : List ℕ) → words_read (codes "use" ∷ given ∷ []) ≡ None
 no_use given = grind arith
 
@@ -502,7 +502,7 @@ lineless _ words spoken read = refl
 abbrev Begins : Event → List ℕ → List ℕ → Type 0
 Begins h more text = (is_in_range h ≡ true) × (event_text h ++ more ≡ text)
 
--- a line that its words make
+-- a line is made up of its words
 rejoined : (first : List ℕ) (words : List (List ℕ)) → words_in first ≡ words → line words ≡ first
 unfolding line
 rejoined first words is = ap (join_with_byte 32) (sym is) ∙ join_with_byte-slice_split 32 first
@@ -517,7 +517,7 @@ words_begin first rest h is =
           ∙ ap (λ t. t ++ 10 ∷ rest) (rejoined first (words_of h) (sym own.0)),
     )
 
--- the words that bring a table
+-- the words of a `use` line
 use_words : (words : List (List ℕ)) (count : ℕ) → entries_brought words ≡ Some count
     → words ≡ codes "use" ∷ decimal count ∷ []
 use_words (word ∷ given ∷ []) count is = by (same_id word (codes "use")) refl is
@@ -564,7 +564,7 @@ text-begun text h more is =
     rw (cut-parts 10 text parts.0 parts.1 at).0
     (begins_by parts.0 parts.1 (entries_brought (words_in parts.0)) h more refl found))
 
--- the newlines of a happening's text: a line, and one for each entry of its table
+-- the newlines of a happening's text: one, and one for each entry of its table
 line_and_more : (h : Event) → is_in_range h ≡ true → newlines (event_text h) ≡ newlines (table_lines h) + 1
 line_and_more h is =
     ap (λ t. newlines (t ++ table_lines h)) (line_text h)

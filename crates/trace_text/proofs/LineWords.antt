@@ -1,4 +1,4 @@
--- The words of a happening's line are read as the happening, and what is read has these words.
+-- The words of a happening's line are read as that happening, and what is read from words has these words.
 use Rattle.trace_text.proofs.CommonWords.{arith, ◌≡◌, ℕ, ◌+◌, ◌^◌, Bool, true, false, cond, ◌&&◌, List, [], ◌∷◌, Option}
 use Rattle.trace_text.proofs.CommonWords.{Some, None, refl, sym, ◌∙◌, codes, decimal, subst, lit<, and_parts, and_from}
 use Rattle.trace_text.proofs.CommonWords.{decimal_digit, option_and_then_some, same_Some, option_map_some, cut}
@@ -24,15 +24,15 @@ use Rattle.initctl_frame.specs.declared.requests.Cause.TheVariants as cause
 use Rattle.trace_events.specs.declared.happenings.Handed.{Handed as HandOver}
 use Rattle.trace_events.specs.declared.happenings.Handed.TheVariants as handed
 
--- FROM WHAT IS READ TO ITS WORDS
+-- From what is read to its words.
 
--- a choice of two readings: where the test holds the first was read, else the second
+-- a choice between two readings, by a test
 pub choice : {X P : Type 0} (b : Bool) (one other : Option X) (x : X) → cond b one other ≡ Some x
     → (b ≡ true → one ≡ Some x → P) → (other ≡ Some x → P) → P
 choice true one other x is here there = here refl is
 choice false one other x is here there = there is
 
--- the same, where the test is that the word is a name
+-- a choice between two readings, by the name that the word is
 pub named : {X P : Type 0} (word name : List ℕ) (one other : Option X) (x : X)
     → cond (same_id word name) one other ≡ Some x → (word ≡ name → one ≡ Some x → P) → (other ≡ Some x → P) → P
 named word name one other x is here there =
@@ -55,7 +55,7 @@ all_three_some f (Some w) None q z is next = absurd (cc)
 all_three_some f (Some w) (Some x) None z is next = absurd (cc)
 all_three_some f (Some w) (Some x) (Some y) z is next = next w x y refl refl refl (cc)
 
--- an id that was read
+-- an id that was read is the word
 pub id_own : (word id : List ℕ) → id_read word ≡ Some id → (id ≡ word) × (is_id id ≡ true)
 id_own word id is = choice (is_id word) (Some word) None id is (λ holds at. let same : word ≡ id = same_Some word id
     at in (sym same, subst (λ w. is_id w ≡ true) same holds)) (nothing id)
@@ -69,7 +69,7 @@ level_own word level is = grind (arith, nothing, own_level_is)
 pub letter_own : (word : List ℕ) (letter : Letter) → letter_of_word word ≡ Some letter → letter_word letter ≡ word
 letter_own word letter is = grind arith
 
--- a constant that was read at a name
+-- a constant that was read at its name prints as that name
 pub at_name : {X : Type 0} (write : X → List ℕ) (word name : List ℕ) (k x : X) → write k ≡ name → word ≡ name
     → Some k ≡ Some x → write x ≡ word
 at_name write word name k x own same is = let at : k ≡ x = same_Some k x is in
@@ -119,11 +119,11 @@ cause_own word why is =
     named word (codes "4") _ _ why is (λ same
     at. at_name cause_word word (codes "4") cause.Character why (decimal_digit 4 (lit< tt)) same at) (nothing why))))
 
--- what is read from words: a happening of these words, in range
+-- the happening has these words and is in range
 abbrev Read : Event → List (List ℕ) → Type 0
 Read happening words = (words_of happening ≡ words) × (is_in_range happening ≡ true)
 
--- of a happening that is one word and an id
+-- a happening of a name and an id
 about : (word id : List ℕ) (given : List ℕ) (make : List ℕ → Event) (name : List ℕ) (h : Event)
     → ((i : List ℕ) → words_of (make i) ≡ name ∷ i ∷ []) → ((i : List ℕ) → is_in_range (make i) ≡ is_id i) → word ≡ name
     → id_read given ≡ Some id → Some (make id) ≡ Some h → Read h (word ∷ given ∷ [])
@@ -210,7 +210,7 @@ one_is word h is =
     named word (codes "notread") _ _ h is
     (λ same made. subst (λ e. Read e (word ∷ [])) (same_Some NotRead h made) (rw same refl, refl)) (nothing h))
 
--- a happening that was made of what was read
+-- a happening that was built from what was read
 made : (k h : Event) (words : List (List ℕ)) → k ≡ h → Read k words → Read h words
 made k h words this own = subst (λ e. Read e words) this own
 
@@ -257,7 +257,7 @@ three_is word first second h is =
     (λ same is. option_map_some Handed (handed_pair_read first second) h is (λ how at this. made (Handed how) h _ this
     (rw (same, (handed_pair_is first second how at).0) refl, (handed_pair_is first second how at).1))) (nothing h)))))
 
--- the words of two names at once
+-- a choice by the names that two words are
 two_named : {X P : Type 0} (word name other second : List ℕ) (one rest : Option X) (x : X)
     → cond (same_id word name && same_id other second) one rest ≡ Some x
     → (word ≡ name → other ≡ second → one ≡ Some x → P) → (rest ≡ Some x → P) → P
@@ -321,7 +321,7 @@ words_read-of (word ∷ first ∷ second ∷ third ∷ []) h is = four_is word f
 words_read-of (word ∷ first ∷ second ∷ third ∷ fourth ∷ []) h is = five_is word first second third fourth h is
 words_read-of (word ∷ first ∷ second ∷ third ∷ fourth ∷ fifth ∷ words) h is = nothing h is
 
--- no line has more than five words, and none that brings a table more than two
+-- a line has at most five words, and a `use` line two
 Headed : List (List ℕ) → Type 0
 Headed words = (first : List ℕ) × (more : List (List ℕ)) × (words ≡ first ∷ more)
 

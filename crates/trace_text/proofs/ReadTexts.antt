@@ -1,4 +1,4 @@
--- A text is read as one trace at most, and as none where a line begins no happening.
+-- A text is read as at most one trace, and as none if no happening begins at one of its lines.
 use Rattle.trace_text.proofs.CommonWords.{◌≡◌, ◌≢◌, ℕ, suc, ◌+◌, ◌<◌, ◌≤◌, Bool, true, false, cond, ◌==◌, ◌&&◌, List}
 use Rattle.trace_text.proofs.CommonWords.{[], ◌∷◌, ◌++◌, length, filter, append-nil, Option, Some, None, refl, sym, ap}
 use Rattle.trace_text.proofs.CommonWords.{◌∙◌, arith, length-append, option_map, IfSome, IfNone, and_parts, and_from}
@@ -8,17 +8,17 @@ use Rattle.trace_text.proofs.CommonWords.{BeginsNone, begun}
 use Rattle.std.proofs.lemmas.List.Folds.{list_all-append}
 use Rattle.trace_text.proofs.LineTexts.{begun-text, text-begun, newlines-event}
 
--- one happening at most begins a text
+-- at most one happening begins a text
 pub begins_one : (h k : Event) (more rest : List ℕ) → is_in_range h ≡ true → is_in_range k ≡ true
     → event_text h ++ more ≡ event_text k ++ rest → (h ≡ k) × (more ≡ rest)
 begins_one h k more rest one other same =
     some_pair_parts h k more rest (sym (begun-text h more one) ∙ ap begun same ∙ begun-text k rest other)
 
--- what a call found, its rest borrowed
+-- the result of a call, without the borrow of its rest
 abbrev as_begun : {B : Type 0} → (B → List ℕ) → Option (Event × B) → Option Begun
 as_begun now found = option_map {U = Begun} (λ parts. (parts.0, now parts.1)) found
 
--- it begins the text, alone, and where nothing is found nothing does
+-- what the call found is the only happening that begins the text, and if it found none, none begins it
 pub found_begins : {B : Type 0} (now : B → List ℕ) (text : List ℕ) (found : Option (Event × B)) → as_begun now found
     ≡ begun text → IfSome found (λ parts. (is_in_range parts.0 ≡ true) × (event_text parts.0 ++ now parts.1 ≡ text))
 found_begins now text found is = grind (arith, text-begun)
@@ -34,7 +34,7 @@ none_begins now text None is =
     λ h more ranged same. none-some (h, more) (is ∙ ap begun (sym same) ∙ begun-text h more ranged)
 none_begins now text (Some parts) is = tt
 
--- one more happening
+-- the text of a trace with one more happening
 pub trace_text-push : (trace : List Event) (h : Event) → trace_text (trace ++ h ∷ []) ≡ trace_text trace ++ event_text h
 trace_text-push [] h = append-nil (event_text h)
 trace_text-push (t ∷ trace) h = ap (λ x. event_text t ++ x) (trace_text-push trace h)
@@ -55,7 +55,7 @@ pub newlines-few : (text : List ℕ) → newlines text ≤ length text
 newlines-few [] = omega arith
 newlines-few (x ∷ text) = few_by x text (x == 10) (newlines-few text)
 
--- a happening's text is not empty
+-- the text of a happening is not empty
 lines_some : (h : Event) → 0 < line_count h
 lines_some h = grind arith
 
@@ -75,7 +75,7 @@ joined_some h texts rest is same = omega (
   ap length same,
 )
 
--- the traces of one text are one
+-- a text is that of at most one trace
 pub one_trace : (trace other : List Event) → are_in_range trace ≡ true → are_in_range other ≡ true
     → trace_text trace ≡ trace_text other → trace ≡ other
 one_trace [] [] one two same = refl
@@ -89,7 +89,7 @@ one_trace (t ∷ trace) (o ∷ other) one two same =
     let first = begins_one t o (trace_text trace) (trace_text other) left.0 right.0 same in
     rw (first.0, one_trace trace other left.1 right.1 first.1) refl
 
--- a text that is that of a trace up to a line at which no happening begins is that of no trace
+-- a text with a line, after those of a trace, at which no happening begins is not the text of a trace
 pub no_trace : (before trace : List Event) (rest : List ℕ) → are_in_range before ≡ true → are_in_range trace ≡ true
     → rest ≢ [] → BeginsNone rest → trace_text trace ≡ trace_text before ++ rest → ⊥
 no_trace [] [] rest one two some none same = some (sym same)
@@ -104,7 +104,7 @@ no_trace (b ∷ before) (t ∷ trace) rest one two some none same =
     (same ∙ append_assoc (event_text b) (trace_text before) rest) in
     no_trace before trace rest left.1 right.1 some none first.1
 
--- the number of a line behind a happening, within the text
+-- the number of the line after a happening, which is within the text
 pub counted_on : (before more rest text : List ℕ) (h : Event) (number : ℕ) → is_in_range h ≡ true
     → event_text h ++ more ≡ rest → before ++ rest ≡ text → number ≡ newlines before + 1
     → (number + line_count h ≡ newlines (before ++ event_text h) + 1) × (number + line_count h ≤ length text + 1)
@@ -127,7 +127,7 @@ counted_on before more rest text h number is begins whole counted =
 pub none_left : (front rest text : List ℕ) → front ++ rest ≡ text → rest ≡ [] → front ≡ text
 none_left front rest text whole empty = sym (append-nil front) ∙ ap (λ r. front ++ r) (sym empty) ∙ whole
 
--- the lines of a happening are no more than the bytes that it takes off a text
+-- a happening has no more lines than its text has bytes
 pub lines_within : (h : Event) (more rest : List ℕ) → is_in_range h ≡ true → event_text h ++ more ≡ rest
     → line_count h + length more ≤ length rest
 lines_within h more rest is begins =

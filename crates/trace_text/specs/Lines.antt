@@ -1,4 +1,4 @@
--- The text of a trace: a line a happening, its words set apart by single blanks, numbers in decimal.
+-- The text of a trace (init-trace(5)): one line per happening, single blanks between its words, numbers in decimal.
 use Rattle.std.specs.Prelude.{ℕ, List, [], ◌∷◌, ◌++◌, length, codes, decimal, flat_map}
 use Rattle.init_words.specs.declared.children.Status.{Status}
 use Rattle.init_words.specs.declared.children.Status.TheVariants.{Exit, Killed}
@@ -46,17 +46,19 @@ power_word power.Fail = codes "fail"
 power_word power.FailNow = codes "failnow"
 power_word power.Ok = codes "ok"
 
--- the number of the cause for which a request was ignored
+-- the number that stands for the reason why a request was ignored
 abbrev pub cause_number : Cause → ℕ
 cause_number cause.Magic = 1
 cause_number cause.Unknown = 2
 cause_number cause.LeftOut = 3
 cause_number cause.Character = 4
 
+-- the words for how a child ended
 abbrev pub status_words : Status → List (List ℕ)
 status_words (Exit code) = codes "exit" ∷ decimal code ∷ []
 status_words Killed = codes "killed" ∷ []
 
+-- the words of a request
 abbrev pub got_words : Request → List (List ℕ)
 got_words (got.Level level grace) = codes "level" ∷ level_word level ∷ decimal grace ∷ []
 got_words (got.Call letter) = codes "call" ∷ letter_word letter ∷ []
@@ -65,6 +67,7 @@ got_words got.Reexec = codes "reexec" ∷ []
 got_words (got.Power kind) = codes "power" ∷ power_word kind ∷ []
 got_words (got.Nothing why) = codes "nothing" ∷ decimal (cause_number why) ∷ []
 
+-- the words for the outcome of a hand-over
 abbrev pub handed_words : HandOver → List (List ℕ)
 handed_words handed.Whole = codes "whole" ∷ []
 handed_words (handed.Cut bytes) = codes "cut" ∷ decimal bytes ∷ []
@@ -95,24 +98,24 @@ words_of Nudge = codes "nudge" ∷ []
 words_of (Got request) = codes "got" ∷ got_words request
 words_of (Handed how) = codes "handed" ∷ handed_words how
 
--- words, each after a blank
+-- the words, each preceded by a blank
 abbrev pub words_behind : List (List ℕ) → List ℕ
 words_behind words = flat_map (λ word. 32 ∷ word) words
 
--- a line of these words
+-- the line of these words
 abbrev pub line_of_words : List (List ℕ) → List ℕ
 line_of_words [] = 10 ∷ []
 line_of_words (word ∷ words) = word ++ words_behind words ++ 10 ∷ []
 
--- the lines of a table after its happening
+-- the lines of the table that a `use` line announces; no lines for any other happening
 abbrev pub table_lines : Event → List ℕ
 table_lines (NewTable table) = text_of table
 table_lines _ = []
 
--- the text of a happening: its line, and after a table's the lines of the table
+-- the text of a happening: its line, and for a new table the lines of the table
 abbrev pub event_text : Event → List ℕ
 event_text happening = line_of_words (words_of happening) ++ table_lines happening
 
--- the text of a list of happenings, the oldest first
+-- the text of a list of happenings, oldest first
 abbrev pub trace_text : List Event → List ℕ
 trace_text happenings = flat_map event_text happenings

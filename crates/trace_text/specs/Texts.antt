@@ -1,4 +1,4 @@
--- The text of a trace as it is read: what begins it, and where a text is that of none.
+-- The text of a trace as it is read: which happening begins it, and when a text is not that of a trace.
 use Rattle.std.specs.Prelude.{◌≡◌, ◌≢◌, ℕ, true, ◌+◌, List, [], ◌++◌, length}
 use Rattle.text_lines.specs.Lines.{newlines}
 use Rattle.trace_events.specs.declared.happenings.Happening.TheVariants.{NewTable}
@@ -12,17 +12,17 @@ use Rattle.trace_text.specs.declared.reading.ReadFault.TheVariants as fault
 abbrev pub Begun : Type 0
 Begun = Event × List ℕ
 
--- how many lines a happening has: its own, and one for each entry of its table
+-- the number of lines of a happening: one, and one more for each entry of a new table
 abbrev pub line_count : Event → ℕ
 line_count (NewTable table) = length table + 1
 line_count _ = 1
 
--- the text begins with no happening's text
+-- the text does not begin with the text of a happening
 abbrev pub BeginsNone : List ℕ → Type 0
 BeginsNone text =
     (happening : Event) (more : List ℕ) → is_in_range happening ≡ true → event_text happening ++ more ≢ text
 
--- the text is that of a trace up to its line of this number, counted from 1, and no happening begins there
+-- the text is that of a trace up to the line of this number, counted from 1, and no happening begins there
 pub record Stops (text : List ℕ) (number : ℕ) : Type 0 where
   pub trace : List Event
   pub rest : List ℕ
@@ -32,7 +32,8 @@ pub record Stops (text : List ℕ) (number : ℕ) : Type 0 where
   pub some : rest ≢ []
   pub none : BeginsNone rest
 
--- why a text is not read
+-- why the text was not read: no happening begins at this line; or memory allocation failed, which says nothing about
+-- the text
 abbrev pub UnreadTrace : List ℕ → ReadFault → Type 0
 UnreadTrace text (fault.Line number) = Stops text number
 UnreadTrace text fault.Memory = Unit {0}

@@ -1,9 +1,10 @@
-//! The text of a trace: a line a happening, and the lines of a table behind its own; printed, and read again.
+//! Prints the text of a trace and reads it again: one line per happening, followed for a new table by the lines of the
+//! table (init-trace(5)).
 #![tactic(auto)]
 
 mod printing;
 mod reading;
-/// The words that a line is made of.
+/// The words of a line.
 pub mod words;
 
 pub use printing::{print, print_one, print_table};

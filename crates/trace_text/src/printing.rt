@@ -1,4 +1,4 @@
-//! The text of a trace, printed.
+//! Prints the text of a trace.
 
 ghost use Rattle.std.specs.Prelude.{◌≡◌, ◌++◌, ◌∷◌, [], map, codes, decimal, IfOk, OnOk};
 ghost use Rattle.inittab_text.specs.Written.{text_of};
@@ -44,7 +44,7 @@ fn cause_number(why: Cause) -> u8
     }
 }
 
-/// Appends the words, each after a blank. Where memory runs out, a part of it may be appended.
+/// Appends the words, each preceded by a blank. If memory allocation fails, a part of them may have been appended.
 fn put_words<A: Allocator>(text: &mut Vec<u8, A>, words: &[&[u8]]) -> Result<(), Memory>
     ensures { OnOk result (text.new.items ≡ text.old.items
         ++ words_behind (map (λ word. word.now) words.now)) }
@@ -56,7 +56,7 @@ fn put_words<A: Allocator>(text: &mut Vec<u8, A>, words: &[&[u8]]) -> Result<(),
     Ok(())
 }
 
-/// Appends a line of these words. Where memory runs out, a part of it may be appended.
+/// Appends the line of these words. If memory allocation fails, a part of it may have been appended.
 fn put_line<A: Allocator>(text: &mut Vec<u8, A>, first: &[u8], rest: &[&[u8]]) -> Result<(), Memory>
     ensures { OnOk result (text.new.items ≡ text.old.items
         ++ line_of_words (first.now ∷ map (λ word. word.now) rest.now)) }
@@ -175,7 +175,7 @@ fn put_entries<A: Allocator + Copy, B: Allocator>(
     Ok(())
 }
 
-/// Appends the line of a happening that is no table.
+/// Appends the line of a happening other than a new table.
 fn put_happening<A: Allocator + Copy, B: Allocator>(
     text: &mut Vec<u8, A>,
     happening: &HappeningIn<B>,
@@ -220,7 +220,7 @@ fn put_happening<A: Allocator + Copy, B: Allocator>(
     }
 }
 
-/// The text of the happening that brings a table: `use`, how many entries, and their lines.
+/// Returns the text of a new table: `use`, the number of its entries, and their lines.
 pub fn print_table<A: Allocator + Copy, B: Allocator>(
     alloc: A,
     table: &Table<B>,
@@ -232,7 +232,7 @@ pub fn print_table<A: Allocator + Copy, B: Allocator>(
     Ok(text)
 }
 
-/// The text of one happening: a line, and after a table's the lines of the table.
+/// Returns the text of one happening: a line, followed for a new table by the lines of the table.
 pub fn print_one<A: Allocator + Copy, B: Allocator>(
     alloc: A,
     happening: &HappeningIn<B>,
@@ -244,7 +244,7 @@ pub fn print_one<A: Allocator + Copy, B: Allocator>(
     Ok(text)
 }
 
-/// The text of a trace, the oldest happening first, a line each.
+/// Returns the text of a trace, oldest happening first, one line per happening.
 pub fn print<A: Allocator + Copy, B: Allocator>(
     alloc: A,
     trace: &[HappeningIn<B>],

@@ -1,4 +1,4 @@
-//! The text of a trace, read happening by happening.
+//! Reads the text of a trace, one happening at a time.
 
 ghost use Rattle.std.specs.Prelude.{◌≡◌, ◌∷◌, List, true, Some, option_map, IfOk, IfErr, IfSome, IfNone, OnOk, ◌++◌, []};
 ghost use Rattle.std.specs.Result.{MatchResult};
@@ -16,16 +16,16 @@ use text_lines::cut;
 use thiserror::Error;
 use trace_events::{Happening, HappeningIn};
 
-/// The bytes of the longest line of a trace without its newline, that of an inittab entry.
+/// The length in bytes of the longest line of a trace, which is that of an inittab entry, without its newline.
 pub const LINE_LIMIT: usize = 161;
 
-/// Why the text of a trace is not read.
+/// The reason why the text of a trace was not read.
 #[derive(Clone, Copy, Debug, PartialEq, Eq, Error)]
 pub enum ReadFault {
-    /// No happening's text begins at the line of this number, counted from 1.
-    #[error("line {0} begins no happening's text")]
+    /// No happening begins at the line of this number, counted from 1.
+    #[error("line {0} does not begin a happening")]
     Line(u64),
-    /// Out of memory.
+    /// Memory allocation failed.
     #[error("out of memory")]
     Memory,
 }
@@ -52,10 +52,10 @@ impl From<AllocError> for ReadFault {
     }
 }
 
-/// A happening, and the text after it.
+/// A happening and the text after it, if any.
 type ReadHappening<'a, A> = Option<(HappeningIn<A>, &'a [u8])>;
 
-/// The table of the next given number of lines of a text.
+/// Reads the table that consists of the given number of lines at the start of a text.
 fn first_table<A: Allocator + Copy>(
     alloc: A,
     count: usize,
@@ -84,8 +84,8 @@ fn first_by_words<A: Allocator + Copy>(
     }
 }
 
-/// The first happening of a text, and the text after it; None where the text begins with that of no happening. The
-/// lines of a table belong to its `use`.
+/// Reads the first happening of a text. Returns it with the text after it, or `None` if no happening begins there. The
+/// lines of a table belong to its `use` line.
 pub fn first_happening<A: Allocator + Copy>(
     alloc: A,
     text: &[u8],
@@ -101,7 +101,7 @@ pub fn first_happening<A: Allocator + Copy>(
     first_by_words(alloc, text)
 }
 
-/// How many lines a happening has: its own, and one for each entry of its table.
+/// Returns the number of lines of a happening: one, and one more for each entry of a new table.
 pub fn line_count<A: Allocator>(happening: &HappeningIn<A>) -> u64
     ensures { result ≡ line_count happening.now }
 {
@@ -121,12 +121,12 @@ fn keep<A: Allocator>(
     Ok(())
 }
 
-/// The happenings of a trace's text, the oldest first: those that print as this text. A text that is no trace's is
-/// refused with the number of the first line at which no happening begins (`Line`).
+/// Reads the text of a trace, and returns its happenings, oldest first. They are those that print as this text. If the
+/// text is not that of a trace, the fault `Line` gives the number of the first line at which no happening begins.
 pub fn read<A: Allocator + Copy>(alloc: A, text: &[u8]) -> Result<Vec<HappeningIn<A>, A>, ReadFault>
     ensures read { IfOk result (λ trace.
         (are_in_range trace.items ≡ true) × (trace_text trace.items ≡ text.now)) }
-    // No other trace has the text, and one that has it is read.
+    // No other trace has this text, and a text that is that of a trace is read.
     ensures only { (trace : List Event) → are_in_range trace ≡ true → trace_text trace ≡ text.now
         → MatchResult result (λ got. got.items ≡ trace) (λ fault. fault ≡ ReadFault.Memory) }
     ensures unread { IfErr result (λ fault. UnreadTrace text.now fault) }

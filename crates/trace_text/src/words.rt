@@ -1,4 +1,4 @@
-//! The words that a line of a trace is made of, read.
+//! Reads the words of a line of a trace.
 
 ghost use Rattle.std.specs.Prelude.{◌≡◌, ◌^◌, ◌+◌, [], ◌∷◌};
 ghost use Rattle.init_words.specs.Ids.{same_id};
@@ -14,14 +14,14 @@ use std::alloc::Allocator;
 use text_lines::{cut, read_below, read_number};
 use trace_events::{Handed, Happening, HappeningIn};
 
-/// The word is this one.
+/// Returns whether the word is `name`.
 pub fn is(word: &[u8], name: &[u8]) -> bool
     ensures { result ≡ same_id word.now name.now }
 {
     word == name
 }
 
-/// The runlevel whose one character the word is, `0` to `9` or `S` (init(8)).
+/// Reads a runlevel, which is one character, `0` to `9` or `S` (init(8)).
 pub fn read_level(word: &[u8]) -> Option<Level>
     ensures { result ≡ level_of_word word.now }
 {
@@ -50,7 +50,7 @@ fn read_letter(word: &[u8]) -> Option<Letter>
     }
 }
 
-/// The stage of a word: `sysinit`, `boot`, or the character of a runlevel (init(8)).
+/// Reads a stage: `sysinit`, `boot`, or the character of a runlevel (init(8)).
 pub fn read_stage(word: &[u8]) -> Option<Stage>
     ensures { result ≡ stage_of_word word.now }
 {
@@ -63,7 +63,7 @@ pub fn read_stage(word: &[u8]) -> Option<Stage>
     Some(Stage::Run(read_level(word)?))
 }
 
-/// The order of a word: `start` or `look`, or a signal that stops a child (init(8)), `term` or `kill`.
+/// Reads an order: `start`, `look`, or one of the signals that stop a child, `term` and `kill` (init(8)).
 pub fn read_order(word: &[u8]) -> Option<OrderKind>
     ensures { result ≡ order_of_word word.now }
 {
@@ -115,7 +115,7 @@ fn read_cause(word: &[u8]) -> Option<Cause>
     None
 }
 
-/// The seconds between the two signals that stop a child (init(8)): a number of 0 to 3600.
+/// Reads the seconds between the two signals that stop a child (init(8)), 0 to 3600.
 pub fn read_seconds(word: &[u8]) -> Option<u16>
     ensures { result ≡ seconds_of_word word.now }
 {
@@ -123,7 +123,7 @@ pub fn read_seconds(word: &[u8]) -> Option<u16>
     Some(seconds as u16)
 }
 
-/// The number that a system gave a child: below 2^32.
+/// Reads the number of a child, which is below 2^32.
 pub fn read_child(word: &[u8]) -> Option<ChildNumber>
     ensures { result ≡ child_of_word word.now }
 {
@@ -131,7 +131,7 @@ pub fn read_child(word: &[u8]) -> Option<ChildNumber>
     Some(ChildNumber(number as u32))
 }
 
-/// The exit status that a decimal number is.
+/// Reads an exit status, 0 to 255.
 pub fn read_code(word: &[u8]) -> Option<Status>
     ensures { result ≡ code_of_word word.now }
 {
@@ -309,7 +309,7 @@ fn read_five<A: Allocator>(
     None
 }
 
-/// The happening of a word and a rest of its line.
+/// Reads the happening of a line that is split after its first word.
 fn read_behind_one<A: Allocator>(word: &[u8], rest: &[u8]) -> Option<HappeningIn<A>>
     ensures { result ≡ words_read (word.now ∷ words_in rest.now) }
 {
@@ -358,7 +358,8 @@ fn read_behind_four<A: Allocator>(
     }
 }
 
-/// The happening of a line without its newline; None where it is no line of a trace, or a table's.
+/// Reads the happening of a line without its newline. Returns `None` if it is not a line of a trace, or is a `use`
+/// line.
 pub(crate) fn read_line<A: Allocator>(line: &[u8]) -> Option<HappeningIn<A>>
     ensures { result ≡ words_read (words_in line.now) }
 {
@@ -387,7 +388,7 @@ fn read_count(word: &[u8], rest: &[u8]) -> Option<usize>
     }
 }
 
-/// How many entries the table has that a line brings, `use` and their number; None where it is no such line.
+/// Returns the number of entries that a `use` line announces, or `None` for any other line.
 pub fn read_use(line: &[u8]) -> Option<usize>
     ensures { result ≡ entries_brought (words_in line.now) }
 {

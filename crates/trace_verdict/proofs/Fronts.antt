@@ -1,4 +1,4 @@
--- What stays so when more of a text comes.
+-- What remains true of a text when more text follows.
 use Rattle.trace_verdict.proofs.Words.{◌≡◌, ℕ, zero, suc, ◌+◌, ◌-◌, ◌<◌, ◌≤◌, true, false, ◌&&◌, nat_lt, nat_le, List}
 use Rattle.trace_verdict.proofs.Words.{[], ◌∷◌, ◌++◌, length, take, drop, Option, Some, None, option_and_then, refl}
 use Rattle.trace_verdict.proofs.Words.{sym, ap, ◌∙◌, subst, arith, length-append, option_map_or, append_assoc}
@@ -29,11 +29,11 @@ due_cut text line rest is = ap (λ o. option_map_or (λ (parts : List ℕ × Lis
 due_uncut : (text : List ℕ) → cut 10 text ≡ None → lines_due text ≡ 1
 due_uncut text is = ap (λ o. option_map_or (λ (parts : List ℕ × List ℕ). lines_of parts.0) o 1) is
 
--- no fewer lines are due of a longer text
+-- a longer text has at least as many lines due
 pub due_more : (text more : List ℕ) → lines_due text ≤ lines_due (text ++ more)
 due_more text more = grind (arith, due_uncut, due_some, due_cut, cut-more)
 
--- a finished happening's first line is whole
+-- the first line of a complete happening is complete
 pub finished_cut : (text : List ℕ) → is_unfinished text ≡ false → (parts : List ℕ × List ℕ) × (cut 10 text ≡ Some parts)
 finished_cut text finished = grind (arith, newlines-uncut, due_some, nat_tests)
 
@@ -43,7 +43,7 @@ lt-false n d is = grind (arith, nat_tests)
 false-lt : (n d : ℕ) → d ≤ n → nat_lt n d ≡ false
 false-lt n d is = grind (arith, nat_tests)
 
--- the table of so many lines that are there is that of a longer text
+-- the table of the first `n` lines, if they are not one, is not one in a longer text
 table_more : (n : ℕ) (text more : List ℕ) → n ≤ newlines text → table_begun n text ≡ None
     → table_begun n (text ++ more) ≡ None
 table_more n text more enough none = sym whole where
@@ -81,7 +81,7 @@ table_more n text more enough none = sym whole where
   whole : None ≡ table_begun n (text ++ more)
   whole = grind (arith, begun_at, rest, after_lines-more, after, longer, unwritten, front, written)
 
--- where a finished happening is none, it is none of a longer text
+-- if a complete happening is not valid, it is not valid in a longer text either
 begun_more : (text more : List ℕ) → is_unfinished text ≡ false → begun text ≡ None → begun (text ++ more) ≡ None
 begun_more text more finished none = begun_at (text ++ more) line (rest ++ more) (cut-more text more line rest at)
     ∙ by (entries_brought (words_in line)) refl where
@@ -134,14 +134,14 @@ none_more text more finished none = λ happening rest ranged same.
     none-some (happening, rest)
     (sym (begun_more text more finished (unbegun text none)) ∙ ap begun (sym same) ∙ begun-text happening rest ranged)
 
--- what no happening begins, whatever comes behind: a finished one that is none, and what is too long for one
+-- a complete happening that is not valid begins no happening, whatever text follows
 pub finished_never : (text : List ℕ) → is_unfinished text ≡ false → BeginsNone text → BeginsNever text
 finished_never text finished none = (
   ap (λ b. b && nat_le (length text) (size_limit (newlines text))) finished,
   λ more. none_more text more finished none,
 )
 
--- a text that begins with a shorter one
+-- of two texts with a common continuation, the shorter one is a prefix of the longer one
 begins_with : (xs ys zs ws : List ℕ) → xs ++ ys ≡ zs ++ ws → length xs ≤ length zs → (s : List ℕ) × (zs ≡ xs ++ s)
 begins_with (x ∷ xs) ys (z ∷ zs) ws same shorter =
     let first : x ≡ z = cc in
@@ -154,7 +154,7 @@ limit_behind : (n : ℕ) → 1 ≤ n → size_limit n ≡ LINE_LIMIT + TEXT_LIMI
 limit_behind zero some = absurd (omega (arith, some))
 limit_behind (suc n) some = refl
 
--- no happening has a first line that is so long
+-- no happening has a first line of this length
 long_line : (text more tail : List ℕ) (h : Event) → cut 10 text ≡ None → size_limit (newlines text) < length text
     → is_in_range h ≡ true → event_text h ++ tail ≡ text ++ more → ⊥
 long_line text more tail h whole long is same = omega (
@@ -183,7 +183,7 @@ long_line text more tail h whole long is same = omega (
   begins = begins_with (first.line ++ 10 ∷ []) (table_lines h ++ tail) text more split
       (omega (arith, over, first.short, length-append first.line (10 ∷ [])))
 
--- and none so many bytes before its last line is whole
+-- no happening has this many bytes before its last line is complete
 long_table : (text more tail line rest : List ℕ) (h : Event) → cut 10 text ≡ Some (line, rest) → is_unfinished text
     ≡ true → size_limit (newlines text) < length text → is_in_range h ≡ true → event_text h ++ tail ≡ text ++ more → ⊥
 long_table text more tail line rest h at cut_off long is same =
@@ -228,7 +228,7 @@ pub never_some : (text : List ℕ) → BeginsNever text → 1 ≤ length text
 never_some [] never = absurd (cc)
 never_some (byte ∷ text) never = omega arith
 
--- what a reader has behind it, and what it has before it
+-- the suffix of a text, by length
 drop_front : (front rest : List ℕ) → drop (length (front ++ rest) - length rest) (front ++ rest) ≡ rest
 drop_front front rest = short (length (front ++ rest) - length rest) (omega (arith, length-append front rest)) where
   dropped : (xs : List ℕ) → drop (length xs) (xs ++ rest) ≡ rest
@@ -246,7 +246,7 @@ left_over bytes more at happening begins =
     ∙ sym (append_assoc (take at bytes) (event_text happening) more) in
     ap (λ t. drop (length t - length more) t) whole ∙ drop_front (take at bytes ++ event_text happening) more
 
--- the newlines of a happening, and those behind it
+-- the newlines of a text that begins with a happening are those of the happening and those of the rest
 pub lines_off : (text more : List ℕ) (happening : Event) → is_in_range happening ≡ true
     → event_text happening ++ more ≡ text → newlines text ≡ line_count happening + newlines more
 lines_off text more happening is begins = ap newlines (sym begins) ∙ newlines-append (event_text happening) more

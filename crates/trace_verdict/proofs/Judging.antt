@@ -1,4 +1,4 @@
--- One happening more, and a piece more.
+-- How the judge changes with one more happening, and with one more piece of text.
 use Rattle.trace_verdict.proofs.Words.{◌≡◌, ℕ, zero, suc, ◌+◌, ◌^◌, ◌<◌, ◌≤◌, true, List, [], ◌∷◌, ◌++◌, length}
 use Rattle.trace_verdict.proofs.Words.{reverse, slice_get, Option, Some, append-nil, refl, sym, ap, ◌∙◌, subst, arith}
 use Rattle.trace_verdict.proofs.Words.{length-append, option_map_or, append_assoc, reverse-append, length-reverse}
@@ -20,7 +20,7 @@ use Rattle.trace_verdict.proofs.Fronts.{never_some}
 pub capped_is : (n : ℕ) → n < 2 ^ 64 → capped n ≡ n
 capped_is n small = min-eq_left (omega (arith, small))
 
--- lines and happenings are no more than bytes
+-- a text has no more lines and happenings than bytes
 pub one_line : (h : Event) → 1 ≤ line_count h
 one_line h = grind arith
 
@@ -38,7 +38,7 @@ pub lines_within : (trace : List Event) (over text : List ℕ) → trace_text tr
 lines_within trace over text whole =
     omega (arith, newlines-few (trace_text trace), length-append (trace_text trace) over, ap length whole)
 
--- the past of a trace with one happening more
+-- the reverse of a trace with a happening appended
 pub past_push : (trace : List Event) (h : Event) → reverse (trace ++ h ∷ []) ≡ h ∷ reverse trace
 past_push trace h = reverse-append trace (h ∷ [])
 
@@ -51,7 +51,7 @@ got_behind : {X : Type 0} (xs : List X) (x : X) → slice_get (xs ++ x ∷ []) (
 got_behind [] x = refl
 got_behind (y ∷ xs) x = got_behind xs x
 
--- the first breach stays the first
+-- the first breach remains the first one
 pub first_kept : (trace : List Event) (h : Event) (breach : Named) → IsFirst trace breach
     → IsFirst (trace ++ h ∷ []) breach
 first_kept trace h breach is = record {
@@ -82,7 +82,7 @@ found_breach trace h judging law breach judged broke is = subst (IsFirst (trace 
   text = ap (λ o. option_map_or event_text o []) (sym (got_behind trace h));
 })
 
--- by cases of what was found
+-- the three verdicts, case by case
 pub at_trace : (finding : Finding Named) (state : TextState) (text : List ℕ) (trace : List Event)
     → HasRead state trace text → state.finding ≡ finding → AtBy finding state text
 at_trace Lawful state text trace read is = (trace, read)
@@ -95,7 +95,7 @@ trace_at Lawful state text not at = at
 trace_at (Breach breach) state text not at = at
 trace_at (Torn number) state text not at = absurd (not number refl)
 
--- a piece more
+-- one more piece of a text that is torn, or of any other
 torn_more : (text piece : List ℕ) (number : ℕ) → IsTorn text number → IsTorn (text ++ piece) number
 torn_more text piece number torn = grind (arith, append_assoc)
 
@@ -105,14 +105,14 @@ still_torn (Torn n) state text piece number is taken = torn_more text piece n ta
 still_torn Lawful state text piece number is taken = absurd (cc)
 still_torn (Breach breach) state text piece number is taken = absurd (cc)
 
--- what it has taken it is at work on
+-- the judge is at work on any text that it has taken
 pub taken_at : (finding : Finding Named) (state : TextState) (text : List ℕ) → TakenBy finding state text
     → AtBy finding state text
 taken_at Lawful state text taken = (taken.0, taken.1)
 taken_at (Breach breach) state text taken = (taken.0, taken.1)
 taken_at (Torn number) state text taken = taken
 
--- a happening more
+-- the judge has read one more happening of the text
 pub read_next : (old new : TextState) (trace : List Event) (text : List ℕ) (h : Event) → length text < 2 ^ 64
     → HasRead old trace text → ReadsNext old.reading new.reading (Some h) → new.position ≡ capped (old.position + 1)
     → IsFound new.finding new.judging (trace ++ h ∷ []) → HasRead new (trace ++ h ∷ []) text
@@ -164,7 +164,7 @@ torn_here state text number trace small read is none = record {
   none = none;
 }
 
--- what is told of the text
+-- the answer to the text
 left_is : (state : TextState) (trace : List Event) (text over : List ℕ) → length text < 2 ^ 64
     → HasRead state trace text → state.reading.over ≡ over
     → option_map capped (line_left state.reading.lines over) ≡ line_left (newlines (trace_text trace)) over

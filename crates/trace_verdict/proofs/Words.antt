@@ -1,4 +1,4 @@
--- The words of the proofs of this crate.
+-- Names that all proofs of this crate import.
 pub use Rattle.std.proofs.Common.{◌≡◌, ℕ, zero, suc, ◌+◌, ◌-◌, ◌<◌, ◌≤◌, true, false, ◌&&◌, nat_lt, nat_le, List, []}
 pub use Rattle.std.proofs.Common.{◌∷◌, ◌++◌, length, take, drop, Option, Some, None, option_and_then, refl, sym, ap}
 pub use Rattle.std.proofs.Common.{◌∙◌, subst, arith, length-append, ◌^◌, reverse, slice_get, append-nil, rules}

@@ -1,4 +1,4 @@
--- A judge of a text that comes in pieces, and the texts that it has taken.
+-- The judge of a text that comes in pieces, and the texts that it has taken.
 use Rattle.std.specs.Prelude.{◌≡◌, ◌⊎◌, ◌<◌, ◌^◌, ℕ, Bool, true, false, List, ◌++◌, length, reverse, Option, None}
 use Rattle.text_lines.specs.Lines.{newlines}
 use Rattle.trace_events.specs.Event.{Event}
@@ -11,21 +11,21 @@ use Rattle.trace_verdict.specs.Fronts.{is_open, IsTorn}
 use Rattle.trace_verdict.specs.Answers.{Named, IsFirst}
 use Rattle.trace_verdict.specs.Readers.{Reading}
 
--- what it has not read, and how many lines it has read; the judge of the trace; how many happenings it has read; and
--- what it has found
+-- the unread part and the number of lines read; the judge of the trace; the number of happenings read; and the verdict
+-- so far
 pub record TextState : Type 0 where
   pub reading : Reading
   pub judging : Judging
   pub position : ℕ
   pub finding : Finding Named
 
--- what was found is right of the trace so far
+-- the verdict is right for the trace so far
 abbrev pub IsFound : Finding Named → Judging → List Event → Type 0
 IsFound Lawful judging trace = Judged judging (reverse trace)
 IsFound (Breach breach) judging trace = IsFirst trace breach
 IsFound (Torn number) judging trace = ⊥
 
--- the trace is what it has read of the text
+-- the trace is what was read of the text
 pub record HasRead (state : TextState) (trace : List Event) (text : List ℕ) : Type 0 where
   pub are : are_in_range trace ≡ true
   pub whole : trace_text trace ++ state.reading.over ≡ text
@@ -33,35 +33,38 @@ pub record HasRead (state : TextState) (trace : List Event) (text : List ℕ) : 
   pub position : state.position ≡ length trace
   pub found : IsFound state.finding state.judging trace
 
--- it is at work on the text: a line of it begins no happening, or it has read a trace
+-- the judge with this verdict is at work on the text: the text is torn at a line, or the judge has read a trace from
+-- its beginning
 abbrev pub AtBy : Finding Named → TextState → List ℕ → Type 0
 AtBy (Torn number) state text = IsTorn text number
 AtBy _ state text = (trace : List Event) × HasRead state trace text
 
+-- the judge is at work on the text
 abbrev pub IsAt : TextState → List ℕ → Type 0
 IsAt state text = AtBy state.finding state text
 
--- it has taken the text: besides, what it has not read ends within a happening
+-- the judge with this verdict has taken the text: it is at work on it, and the unread part ends within a happening
 abbrev pub TakenBy : Finding Named → TextState → List ℕ → Type 0
 TakenBy (Torn number) state text = IsTorn text number
 TakenBy _ state text =
     (trace : List Event) × HasRead state trace text × (is_open state.reading.over ≡ true)
 
+-- the judge has taken the text
 abbrev pub HasTaken : TextState → List ℕ → Type 0
 HasTaken state text = TakenBy state.finding state text
 
--- it goes on with the text, or has taken it
+-- the judge continues with the text, or has taken it
 abbrev pub JudgeGoesOn : Bool → TextState → TextState → List ℕ → Type 0
 JudgeGoesOn true old new text = IsAt old text → IsAt new text
 JudgeGoesOn false old new text = IsAt old text → HasTaken new text
 
--- after lack of memory: nothing of the piece is taken, and nothing is changed; or all of it is, and what is not judged
--- is kept for the next piece
+-- after a failed allocation: nothing of the piece was taken and nothing changed; or the whole piece was taken, and the
+-- judge is at work on the text with it
 abbrev pub Holds : TextState → TextState → List ℕ → Type 0
 Holds old new piece =
     (new ≡ old) ⊎ ((text : List ℕ) → length (text ++ piece) < 2 ^ 64 → IsAt old text → IsAt new (text ++ piece))
 
--- the line at which it holds a happening that isn't finished
+-- the line at which an incomplete happening begins; none if the text is torn
 abbrev pub left_of : Finding Named → Option ℕ → Option ℕ
 left_of (Torn number) open_line = None
 left_of _ open_line = open_line

@@ -1,4 +1,4 @@
--- A reader of a text that comes in pieces.
+-- The reader of a text that comes in pieces.
 use Rattle.std.specs.Prelude.{◌≡◌, ℕ, ◌+◌, ◌-◌, ◌^◌, ◌≤◌, min, true, List, ◌++◌, drop, length, Option, Some, None}
 use Rattle.trace_text.specs.declared.reading.ReadFault.{ReadFault}
 use Rattle.trace_text.specs.declared.reading.ReadFault.TheVariants as fault
@@ -8,29 +8,30 @@ use Rattle.trace_events.specs.Range.{is_in_range}
 use Rattle.trace_text.specs.Texts.{line_count}
 use Rattle.trace_verdict.specs.Fronts.{is_open, BeginsNever}
 
--- what it has not read, and how many lines it has read, as far as numbers go
+-- the unread part, and the number of lines read, at most 2^64 - 1
 pub record Reading : Type 0 where
   pub over : List ℕ
   pub lines : ℕ
 
--- a sum as far as numbers go
+-- a sum, at most 2^64 - 1
 abbrev pub capped : ℕ → ℕ
 capped sum = min sum (2 ^ 64 - 1)
 
--- the next happening stands there, with a text of this length; the text ends within it
+-- the unread part begins with this happening, whose text has this length; none if it ends within a happening
 abbrev pub IsNext : Reading → Option (Event × ℕ) → Type 0
 IsNext reading None = is_open reading.over ≡ true
 IsNext reading (Some found) =
     (is_in_range found.0 ≡ true) × (event_text found.0 ++ drop found.1 reading.over ≡ reading.over)
     × (found.1 ≤ length reading.over)
 
--- the next happening is read off; the text ends within it; no happening begins there, whatever comes behind
+-- the next happening was read, and its lines counted; or the unread part ends within it, and nothing changed
 abbrev pub ReadsNext : Reading → Reading → Option Event → Type 0
 ReadsNext old new None = (new ≡ old) × (is_open old.over ≡ true)
 ReadsNext old new (Some happening) =
     (is_in_range happening ≡ true) × (event_text happening ++ new.over ≡ old.over)
     × (new.lines ≡ capped (old.lines + line_count happening))
 
+-- no happening begins the unread part, whatever text follows, and the fault gives the number of its first line
 abbrev pub ReadsNone : Reading → ReadFault → Type 0
 ReadsNone old (fault.Line number) =
     (number ≡ capped (old.lines + 1)) × BeginsNever old.over

@@ -1,4 +1,4 @@
-//! What is found of the text of a trace.
+//! The verdict on the text of a trace.
 
 ghost use Rattle.std.specs.Prelude.{◌≡◌};
 
@@ -6,14 +6,14 @@ use std::alloc::{Allocator, Global};
 use std::marker::Model;
 use trace_check::Law;
 
-/// What is found of the text of a trace.
+/// The verdict on the text of a trace.
 #[derive(Drop)]
 pub enum Finding<B = Breach> {
     /// No happening breaks a law.
     Lawful,
-    /// The first happening that breaks one.
+    /// The first happening that breaks a law.
     Breach(B),
-    /// The line of this number, from 1, begins no happening.
+    /// No happening begins at the line of this number, counted from 1.
     Torn(u64),
 }
 
@@ -40,6 +40,7 @@ impl<A: Allocator> Model for Breach<A> {
 }
 
 impl<A: Allocator> Breach<A> {
+    /// Creates the breach with these parts.
     pub(crate) fn new(position: u64, law: Law, line: u64, text: Vec<u8, A>) -> Breach<A>
         ensures { result
             ≡ record { position = position; law = law; line = line; text = text.items } }
@@ -52,28 +53,28 @@ impl<A: Allocator> Breach<A> {
         }
     }
 
-    /// Its place among the happenings, from 0.
+    /// Returns its position among the happenings, counted from 0.
     pub fn position(&self) -> u64
         ensures { result ≡ self.now.position }
     {
         self.position
     }
 
-    /// The least law that it breaks.
+    /// Returns the lowest-numbered law that it breaks.
     pub fn law(&self) -> Law
         ensures { result ≡ self.now.law }
     {
         self.law
     }
 
-    /// The number of its line, from 1.
+    /// Returns the number of its line, counted from 1.
     pub fn line(&self) -> u64
         ensures { result ≡ self.now.line }
     {
         self.line
     }
 
-    /// Its text.
+    /// Returns its text.
     pub fn text(&self) -> &[u8]
         ensures { result.now ≡ self.now.text }
     {

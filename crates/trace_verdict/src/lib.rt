@@ -1,5 +1,5 @@
-//! The verdict on the text of a trace that comes in pieces, as a file is read: one happening at a time, in memory for
-//! what the laws ask of the past and for the happening that isn't whole yet.
+//! Judges the text of a trace that comes in pieces, as when a file is read. It takes one happening at a time, and keeps
+//! in memory only what the laws need to know of the past, and the last happening while it is incomplete.
 #![tactic(auto)]
 
 mod findings;

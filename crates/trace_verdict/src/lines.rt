@@ -1,4 +1,4 @@
-//! How many lines the first happening of a text has.
+//! The number of lines of the first happening of a text.
 
 ghost use Rattle.std.specs.Prelude.{◌≡◌};
 ghost use Rattle.trace_verdict.specs.Fronts.{lines_due, lines_of};
@@ -6,7 +6,7 @@ ghost use Rattle.trace_verdict.specs.Fronts.{lines_due, lines_of};
 use text_lines::cut;
 use trace_text::words::read_use;
 
-/// How many lines the happening has that begins with this one.
+/// Returns the number of lines of the happening that begins with this line.
 fn lines_of(line: &[u8]) -> usize
     ensures { result ≡ lines_of line.now }
 {
@@ -16,7 +16,7 @@ fn lines_of(line: &[u8]) -> usize
     }
 }
 
-/// How many lines the first happening of a text has, as far as its first line says it.
+/// Returns the number of lines of the first happening of a text, as its first line determines it.
 pub(crate) fn lines_due(text: &[u8]) -> usize
     ensures { result ≡ lines_due text.now }
 {

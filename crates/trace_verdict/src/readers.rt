@@ -1,4 +1,4 @@
-//! A reader of happenings over a text that comes in pieces.
+//! Reads happenings from a text that comes in pieces.
 
 ghost use Rattle.std.specs.Prelude.{◌≡◌, ◌≤◌, drop, length, ◌++◌, [], Some, true, OnOk, OnErr, IfOk, IfErr, option_map};
 ghost use Rattle.trace_verdict.specs.Fronts.{is_open, is_unfinished, line_left, size_limit};
@@ -12,19 +12,19 @@ use text_lines::newlines;
 use trace_events::HappeningIn;
 use trace_text::{LINE_LIMIT, ReadFault, first_happening, line_count};
 
-/// A reader of the happenings of a text that comes in pieces. It keeps what it has not read.
+/// A reader of the happenings of a text that comes in pieces. It keeps the part that it has not read yet.
 ///
-/// A happening that isn't whole is tried again once it has as many lines as it says. What is there of it may be as long
-/// as one.
+/// An incomplete happening is tried again when it has as many lines as its first line announces. Its text so far may be
+/// as long as that of a complete one.
 #[derive(Drop)]
 pub struct TextReader<A: Allocator> {
     alloc: A,
     bytes: Vec<u8, A>,
-    /// How many of the bytes are read.
+    /// The number of bytes that were read.
     at: usize,
-    /// How many newlines the others have.
+    /// The number of newlines in the other bytes.
     whole: usize,
-    /// How many they need at least for the next happening.
+    /// A lower bound on the number of newlines that complete the next happening.
     due: usize,
     lines: u64,
 }
@@ -44,7 +44,7 @@ impl<A: Allocator> Model for TextReader<A> {
         × (r.due ≤ lines_due (drop r.at r.bytes.items)) };
 }
 
-/// What stands behind the first so many bytes.
+/// Returns the bytes from position `at` on.
 fn rest_of(bytes: &[u8], at: usize) -> &[u8]
     requires { at ≤ length bytes.now }
     ensures { result.now ≡ drop at bytes.now }
@@ -52,7 +52,7 @@ fn rest_of(bytes: &[u8], at: usize) -> &[u8]
     &bytes[at..]
 }
 
-/// Drops the first so many bytes of a text, and adds the piece. Where nothing is dropped nothing is copied.
+/// Removes the first `at` bytes of a text and appends the piece. If nothing is removed, nothing is copied.
 fn move_on<A: Allocator + Copy>(
     alloc: A,
     bytes: &mut Vec<u8, A>,
@@ -72,7 +72,7 @@ fn move_on<A: Allocator + Copy>(
     Ok(())
 }
 
-/// How many bytes there may be of a happening that isn't whole, with so many newlines.
+/// Returns the maximum length in bytes of an incomplete happening with this number of newlines.
 fn size_limit(newlines: usize) -> usize
     ensures { result ≡ size_limit newlines }
 {
@@ -83,7 +83,7 @@ fn size_limit(newlines: usize) -> usize
 }
 
 impl<A: Allocator + Copy> TextReader<A> {
-    /// A reader of nothing. It takes no memory.
+    /// Creates a reader that has taken nothing. This does not allocate.
     pub fn new(alloc: A) -> TextReader<A>
         ensures { result ≡ record { over = []; lines = 0 } }
     {
@@ -97,14 +97,14 @@ impl<A: Allocator + Copy> TextReader<A> {
         }
     }
 
-    /// How many lines it has read.
+    /// Returns the number of lines read.
     pub fn lines(&self) -> u64
         ensures { result ≡ self.now.lines }
     {
         self.lines
     }
 
-    /// The number of the line at which what it has not read begins; None where it has read all.
+    /// Returns the number of the line at which the unread part begins, or `None` if everything was read.
     pub fn open_line(&self) -> Option<u64>
         ensures { result ≡ option_map capped (line_left self.now.lines self.now.over) }
     {
@@ -127,7 +127,7 @@ impl<A: Allocator + Copy> TextReader<A> {
         Ok(())
     }
 
-    /// A happening that isn't whole is waited for, unless what is there of it is longer than one may be.
+    /// Accepts an incomplete happening, unless its text so far is longer than a happening can be.
     fn wait(&self) -> Result<(), ReadFault>
         requires { is_unfinished self.now.over ≡ true }
         ensures unfinished { OnOk result (is_open self.now.over ≡ true) }
@@ -139,8 +139,8 @@ impl<A: Allocator + Copy> TextReader<A> {
         Err(ReadFault::Line(self.lines.saturating_add(1)))
     }
 
-    /// The next happening, with the length of its text in bytes; None where the text ends within it. Nothing is read
-    /// off.
+    /// Returns the next happening and the length of its text in bytes, or `None` if the text ends within it. The
+    /// happening stays unread.
     pub(crate) fn peek(&mut self) -> Result<Option<(HappeningIn<A>, usize)>, ReadFault>
         ensures same { self.new ≡ self.old }
         ensures next { IfOk result (λ found. IsNext self.old found) }
@@ -163,7 +163,7 @@ impl<A: Allocator + Copy> TextReader<A> {
         Err(ReadFault::Line(self.lines.saturating_add(1)))
     }
 
-    /// Reads off the next happening, with the length of its text.
+    /// Skips the next happening, given with the length of its text.
     pub(crate) fn skip(&mut self, happening: &HappeningIn<A>, size: usize)
         requires { IsNext self.old (Some (happening.now, size)) }
         ensures { ReadsNext self.old self.new (Some happening.now) }
@@ -175,8 +175,8 @@ impl<A: Allocator + Copy> TextReader<A> {
         self.lines = self.lines.saturating_add(lines);
     }
 
-    /// Reads the next happening off; None where the text ends within it. Where none begins, whatever comes, nothing is
-    /// read.
+    /// Reads the next happening, or returns `None` if the text ends within it. If no happening can begin there,
+    /// whatever text follows, that is an error, and nothing is read.
     pub fn next(&mut self) -> Result<Option<HappeningIn<A>>, ReadFault>
         ensures next { IfOk result (λ found. ReadsNext self.old self.new found) }
         ensures none { IfErr result (λ fault.

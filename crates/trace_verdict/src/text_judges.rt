@@ -18,9 +18,9 @@ use trace_check::TraceJudge;
 use trace_events::HappeningIn;
 use trace_text::{ReadFault, print_one};
 
-/// A judge of the text of a trace that comes in pieces, cut anywhere.
+/// A judge of the text of a trace, which comes in pieces cut anywhere.
 ///
-/// A contract sees of it which texts it has taken (`HasTaken`).
+/// A contract sees which texts the judge has taken (`HasTaken`).
 #[derive(Drop)]
 pub struct TextJudge<A: Allocator = Global> {
     alloc: A,
@@ -43,7 +43,7 @@ impl<A: Allocator> Model for TextJudge<A> {
     } };
 }
 
-/// Judges the next happening, as long as none broke a law. Where memory runs out nothing is changed.
+/// Judges the next happening, unless an earlier one broke a law. If memory allocation fails, nothing changes.
 fn judge_next<A: Allocator + Copy>(
     alloc: A,
     judge: &mut TraceJudge<A>,
@@ -69,7 +69,7 @@ fn judge_next<A: Allocator + Copy>(
 }
 
 impl<A: Allocator + Copy> TextJudge<A> {
-    /// A judge that has taken nothing. It takes no memory.
+    /// Creates a judge that has taken nothing. This does not allocate.
     pub fn new(alloc: A) -> TextJudge<A>
         ensures { HasTaken result [] }
     {
@@ -82,7 +82,7 @@ impl<A: Allocator + Copy> TextJudge<A> {
         }
     }
 
-    /// Takes the next piece of the text in, and judges nothing of it yet. Where memory runs out nothing is changed.
+    /// Takes the next piece of the text without judging it yet. If memory allocation fails, nothing changes.
     pub fn feed(&mut self, piece: &[u8]) -> Result<(), Memory>
         ensures ok { OnOk result ((text : List ℕ) → IsAt self.old text
             → IsAt self.new (text ++ piece.now)) }
@@ -95,7 +95,7 @@ impl<A: Allocator + Copy> TextJudge<A> {
         Ok(())
     }
 
-    /// Takes the next happening, if one is whole. Where memory runs out nothing is changed.
+    /// Takes the next happening, if it is complete. If memory allocation fails, nothing changes.
     fn take_next(&mut self) -> Result<bool, Memory>
         ensures goes { IfOk result (λ more. (text : List ℕ) → length text < 2 ^ 64
             → JudgeGoesOn more self.old self.new text) }
@@ -130,7 +130,7 @@ impl<A: Allocator + Copy> TextJudge<A> {
         }
     }
 
-    /// Judges the happenings that are whole. Where memory runs out what isn't judged is kept for the next call.
+    /// Judges all complete happenings. If memory allocation fails, those not judged are kept for the next call.
     pub fn judge(&mut self) -> Result<(), Memory>
         ensures ok { OnOk result ((text : List ℕ) → length text < 2 ^ 64
             → IsAt self.old text → HasTaken self.new text) }
@@ -141,8 +141,8 @@ impl<A: Allocator + Copy> TextJudge<A> {
         Ok(())
     }
 
-    /// Takes the next piece of the text and judges what is whole. Where memory runs out either nothing is taken, as by
-    /// `feed`, or all of the piece is, as by `judge`.
+    /// Takes the next piece of the text and judges all complete happenings. If memory allocation fails, either nothing
+    /// is taken, as by `feed`, or the whole piece is, as by `judge`.
     pub fn take(&mut self, piece: &[u8]) -> Result<(), Memory>
         ensures ok { OnOk result ((text : List ℕ) → length (text ++ piece.now) < 2 ^ 64
             → HasTaken self.old text → HasTaken self.new (text ++ piece.now)) }
@@ -163,8 +163,8 @@ impl<A: Allocator + Copy> TextJudge<A> {
         }
     }
 
-    /// What is found of the text that it has taken, the number of the line, from 1, at which its last happening begins,
-    /// where that isn't finished: it isn't judged; and how many happenings are whole.
+    /// Returns the verdict on the text taken, the number of the line at which its last happening begins if that is
+    /// incomplete, counted from 1, and the number of complete happenings. An incomplete happening is not judged.
     pub fn answer(&self) -> (&Finding<Breach<A>>, Option<u64>, u64)
         ensures { (text : List ℕ) → length text < 2 ^ 64 → HasTaken self.now text
             → Answers text result.0.now result.1 result.2 }

@@ -1,4 +1,4 @@
--- The first entry of all that init waits for.
+-- The first entry of the table that init waits for.
 use Rattle.trace_view.proofs.Words.{◌≡◌, refl, sym, ◌∙◌, ap, ℕ, Bool, true, ◌&&◌, ◌||◌, cond, List, [], ◌∷◌, ◌++◌, find}
 use Rattle.trace_view.proofs.Words.{Option, Some, None, length, arith, list_any, option_or, find-append, Entry, Start}
 use Rattle.trace_view.proofs.Words.{waited_by, same_id, same_id-self, same_id-flip, entry_of, has_id, is_distinct}
@@ -16,13 +16,13 @@ last_in : (id : List ℕ) (front : List Entry) (last : Entry) → same_id id las
 last_in id [] last is = grind arith
 last_in id (x ∷ front) last is = grind (arith, last_in id front last)
 
--- those before the last one are all others
+-- the entries before the last one are all others
 before_last : (front : List Entry) (last : Entry) → is_distinct (front ++ last ∷ []) ≡ true
     → entries_before last.id (front ++ last ∷ []) ≡ front
 before_last [] last distinct = grind (arith, same_id-self, last_in, same_id-flip)
 before_last (x ∷ front) last distinct = grind (arith, before_last front last, same_id-self, last_in, same_id-flip)
 
--- the last one is found by its id
+-- the last entry is found by its id
 pub found_last : (front : List Entry) (last : Entry) → is_distinct (front ++ last ∷ []) ≡ true
     → entry_of last.id (front ++ last ∷ []) ≡ Some last
 found_last [] last distinct = grind (arith, same_id-self, last_in, same_id-flip)

@@ -1,14 +1,15 @@
--- What is kept of a list of children after one more came, those of an id went, or those that are gone are taken away.
+-- How a list of children changes when a child is added, when the children of an id are removed, and when those that are
+-- gone are removed from memory.
 use Rattle.trace_view.proofs.Words.{◌≡◌, refl, sym, ◌∙◌, ap, ℕ, ◌+◌, ◌≤◌, Bool, true, false, not, cond, List, [], ◌∷◌}
 use Rattle.trace_view.proofs.Words.{◌++◌, reverse, find, Some, None, arith, same_id, same_id-is, same_id-flip}
-use Rattle.trace_view.proofs.Words.{same_id-self, Child, is_of, at, append-nil}
+use Rattle.trace_view.proofs.Words.{same_id-self, Child, is_child_of, at, append-nil}
 use Rattle.std.specs.Prelude.{filter, unwrap_or}
 use Rattle.std.proofs.lemmas.List.{reverse-append}
 use Rattle.std.proofs.lemmas.List.Elements.{filter-append}
 use Rattle.trace_view.specs.ChildLists.{IsListed, are_below, stays, staying}
 use Rattle.trace_view.specs.declared.child_lists.Arrival.{Arrival}
 
--- a list in turn, by its first
+-- the reverse of a list
 turned : {X : Type 0} (x : X) (xs : List X) → reverse (x ∷ xs) ≡ reverse xs ++ x ∷ []
 turned x xs = reverse-append (x ∷ []) xs
 
@@ -40,7 +41,7 @@ below_more : (next : ℕ) (xs : List Arrival) → are_below next xs ≡ true →
 below_more next [] h = refl
 below_more next (x ∷ xs) h = grind (arith, below_more next xs)
 
--- those that are gone are taken away
+-- the arrivals that are gone are removed from memory
 pub same_room : (gone : List (List ℕ × ℕ)) (xs ys : List Arrival) → ys ≡ filter (stays gone) xs
     → staying gone (reverse ys) ≡ staying gone (reverse xs)
 same_room gone xs ys is = grind (arith, turned_filter, filtered_twice)
@@ -55,10 +56,10 @@ pub listed_room : (gone : List (List ℕ × ℕ)) (xs ys : List Arrival) (younge
 listed_room gone xs ys youngest next same below listed = record {
   below = below listed.below;
   marks = listed.marks;
-  found = λ id. listed.found id ∙ ap (find (is_of id)) (sym same);
+  found = λ id. listed.found id ∙ ap (find (is_child_of id)) (sym same);
 }
 
--- one more came
+-- a child is added
 stays_new : (gone : List (List ℕ × ℕ)) (child : Child) (next : ℕ) → ((id : List ℕ) → unwrap_or (at id gone) 0 ≤ next)
     → stays gone (record { child = child; number = next }) ≡ true
 stays_new gone child next marks = grind (arith, marks child.id)
@@ -76,19 +77,20 @@ listed_more gone xs before after child next puts listed = record {
   below = grind (arith, below_more next xs listed.below);
   marks = λ id. omega (arith, listed.marks id);
   found = λ id. puts id ∙ ap (cond (same_id id child.id) (Some child)) (listed.found id)
-      ∙ sym (ap (find (is_of id)) (more_staying gone xs child next listed.marks));
+      ∙ sym (ap (find (is_child_of id)) (more_staying gone xs child next listed.marks));
 }
 
--- those of an id went
+-- the children of an id are removed
 pub gone_staying : (id : List ℕ) (next : ℕ) (before after : List (List ℕ × ℕ)) (xs : List Arrival)
     → ((i : List ℕ) → at i after ≡ cond (same_id i id) (Some next) (at i before)) → are_below next xs ≡ true
-    → staying after xs ≡ filter (λ (child : Child). not (is_of id child)) (staying before xs)
+    → staying after xs ≡ filter (λ (child : Child). not (is_child_of id child)) (staying before xs)
 gone_staying id next before after [] puts below = refl
 gone_staying id next before after (x ∷ xs) puts below =
     grind (arith, gone_staying id next before after xs puts, puts x.child.id, same_id-flip)
 
-found_left : (id i : List ℕ) (xs : List Child) → find (is_of i) (filter (λ (child : Child). not (is_of id child)) xs)
-    ≡ cond (same_id i id) None (find (is_of i) xs)
+found_left : (id i : List ℕ) (xs : List Child)
+    → find (is_child_of i) (filter (λ (child : Child). not (is_child_of id child)) xs)
+    ≡ cond (same_id i id) None (find (is_child_of i) xs)
 found_left id i [] = grind arith
 found_left id i (x ∷ xs) = grind (arith, found_left id i xs, same_id-is, same_id-self, same_id-flip)
 
@@ -100,10 +102,10 @@ listed_gone id next before after xs first last puts drops listed = record {
   below = listed.below;
   marks = λ i. grind (arith, puts i, listed.marks i);
   found = λ i. drops i ∙ ap (cond (same_id i id) None) (listed.found i) ∙ sym (found_left id i (staying before xs))
-      ∙ sym (ap (find (is_of i)) (gone_staying id next before after xs puts listed.below));
+      ∙ sym (ap (find (is_child_of i)) (gone_staying id next before after xs puts listed.below));
 }
 
--- one more came, behind which those that are gone were taken away
+-- a child is added after those that are gone may have been removed from memory
 pub listed_push : (gone : List (List ℕ × ℕ)) (xs ys zs : List Arrival) (before same after : List (List ℕ × Child))
     (child : Child) (next then : ℕ) → staying gone (reverse ys) ≡ staying gone (reverse xs)
     → (are_below next (reverse xs) ≡ true → are_below next (reverse ys) ≡ true) → same ≡ before

@@ -1,4 +1,4 @@
--- One happening more: its line, and what is kept of the lines.
+-- The remembered lines after one more happening.
 use Rattle.trace_view.proofs.Words.{◌≡◌, ℕ, ◌+◌, ◌^◌, ◌<◌, ◌≤◌, List, ◌∷◌, length, reverse, Option, None, sym, ap, ◌∙◌}
 use Rattle.trace_view.proofs.Words.{arith, reverse-reverse, newlines, Stage, Event, Entry, table_of, stage_of}
 use Rattle.trace_view.proofs.Words.{trace_text, at, capped, LinesState, Lined, line_after, kinds_of, names, born_in}
@@ -7,7 +7,7 @@ use Rattle.trace_view.proofs.Words.{IsAt}
 use Rattle.trace_view.specs.LastLines.{following_line}
 use Rattle.trace_view.proofs.SeenTexts.{at_none, next_line}
 
--- what is kept, with one happening more
+-- the line remembered for an id, after one more happening
 one_more : (about : Event → Option (List ℕ)) (happening : Event) (past : List Event) (line : ℕ) (id : List ℕ)
     (before after : Option ℕ) → line ≡ following_line past → before ≡ last_of about id past
     → after ≡ line_after (names id (about happening)) line before → after ≡ last_of about id (happening ∷ past)

@@ -1,12 +1,14 @@
--- Nothing keeps an entry back exactly where its start is due.
+-- There is no reason against starting an entry exactly if its start is due.
 use Rattle.trace_view.proofs.Words.{arith, ◌≡◌, refl, sym, ◌∙◌, ap, ℕ, Bool, true, false, not, ◌&&◌, ◌||◌, cond, List}
 use Rattle.trace_view.proofs.Words.{[], ◌∷◌, Option, Some, None, is_none, is_some, list_any, option_map_or, and_parts}
 use Rattle.trace_view.proofs.Words.{not-true, list_any-append, Act, Entry, OrderKind, Start, Stage, wanted_by}
 use Rattle.trace_view.proofs.Words.{is_limited, same_id, same_id-is, and_false, find_none, none_found, entry_of, has_id}
 use Rattle.trace_view.proofs.Words.{is_distinct, Goal, Event, table_of, stage_of, has_child, open_of, kept_children}
-use Rattle.trace_view.proofs.Words.{starts_now, nothing_runs, is_asked, is_called, is_owed, entries_before, hold_times}
-use Rattle.trace_view.proofs.Words.{is_held, is_full, wants_reexec, wants_reread, level_wish, in_run, keeps_news}
-use Rattle.trace_view.proofs.Words.{wish_stands, newest, found_passes, Excluded, Standing, Wish, NoEntry, WindowFull}
+use Rattle.trace_view.proofs.Words.{starts_now, has_no_running_child, is_asked, is_called, is_owed, entries_before}
+use Rattle.trace_view.proofs.Words.{hold_times}
+use Rattle.trace_view.proofs.Words.{is_held, is_full, wants_reexec, wants_reread, level_wish, in_run, are_calls_pending}
+use Rattle.trace_view.proofs.Words.{is_request_pending, newest, found_passes, Excluded, Standing, Wish, NoEntry}
+use Rattle.trace_view.proofs.Words.{WindowFull}
 use Rattle.trace_view.proofs.Words.{Nothing, first_of, first_wish, standing_of, not_here, not_wanted, why_by, why_entry}
 use Rattle.trace_view.proofs.Words.{why, is_nothing}
 use Rattle.trace_events.specs.declared.steps.Step.{Step}
@@ -17,7 +19,7 @@ module _ (id : List ℕ) (past : List Event) where
   abbrev start : Step
   start = Order id Start
 
-  -- the respawn limit lets an entry start
+  -- the respawn limit allows a start of the entry
   abbrev is_let : Entry → Bool
   is_let e = not (is_limited e.act) || not (is_held e.id past) && not (is_full e.id past)
 
@@ -42,7 +44,7 @@ module _ (id : List ℕ) (past : List Event) where
   abbrev may_start : List Entry → Entry → Bool
   may_start es e = can_start e past && is_let e && is_first es
 
-  -- whether no earlier entry is owed, at the id's entry and at another
+  -- whether an earlier entry is owed, at the id's entry and at another one
   first_own : (e : Entry) (es : List Entry) → same_id id e.id ≡ true → is_first (e ∷ es) ≡ true
   first_own e es same = ap (λ b. not (list_any (λ x. is_owed x past) (cond b [] (e ∷ entries_before id es)))) same
 
@@ -165,17 +167,18 @@ nothing_by action stage true None stops booted ran awaited None true named None 
 nothing_by action stage true None stops booted ran awaited None true named None None None (Some hold) full = refl
 nothing_by action stage true None stops booted ran awaited None true named None None None None full = last_of_all full
 
--- a wish stands exactly where there is a first one
-first_stands : (past : List Event) → is_none (first_wish past) ≡ not (wish_stands past)
+-- a request is pending exactly if there is a first pending one
+first_stands : (past : List Event) → is_none (first_wish past) ≡ not (is_request_pending past)
 first_stands past =
-    split (wants_reexec past) (wants_reread past) (level_wish past) (in_run (stage_of past) && keeps_news past) where
-      split : (reexec reread : Bool) (level : Option Goal) (news : Bool)
-          → is_none (first_of reexec reread level news) ≡ not (reexec || reread || is_some level || news)
-      split true reread level news = refl
-      split false true level news = refl
-      split false false (Some level) news = refl
-      split false false None true = refl
-      split false false None false = refl
+    split (wants_reexec past) (wants_reread past) (level_wish past) (in_run (stage_of past) && are_calls_pending past)
+  where
+    split : (reexec reread : Bool) (level : Option Goal) (news : Bool)
+        → is_none (first_of reexec reread level news) ≡ not (reexec || reread || is_some level || news)
+    split true reread level news = refl
+    split false true level news = refl
+    split false false (Some level) news = refl
+    split false false None true = refl
+    split false false None false = refl
 
 -- a hold in force has a time
 held_some : (p : ℕ → Bool) (ts : List ℕ) → list_any p ts ≡ true → is_none (newest ts) ≡ false
@@ -221,7 +224,7 @@ if_any : (p : Step → Bool) (b : Bool) (steps : List Step) → list_any p (step
 if_any p true steps = refl
 if_any p false steps = refl
 
--- of an entry, nothing is the reason exactly where it may start
+-- there is no reason against starting an entry exactly if it may start
 module _ (past : List Event) (e : Entry) where
   abbrev starts : Bool
   starts = starts_now e past
@@ -239,7 +242,7 @@ module _ (past : List Event) (e : Entry) where
   spared = none_excluded past
 
   abbrev calm : Bool
-  calm = not (wish_stands past)
+  calm = not (is_request_pending past)
 
   abbrev limited : Bool
   limited = is_limited e.act
@@ -251,7 +254,7 @@ module _ (past : List Event) (e : Entry) where
   full = is_full e.id past
 
   abbrev asks : Bool
-  asks = wanted_by e.act (nothing_runs e.id past) (not (is_asked e.id past)) (is_called e past)
+  asks = wanted_by e.act (has_no_running_child e.id past) (not (is_asked e.id past)) (is_called e past)
 
   abbrev s : Standing
   s = standing_of e past
@@ -262,20 +265,22 @@ module _ (past : List Event) (e : Entry) where
 pub nothing_due : (id : List ℕ) (past : List Event) → is_distinct (table_of past) ≡ true
     → is_nothing (why id past) ≡ list_any (same_step (Order id Start)) (due_starts past)
 nothing_due id past distinct = split (entry_of id (table_of past)) refl ∙ sym (if_any (same_step (Order id Start))
-    (not (wish_stands past) && none_excluded past) (starts_among (table_of past) past)
-    ∙ ap (λ b. not (wish_stands past) && none_excluded past && b) (among id past (table_of past) distinct)) where
+    (not (is_request_pending past) && none_excluded past) (starts_among (table_of past) past)
+    ∙ ap (λ b. not (is_request_pending past) && none_excluded past && b) (among id past (table_of past) distinct)) where
       table : List Entry
       table = table_of past
 
       split : (o : Option Entry) → entry_of id table ≡ o
-          → is_nothing (option_map_or (λ e. why_entry e past) o NoEntry) ≡ (not (wish_stands past) && none_excluded past
+          → is_nothing (option_map_or (λ e. why_entry e past) o NoEntry)
+          ≡ (not (is_request_pending past) && none_excluded past
           && option_map_or (may_start id past table) (entry_of id table) false)
-      split None is = sym (ap (λ o. not (wish_stands past) && none_excluded past
+      split None is = sym (ap (λ o. not (is_request_pending past) && none_excluded past
           && option_map_or (may_start id past table) o false) is
-          ∙ and_false (not (wish_stands past) && none_excluded past))
+          ∙ and_false (not (is_request_pending past) && none_excluded past))
       split (Some e) is =
           by_entry past e
-          ∙ ap (λ i. not (wish_stands past) && none_excluded past && may_start i past table e)
+          ∙ ap (λ i. not (is_request_pending past) && none_excluded past && may_start i past table e)
           (sym (same_id-is id e.id (found_passes (has_id id) table e is)))
           ∙ sym
-          (ap (λ o. not (wish_stands past) && none_excluded past && option_map_or (may_start id past table) o false) is)
+          (ap (λ o. not (is_request_pending past) && none_excluded past
+          && option_map_or (may_start id past table) o false) is)

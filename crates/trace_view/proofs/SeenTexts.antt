@@ -1,4 +1,4 @@
--- One happening more, and a piece more.
+-- How a view of a text changes with one more happening, and with one more piece of text.
 use Rattle.trace_view.proofs.Words.{◌≡◌, ◌==◌, ◌||◌, not, ℕ, ◌+◌, ◌^◌, ◌<◌, ◌≤◌, Bool, true, false, List, [], ◌∷◌, ◌++◌}
 use Rattle.trace_view.proofs.Words.{length, reverse, Option, Some, None, append-nil, refl, sym, ap, ◌∙◌, subst, arith}
 use Rattle.trace_view.proofs.Words.{eqb-true, append_assoc, newlines, Event, event_text, trace_text, trace_text-push}
@@ -17,13 +17,13 @@ use Rattle.trace_verdict.proofs.Fronts.{never_some}
 use Rattle.trace_view.specs.declared.text_views.ViewEnd.{ViewEnd}
 use Rattle.trace_view.specs.declared.text_views.ViewEnd.TheVariants.{Breach, Torn, Within}
 
--- the text of a trace with one happening more
+-- the text of a trace with one more happening
 whole_next : (reading new : Reading) (viewing : ViewState) (trace : List Event) (text : List ℕ) (h : Event) → HasSeen
     reading viewing trace text → ReadsNext reading new (Some h) → trace_text (trace ++ h ∷ []) ++ new.over ≡ text
 whole_next reading new viewing trace text h seen next = ap (λ t. t ++ new.over) (trace_text-push trace h)
     ∙ append_assoc (trace_text trace) (event_text h) new.over ∙ ap (λ t. trace_text trace ++ t) next.1 ∙ seen.whole
 
--- a run goes on, or begins with an inittab
+-- a trace that begins with a table still does after one more happening, and its first happening is a table
 begins_push : (trace : List Event) (h : Event) (line : ℕ) → line ≡ newlines (trace_text trace) + 1
     → may_be line h ≡ true → begins_run trace ≡ true → begins_run (trace ++ h ∷ []) ≡ true
 begins_push trace h line is may begins = grind arith
@@ -76,7 +76,7 @@ breach_here reading new viewing trace text h law line small seen next is broke =
       ∙ next_line reading viewing trace text small seen (omega (arith, shorter h new.over reading.over next.0 next.1));
 }
 
--- the number of the line of what was read
+-- the number of the line of the happening that was read
 line_of : (reading new : Reading) (viewing : ViewState) (trace : List Event) (text : List ℕ) (h : Event) (line : ℕ)
     → length text < 2 ^ 64 → HasSeen reading viewing trace text → ReadsNext reading new (Some h)
     → line ≡ capped (reading.lines + 1) → line ≡ newlines (trace_text trace) + 1
@@ -109,7 +109,7 @@ seen_goes None reading new viewing later trace text h line is small next sees at
     viewing trace text h line small seen next at) sees.0 seen.begins) (sees.1 (reverse trace) seen.seen)
 seen_goes (Some stop) reading new viewing later trace text h line is small next sees at seen = absurd (cc)
 
--- a happening at which it stops is not seen
+-- a happening at which the view ends is not seen
 stops_here : (stop : Option ViewEnd) (why : ViewEnd) (reading new : Reading) (viewing later : ViewState)
     (trace : List Event) (text : List ℕ) (h : Event) (line : ℕ) → stop ≡ Some why → length text < 2 ^ 64
     → ReadsNext reading new (Some h) → SeesStop stop viewing later h line → line ≡ capped (reading.lines + 1) → HasSeen
@@ -130,7 +130,7 @@ stops_here (Some Within) why reading new viewing later trace text h line is smal
   seen = subst (λ v. Viewed v (reverse trace)) (sym sees.0) seen.seen;
 }
 
--- by cases of whether it stopped
+-- whether the view has ended, case by case
 pub at_none : (stop : Option ViewEnd) (state : TextState) (trace : List Event) (text : List ℕ) → stop ≡ None
     → AtBy stop state trace text → HasSeen state.reading state.viewing trace text
 at_none stop state trace text is at = grind arith
@@ -165,7 +165,7 @@ torn_here reading viewing trace text number small is none seen = record {
   seen = seen.seen;
 }
 
--- behind the line at which it stopped the text may go on
+-- more text may follow the line at which the view ended
 pub stops_more : (stop : ViewEnd) (trace : List Event) (text piece : List ℕ) → StopsAt stop trace text
     → StopsAt stop trace (text ++ piece)
 stops_more (Breach law line) trace text piece stops = record {
@@ -210,7 +210,7 @@ still_stopped (Some stop) state trace text piece why is taken = record {
 }
 still_stopped None state trace text piece why is taken = absurd (cc)
 
--- what it has seen
+-- the trace that the view has seen
 pub seen_at : (stop : Option ViewEnd) (state : TextState) (trace : List Event) (text : List ℕ)
     → AtBy stop state trace text → Viewed state.viewing (reverse trace)
 seen_at stop state trace text at = grind arith

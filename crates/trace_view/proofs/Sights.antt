@@ -1,4 +1,4 @@
--- One happening more is seen by the view and by what else sees it, or all is taken.
+-- One more happening is seen by the view and by the other observer, or the whole text is taken.
 use Rattle.trace_view.proofs.Words.{◌≡◌, ℕ, ◌+◌, ◌^◌, ◌<◌, ◌≤◌, List, [], ◌∷◌, ◌++◌, length, reverse, Option, Some}
 use Rattle.trace_view.proofs.Words.{None, sym, subst, arith, Stage, Event, stage_of, capped, past_push, following_line}
 use Rattle.trace_view.proofs.Words.{HasSeenText, IsSeeing, Viewed, TextState, ViewGoesOn, IsAt}

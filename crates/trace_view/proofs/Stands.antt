@@ -1,7 +1,7 @@
--- What a view says of an entry is what the past says.
+-- What a view reports about an entry is what the past says.
 use Rattle.trace_view.proofs.Words.{arith, ◌≡◌, refl, sym, ◌∙◌, ap, ℕ, Bool, true, false, ◌||◌, ◌&&◌, cond, List, find}
 use Rattle.trace_view.proofs.Words.{Option, Some, None, option_map_or, Act, Entry, OrderKind, Stage, is_limited}
-use Rattle.trace_view.proofs.Words.{entry_of, has_id, act_of, same_id-is, Event, table_of, stage_of, Child, is_of}
+use Rattle.trace_view.proofs.Words.{entry_of, has_id, act_of, same_id-is, Event, table_of, stage_of, Child, is_child_of}
 use Rattle.trace_view.proofs.Words.{kept_children, open_of, starts_now, is_wanted, is_excluded, was_booted, hold_times}
 use Rattle.trace_view.proofs.Words.{is_held, is_full, newest, child_of, term_of, found_passes, Excluded, NoEntry}
 use Rattle.trace_view.proofs.Words.{ChildKept, births_of, ran_early, was_named, ended_of, row_of, Wish, Wishes}
@@ -26,17 +26,17 @@ six false false false false false false = refl
 pub first_is : (w : Wishes) (past : List Event) → w ≡ wishes_of past → first_wish_in (stage_of past) w ≡ first_wish past
 first_is w past is = grind arith
 
--- the entry of an id is found for its own id
+-- the entry of an id is found by its own id
 pub found_own : (id : List ℕ) (table : List Entry) (e : Entry) → entry_of id table ≡ Some e
     → entry_of e.id table ≡ Some e
 found_own id table e is =
     ap (λ i. entry_of i table) (sym (same_id-is id e.id (found_passes (has_id id) table e is))) ∙ is
 
--- the standing of an entry by its parts
+-- the state of an entry, field by field
 pub stands : (e : Entry) (past : List Event) (starts : Bool) (child : Option ℕ) (stops booted ran : Bool)
     (awaited : Option (List ℕ)) (order : Option OrderKind) (wanted named : Bool) (owed : Option (List ℕ))
     (excluded : Option Excluded) (wish : Option Wish) (hold : Option ℕ) (full : Bool) → starts ≡ starts_now e past
-    → child ≡ option_map number_of (find (is_of e.id) (kept_children past)) → stops ≡ stops_now e.id past
+    → child ≡ option_map number_of (find (is_child_of e.id) (kept_children past)) → stops ≡ stops_now e.id past
     → booted ≡ was_booted past → ran ≡ ran_early e past → awaited ≡ option_map entry_id (first_awaited past)
     → order ≡ open_of e.id past → wanted ≡ is_wanted e past → named ≡ was_named e past → owed ≡ option_map entry_id
     (first_owed e.id past) → excluded ≡ option_map excluded_as (find (is_excluded past) (kept_children past))
@@ -60,7 +60,7 @@ pub stands : (e : Entry) (past : List Event) (starts : Bool) (child : Option ℕ
 stands e past starts child stops booted ran awaited order wanted named owed excluded wish hold full e1 e2 e3 e4 e5 e6 e7
     e8 e9 e10 e11 e12 e13 e14 = rw (e1, e2, e3, e4, e5, e6, e7, e8, e9, e10, e11, e12, e13, e14) refl
 
--- the child that may not live, by a table and a stage that are in force
+-- the excluded child, by the table and the stage in force
 pub excluded_is : (table : List Entry) (stage : Option Stage) (kept : List Child) (past : List Event)
     → table ≡ table_of past → stage ≡ stage_of past → kept ≡ kept_children past → option_map excluded_as
     (find (is_excluded_by table stage) kept) ≡ option_map excluded_as (find (is_excluded past) (kept_children past))
@@ -79,13 +79,13 @@ pub full_is : (limited full : Bool) (e : Entry) (past : List Event) → limited 
     → full ≡ is_full e.id past → (limited && full) ≡ (is_limited e.act && is_full e.id past)
 full_is limited full e past limits fulls = ap (λ b. b && full) limits ∙ ap (λ b. is_limited e.act && b) fulls
 
--- an entry that starts in the stage, and whose child lives on, isn't started for that
+-- an entry that starts in the stage and has a child is not started for that reason
 pub kept_here : (e : Entry) (past : List Event) (starts : Bool) (kept : Option ℕ) (child : ℕ)
-    → starts ≡ starts_now e past → kept ≡ option_map number_of (find (is_of e.id) (kept_children past))
+    → starts ≡ starts_now e past → kept ≡ option_map number_of (find (is_child_of e.id) (kept_children past))
     → Some child ≡ cond starts kept None → ChildKept child ≡ why_entry e past
 kept_here e past starts kept child on is some = grind arith
 
--- why an id isn't started, by its entry
+-- the reason for an id is that for its entry
 pub why_found : (id : List ℕ) (past : List Event) (e : Entry) → entry_of id (table_of past) ≡ Some e
     → why_entry e past ≡ why id past
 why_found id past e found = sym (ap (λ o. option_map_or (λ x. why_entry x past) o NoEntry) found)
@@ -93,13 +93,13 @@ why_found id past e found = sym (ap (λ o. option_map_or (λ x. why_entry x past
 pub why_none : (id : List ℕ) (past : List Event) → entry_of id (table_of past) ≡ None → NoEntry ≡ why id past
 why_none id past none = sym (ap (λ o. option_map_or (λ x. why_entry x past) o NoEntry) none)
 
--- whether a child may not live, by a table and a stage that are in force
+-- whether a child is excluded, by the table and the stage in force
 pub lives_not : (id : List ℕ) (table : List Entry) (stage : Option Stage) (some children : List Child) (past : List
     Event) → table ≡ table_of past → stage ≡ stage_of past → some ≡ children → option_map_or (is_excluded_by table
-    stage) (find (is_of id) some) false ≡ option_map_or (is_excluded past) (find (is_of id) children) false
+    stage) (find (is_child_of id) some) false ≡ option_map_or (is_excluded past) (find (is_child_of id) children) false
 lives_not id table stage some children past tables stages is = grind arith
 
--- what is told of an id by its parts
+-- what is reported about an id, field by field
 pub rows : (id : List ℕ) (past : List Event) (act : Option Act) (why_not : Why) (child : Option ℕ) (excluded : Bool)
     (births : Option Births) (order : Option OrderKind) (term : Option ℕ) (last : Option Ending)
     → act ≡ act_of id (table_of past) → why_not ≡ why id past → child ≡ option_map number_of (child_of id past)

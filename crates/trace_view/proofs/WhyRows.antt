@@ -1,4 +1,4 @@
--- Entries of sound pasts and why each isn't started next, worked: `refl` computes them.
+-- Worked examples: entries in sound pasts, and why each is not started next, checked by computation (`refl`).
 use Rattle.trace_view.proofs.Words.{◌≡◌, refl, ℕ, true, List, [], ◌∷◌, ◌++◌, codes, Some, Entry, Act, Start, Look, Term}
 use Rattle.trace_view.proofs.Words.{Goal, Event, RanBefore, StageOver, OtherStage, ChildKept, NotCalled, WasStarted}
 use Rattle.trace_view.proofs.Words.{line_at_fault, following_line, why}
@@ -22,14 +22,14 @@ entry id levels action =
 abbrev opening : Level → Goal
 opening l = record { level = l; grace = 5 }
 
--- an order, its act, and that it is told
+-- an order, its act, and its `told`
 abbrev started : List ℕ → ℕ → List Event
 started id n = Told id ∷ Birth id n ∷ Asked id Start ∷ []
 
 abbrev ended : List ℕ → ℕ → List Event
 ended id n = Told id ∷ Reaped id n (Exit 0) ∷ Death n ∷ Asked id Look ∷ Nudge ∷ []
 
--- a power entry in level 3: news of the power calls it, and its child ends
+-- a power entry in level 3: a power event calls it, and its child ends
 abbrev powered : List Event
 powered = Enter (Run level.L3) 5 ∷ Enter Boot 5 ∷ Enter Sysinit 5
     ∷ NewTable (entry (codes "p") (At level.L3 ∷ []) act.Powerfail ∷ []) ∷ []
@@ -46,13 +46,13 @@ powered-not_called = refl
 called-was_started : why (codes "p") called ≡ WasStarted
 called-was_started = refl
 
--- behind a table read again nothing has called it
+-- after a table was read again, nothing has called it
 read_again-not_called : why (codes "p")
     (NewTable (entry (codes "p") (At level.L3 ∷ []) act.Powerfail ∷ []) ∷ Got got.Reload ∷ called) ≡ NotCalled
 read_again-not_called = refl
 
--- a boot entry in level S, on the way to which Boot is passed by; and behind a request for level 3, which goes
--- through it
+-- a boot entry in level S, on the way to which Boot is skipped; then after a request for level 3, which goes through
+-- Boot
 abbrev booting : List Entry
 booting = entry (codes "b") [] act.Boot ∷ []
 
@@ -68,14 +68,14 @@ single-to_come = refl
 booted-sound : is_sound (opening level.S) (Enter (Run level.L3) 5 ∷ booted) ≡ true
 booted-sound = refl
 
--- its child lives on in the level; when it has ended, it ran
+-- its child lives on in the level; after the child has ended, the entry ran before
 booted-lives : why (codes "b") (Enter (Run level.L3) 5 ∷ booted) ≡ ChildKept 1
 booted-lives = refl
 
 booted-ran : why (codes "b") (ended (codes "b") 1 ++ Enter (Run level.L3) 5 ∷ booted) ≡ RanBefore
 booted-ran = refl
 
--- its line became boot's in the level, where it ran with another action: as boot's it never ran
+-- its line was given the action boot in the level, where it ran with another action: with boot it never ran
 abbrev respawned : List Event
 respawned = Told (codes "x") ∷ Hit (codes "x") ∷ Asked (codes "x") Term ∷ NewTable (entry (codes "x") [] act.Boot ∷ [])
     ∷ Got got.Reload ∷ started (codes "x") 1 ++ Enter (Run level.L3) 5 ∷ Enter Boot 5 ∷ Enter Sysinit 5
@@ -90,7 +90,7 @@ respawned-over = refl
 ended-over : why (codes "x") (ended (codes "x") 1 ++ respawned) ≡ StageOver
 ended-over = refl
 
--- where it was boot's before that, it ran then, and the line is that of its birth then
+-- if it had the action boot before that, it ran then, and the line is that of its birth then
 abbrev twice : List Event
 twice = NewTable booting ∷ Got got.Reload ∷ ended (codes "b") 2 ++ started (codes "b") 2 ++ NewTable (entry (codes "b")
     (At level.L3 ∷ []) act.Respawn ∷ []) ∷ Got got.Reload ∷ ended (codes "b") 1 ++ Enter (Run level.L3) 5 ∷ booted

@@ -1,4 +1,4 @@
--- The words of the proofs of this crate.
+-- Names that all proofs of this crate import.
 pub use Rattle.std.proofs.Common.{◌≡◌, refl, sym, ◌∙◌, ap, ℕ, Bool, true, ◌&&◌, ◌||◌, cond, List, [], ◌∷◌, ◌++◌, find}
 pub use Rattle.std.proofs.Common.{Option, Some, None, length, arith, ◌+◌, ◌^◌, ◌<◌, ◌≤◌, reverse, false, not, is_none}
 pub use Rattle.std.proofs.Common.{is_some, ◌==◌, append-nil, subst, codes, rules, option_copied}
@@ -13,8 +13,9 @@ pub use Rattle.init_words.proofs.Same.{same_id-self, same_id-flip, same_id-is}
 pub use Rattle.inittab_text.specs.Tables.{entry_of, has_id, is_distinct, act_of}
 pub use Rattle.trace_events.specs.Event.{Event}
 pub use Rattle.trace_events.specs.Past.{has_child, kept_children, open_of, table_of, stage_of, time_of}
-pub use Rattle.trace_events.specs.Past.{unreaped_children, Child, is_of, is_child}
-pub use Rattle.trace_events.specs.Wanted.{entries_before, is_order, is_owed, is_wanted, starts_now, nothing_runs}
+pub use Rattle.trace_events.specs.Past.{unreaped_children, Child, is_child_of, is_child}
+pub use Rattle.trace_events.specs.Wanted.{entries_before, is_order, is_owed, is_wanted, starts_now}
+pub use Rattle.trace_events.specs.Wanted.{has_no_running_child}
 pub use Rattle.trace_events.specs.Wanted.{is_asked, is_called, is_excluded, starts_in}
 pub use Rattle.trace_view.specs.Why.{entry_id, first_awaited, standing_of, not_here, not_wanted, why_by, why_entry, why}
 pub use Rattle.trace_view.specs.Why.{is_nothing, number_of, excluded_as, first_owed, stops_now}
@@ -35,7 +36,8 @@ pub use Rattle.init_words.specs.declared.orders.OrderKind.{OrderKind}
 pub use Rattle.init_words.proofs.Tests.{and_false, find_none, none_found, found_any}
 pub use Rattle.trace_events.specs.declared.steps.Goal.{Goal}
 pub use Rattle.trace_events.specs.Timing.{hold_times, is_held, is_full}
-pub use Rattle.trace_events.specs.Wishes.{wants_reexec, wants_reread, level_wish, in_run, keeps_news, wish_stands}
+pub use Rattle.trace_events.specs.Wishes.{wants_reexec, wants_reread, level_wish, in_run, are_calls_pending}
+pub use Rattle.trace_events.specs.Wishes.{is_request_pending}
 pub use Rattle.trace_events.specs.Wishes.{was_booted}
 pub use Rattle.trace_check.specs.Reading.{newest, child_of, term_of}
 pub use Rattle.trace_check.proofs.Lone.{found_passes}
@@ -45,7 +47,7 @@ pub use Rattle.trace_view.specs.declared.wishes.Wish.{Wish}
 pub use Rattle.trace_view.specs.declared.whys.Why.TheVariants.{NoEntry, WindowFull, Nothing, RanBefore, StageOver}
 pub use Rattle.trace_view.specs.declared.whys.Why.TheVariants.{OtherStage, ChildKept, NotCalled, WasStarted}
 pub use Rattle.trace_view.specs.Wishes.{first_of, first_wish, wishes_of, first_wish_in}
-pub use Rattle.trace_check.specs.Judging.{Judged, TakesNext}
+pub use Rattle.trace_check.specs.Judging.{Judged, JudgeAfterHappening}
 pub use Rattle.trace_view.specs.Births.{births_of, early_children, ran_early, is_born_as}
 pub use Rattle.trace_view.specs.Calls.{calls_of, was_named, is_named_by}
 pub use Rattle.trace_view.specs.Rows.{ended_of, row_of, complete_in}

@@ -1,4 +1,4 @@
--- Which entries news of the power or a letter named since the last Enter and the last table (init(8), telinit(8)).
+-- The entries that a power event or a letter named since the last Enter and the last table; see init(8) and telinit(8).
 use Rattle.std.specs.Prelude.{Bool, false, ◌&&◌, ◌||◌, List, [], ◌∷◌}
 use Rattle.trace_view.specs.Words.{Entry, Letter, PowerKind, is_called_by, is_ondemand, same_letter, same_power}
 use Rattle.trace_view.specs.Words.{NewTable, Enter, Call, Power, Event}
@@ -8,7 +8,7 @@ use Rattle.init_words.specs.declared.orders.PowerKind.TheVariants as power
 use Rattle.init_words.specs.Levels.{names}
 use Rattle.trace_events.specs.declared.call_sets.CallSet.{CallSet}
 
--- entries were called for this news
+-- entries were called for this power event
 abbrev pub is_called_for : PowerKind → List Event → Bool
 is_called_for kind [] = false
 is_called_for kind (Enter stage grace ∷ past) = false
@@ -24,6 +24,7 @@ is_lettered letter (NewTable table ∷ past) = false
 is_lettered letter (Call l ∷ past) = same_letter letter l || is_lettered letter past
 is_lettered letter (_ ∷ past) = is_lettered letter past
 
+-- the power events and letters that called entries
 abbrev pub calls_of : List Event → CallSet
 calls_of past = record {
   fail = is_called_for power.Fail past;
@@ -34,7 +35,8 @@ calls_of past = record {
   c = is_lettered letter.C past;
 }
 
--- one of them named the entry: it is called for the news, or has the letter among its runlevels
+-- one of the calls names the entry: its action is called for that power event, or it is ondemand and has the letter
+-- among its runlevels
 abbrev pub is_named_by : Entry → CallSet → Bool
 is_named_by e calls =
     is_called_by power.Fail e.act && calls.fail || (is_called_by power.FailNow e.act && calls.fail_now
@@ -42,5 +44,6 @@ is_named_by e calls =
     && (names (OnCall letter.A) e.levels.items && calls.a || (names (OnCall letter.B) e.levels.items && calls.b
     || names (OnCall letter.C) e.levels.items && calls.c))))
 
+-- one of the calls of the past names the entry
 abbrev pub was_named : Entry → List Event → Bool
 was_named e past = is_named_by e (calls_of past)

@@ -1,6 +1,6 @@
--- The lines of a trace's text at which its last happenings of each kind begin, and the line at fault where an entry
--- isn't started. A line is counted from 1, and a happening is one line, but for a table, whose entries have one each
--- behind it.
+-- The lines of a trace's text at which the last happenings of each kind begin, and the line that explains why an entry
+-- is not started. Lines are counted from 1. A happening has one line, except a table, which has one more for each
+-- entry.
 use Rattle.std.specs.Prelude.{◌≡◌, ℕ, ◌+◌, Bool, true, false, not, max, if◌then◌else◌, List, [], ◌∷◌, reverse, Option}
 use Rattle.std.specs.Prelude.{Some, None}
 use Rattle.trace_view.specs.Words.{newlines, Entry, Stage, same_id, NewTable, Enter, Asked, Hold, Birth, NoBirth}
@@ -14,11 +14,11 @@ use Rattle.trace_view.specs.declared.last_lines.KindLines.{KindLines}
 use Rattle.trace_view.specs.Births.{is_early}
 use Rattle.trace_view.specs.Viewing.{newborn_in}
 
--- the line at which the next happening begins, behind what happened so far
+-- the line at which the next happening will begin
 unfoldable pub following_line : List Event → ℕ
 following_line past = newlines (trace_text (reverse past)) + 1
 
--- a line, where it is so; else what was there before
+-- this line if the condition holds, otherwise the earlier one
 abbrev pub line_after : Bool → ℕ → Option ℕ → Option ℕ
 line_after so line before = if so then Some line else before
 
@@ -31,66 +31,76 @@ abbrev pub is_table : Event → Bool
 is_table (NewTable table) = true
 is_table _ = false
 
+-- a stage begins
 abbrev pub is_entering : Event → Bool
 is_entering (Enter stage grace) = true
 is_entering _ = false
 
+-- a re-execution is requested
 abbrev pub is_reexec : Event → Bool
 is_reexec (Got got.Reexec) = true
 is_reexec _ = false
 
+-- a level is requested
 abbrev pub is_goal : Event → Bool
 is_goal (Got (got.Level level grace)) = true
 is_goal _ = false
 
+-- entries are to be called by a letter or for a power event
 abbrev pub is_news : Event → Bool
 is_news (Got (got.Call letter)) = true
 is_news (Got (got.Power kind)) = true
 is_news _ = false
 
--- a request to read inittab again: one for that, or for a level that isn't in force
+-- a request after which inittab is read again: a reload, or a request for a level that is not in force
 abbrev pub is_reread : Option Stage → Event → Bool
 is_reread stage (Got got.Reload) = true
 is_reread stage (Got (got.Level level grace)) = not (is_level level stage)
 is_reread stage _ = false
 
+-- the line of the last such request
 abbrev pub reread_line : List Event → Option ℕ
 reread_line [] = None
 reread_line (happening ∷ past) =
     line_after (is_reread (stage_of past) happening) (following_line past) (reread_line past)
 
--- the id whose child was born, whose start failed, whose child was reaped, about which an order was given, that is held
+-- the id whose child was born
 abbrev pub born_in : Event → Option (List ℕ)
 born_in (Birth id number) = Some id
 born_in _ = None
 
+-- the id whose start failed
 abbrev pub unborn_in : Event → Option (List ℕ)
 unborn_in (NoBirth id) = Some id
 unborn_in _ = None
 
+-- the id whose child was reaped
 abbrev pub reaped_in : Event → Option (List ℕ)
 reaped_in (Reaped id number status) = Some id
 reaped_in _ = None
 
+-- the id for which an order was given
 abbrev pub ordered_in : Event → Option (List ℕ)
 ordered_in (Asked id ask) = Some id
 ordered_in _ = None
 
+-- the id that is held
 abbrev pub held_in : Event → Option (List ℕ)
 held_in (Hold id) = Some id
 held_in _ = None
 
+-- the happening concerns this id
 abbrev pub names : List ℕ → Option (List ℕ) → Bool
 names id None = false
 names id (Some other) = same_id id other
 
--- the line at which the last happening of the id begins, of those that are about an id so
+-- the line at which the last happening of a kind that concerns the id begins
 abbrev pub last_of : (Event → Option (List ℕ)) → List ℕ → List Event → Option ℕ
 last_of about id [] = None
 last_of about id (happening ∷ past) =
     line_after (names id (about happening)) (following_line past) (last_of about id past)
 
--- the id whose child was born before the first level, by the table in force
+-- the id whose child was born before the first level, according to this table
 abbrev pub early_in : List Entry → Event → Option (List ℕ)
 early_in table (Birth id number) = if is_early (newborn_in table id number) then Some id else None
 early_in table _ = None
@@ -107,17 +117,19 @@ later None line = line
 later (Some line) None = Some line
 later (Some line) (Some other) = Some (max line other)
 
--- of a request that stands: the last one of its kind
+-- the line of a pending request, which is the last one of its kind
 abbrev pub wish_line : Wish → List Event → Option ℕ
 wish_line wish.Reexec past = last_line is_reexec past
 wish_line wish.Reread past = reread_line past
 wish_line (wish.Level level) past = last_line is_goal past
 wish_line wish.News past = last_line is_news past
 
--- the line at fault for each reason that has one: the table in force; its birth before the first level; the stage in
--- force; the birth of its child, or the reaping, where that is later; the open order; since when it wasn't called;
--- its last start; the birth of the child that is waited for, or the stage, where that is later; the birth of the
--- child that has to end; the request; the hold
+-- The line that explains each reason, if there is one. For a missing entry or an action that is never started, it is
+-- the table in force; for an entry of another stage, the stage in force, or its birth before the first level. For a
+-- child, it is its birth, or the last reaping of the id if that is later; for an open order, that order; for an entry
+-- that was not called, the last stage or table; for one that was started, or started too often, its last start. For an
+-- entry that init waits for, it is the birth of its child, or the stage if that is later; for an excluded child, its
+-- birth; for a request or a hold, the request or the hold.
 abbrev pub line_at_fault : List ℕ → Why → List Event → Option ℕ
 line_at_fault id why.NoEntry past = last_line is_table past
 line_at_fault id why.NeverStarts past = last_line is_table past
@@ -137,7 +149,7 @@ line_at_fault id (why.Held since) past = last_of held_in id past
 line_at_fault id why.WindowFull past = later (last_of born_in id past) (last_of unborn_in id past)
 line_at_fault id why.Nothing past = None
 
--- the lines of the kinds that are about no id, as the past has them
+-- the lines of the happenings that do not concern an id
 abbrev pub kinds_of : List Event → KindLines
 kinds_of past = record {
   table = last_line is_table past;
@@ -148,7 +160,7 @@ kinds_of past = record {
   news = last_line is_news past;
 }
 
--- what is kept of the lines
+-- the lines that are remembered: those that do not concern an id, and one per id for each other kind
 pub record LinesState : Type 0 where
   pub kinds : KindLines
   pub births : List (List ℕ × ℕ)
@@ -158,7 +170,7 @@ pub record LinesState : Type 0 where
   pub orders : List (List ℕ × ℕ)
   pub holds : List (List ℕ × ℕ)
 
--- the lines are those of this past, the newest happening first
+-- the lines are right for this past, newest happening first
 pub record Lined (lines : LinesState) (past : List Event) : Type 0 where
   pub kinds : lines.kinds ≡ kinds_of past
   pub births : (id : List ℕ) → at id lines.births ≡ last_of born_in id past

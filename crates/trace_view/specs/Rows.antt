@@ -1,4 +1,4 @@
--- What is told of an id: its action, why it isn't started next, its child, and how it last ended.
+-- What is reported about an id: its action, why it is not started next, its child, and how it last ended.
 use Rattle.std.specs.Prelude.{ℕ, Bool, if◌then◌else◌, false, List, [], ◌∷◌, map, filter, Option, Some, None, is_none}
 use Rattle.std.specs.Option.{option_map, option_map_or}
 use Rattle.trace_view.specs.Words.{Entry, Stage, Run, same_id, entry_of, act_of, NoBirth, Reaped, Event, table_of}
@@ -10,10 +10,11 @@ use Rattle.trace_view.specs.declared.rows.Ending.{Ending}
 use Rattle.trace_view.specs.declared.rows.Row.{Row}
 use Rattle.trace_view.specs.Why.{number_of, why}
 
--- how the id last ended, and when: a start that failed, or the status with which its child was reaped
+-- the end of an id at this time: with this status, or by a start that failed
 abbrev pub ended_at : ℕ → Option Status → Option Ending
 ended_at time status = Some (record { status = status; time = time })
 
+-- how the id last ended, and when; none if it never did
 abbrev pub ended_of : List ℕ → List Event → Option Ending
 ended_of id [] = None
 ended_of id (NoBirth i ∷ past) = if same_id id i then ended_at (time_of past) None else ended_of id past
@@ -21,15 +22,16 @@ ended_of id (Reaped i number status ∷ past) =
     if same_id id i then ended_at (time_of past) (Some status) else ended_of id past
 ended_of id (_ ∷ past) = ended_of id past
 
--- the stage in force is a level that could be announced settled at this moment: nothing is owed in it
+-- the stage is a level that could be announced settled at this moment, by the unreaped children
 abbrev pub complete_in : Option Stage → List Event → Bool
 complete_in (Some (Run level)) past = is_settled level (unreaped_children past) past
 complete_in _ past = false
 
+-- the stage in force is a level that could be announced settled at this moment
 abbrev pub is_complete_now : List Event → Bool
 is_complete_now past = complete_in (stage_of past) past
 
--- what is told of it
+-- what is reported about the id
 abbrev pub row_of : List ℕ → List Event → Row
 row_of id past = record {
   act = act_of id (table_of past);
@@ -42,12 +44,13 @@ row_of id past = record {
   last = ended_of id past;
 }
 
--- the ids of the children that a table has no entry for
+-- the table has no entry for the child
 abbrev pub is_gone : List Entry → Child → Bool
 is_gone table child = is_none (entry_of child.id table)
 
 abbrev pub id_of : Child → List ℕ
 id_of child = child.id
 
+-- the ids of the children for which the table has no entry
 abbrev pub gone_ids : List Entry → List Child → List (List ℕ)
 gone_ids table children = map id_of (filter (is_gone table) children)

@@ -1,4 +1,5 @@
--- The text of a trace that comes in pieces, beside what else sees its happenings, and the texts that they have taken.
+-- A view of a text that comes in pieces, together with another observer of its happenings, and the texts that both have
+-- taken.
 use Rattle.std.specs.Prelude.{ℕ, Bool, true, false, List, reverse, Option}
 use Rattle.trace_view.specs.Words.{Event}
 use Rattle.trace_view.specs.Viewing.{ViewState, Viewed}
@@ -6,24 +7,25 @@ use Rattle.trace_view.specs.declared.text_views.ViewEnd.{ViewEnd}
 use Rattle.trace_view.specs.Shown.{IsShown}
 use Rattle.trace_view.specs.Views.{TextState, HasShown, IsAt}
 
--- the view of the text, and what else has seen it
+-- the view of the text, and the other observer
 pub record SeenState (S : Type 0) : Type 0 where
   pub viewing : TextState
   pub seen : S
 
--- they are at work on the text, or have taken it: one trace is what both have seen
+-- the view is at work on the text, and both have seen the same trace of it
 abbrev pub IsSeeing : {S : Type 0} → (S → List Event → Type 0) → SeenState S → List ℕ → Type 0
 IsSeeing has state text = (trace : List Event) × IsAt state.viewing trace text × has state.seen (reverse trace)
 
+-- the view has taken the text, and both have seen the same trace of it
 abbrev pub HasSeenText : {S : Type 0} → (S → List Event → Type 0) → SeenState S → List ℕ → Type 0
 HasSeenText has state text = (trace : List Event) × HasShown state.viewing trace text × has state.seen (reverse trace)
 
--- they go on with the text, or have taken it
+-- they continue with the text, or have taken it
 abbrev pub SeesOn : {S : Type 0} → (S → List Event → Type 0) → Bool → SeenState S → SeenState S → List ℕ → Type 0
 SeesOn has true old new text = IsSeeing has old text → IsSeeing has new text
 SeesOn has false old new text = IsSeeing has old text → HasSeenText has new text
 
--- what is shown of a text: one trace, which both have seen
+-- what is shown of a text: a single trace, which both have seen
 abbrev pub IsSeen : {S : Type 0} → (S → List Event → Type 0) → List ℕ → Option ViewEnd → Option ℕ → ViewState → S
     → Type 0
 IsSeen has text stop open_line viewing seen =

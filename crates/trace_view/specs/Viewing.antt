@@ -1,4 +1,4 @@
--- A view of a trace: what it keeps, and which pasts it has seen.
+-- The state of a view of a trace, and the pasts that it has seen.
 use Rattle.std.specs.Prelude.{◌≡◌, ℕ, Bool, not, List, [], ◌∷◌, Option, Some, None}
 use Rattle.trace_view.specs.Words.{Entry, Stage, entry_of, act_of, Event, Child, unreaped_children, kept_children}
 use Rattle.trace_view.specs.Words.{may_live, Law, at}
@@ -12,8 +12,8 @@ use Rattle.trace_view.specs.Calls.{calls_of}
 use Rattle.trace_view.specs.Rows.{ended_of}
 use Rattle.trace_view.specs.Wishes.{wishes_of}
 
--- the judge, the unreaped and the kept children, the youngest first, the wishes, what called entries, how often each
--- id's children were born and when, those that were born before the first level, and how each id last ended
+-- the judge; the unreaped and the kept children, youngest first; the pending requests; the calls of entries; the number
+-- of births of each id and the time of the latest; the children born before the first level; and how each id last ended
 pub record ViewState : Type 0 where
   pub judging : Judging
   pub unreaped : List Child
@@ -24,7 +24,7 @@ pub record ViewState : Type 0 where
   pub early : List Child
   pub ends : List (List ℕ × Ending)
 
--- before the first happening
+-- the state before the first happening
 abbrev pub unviewed : ViewState
 unviewed = record {
   judging = unjudged;
@@ -37,7 +37,7 @@ unviewed = record {
   ends = [];
 }
 
--- the view has seen this past, the newest happening first, which breaks no law
+-- the view has seen this past, newest happening first, which breaks no law
 pub record Viewed (view : ViewState) (past : List Event) : Type 0 where
   pub judged : Judged view.judging past
   pub unreaped : view.unreaped ≡ unreaped_children past
@@ -48,15 +48,15 @@ pub record Viewed (view : ViewState) (past : List Event) : Type 0 where
   pub early : view.early ≡ early_children past
   pub ends : (id : List ℕ) → at id view.ends ≡ ended_of id past
 
--- what a view is after a happening that breaks no law, and one that breaks this law: it takes no such
-abbrev pub SeesNext : Option Law → ViewState → ViewState → Event → Type 0
-SeesNext None old new happening = (past : List Event) → Viewed old past → Viewed new (happening ∷ past)
-SeesNext (Some law) old new happening = new ≡ old
+-- the view after a happening that breaks no law, or unchanged after one that breaks a law
+abbrev pub ViewAfterHappening : Option Law → ViewState → ViewState → Event → Type 0
+ViewAfterHappening None old new happening = (past : List Event) → Viewed old past → Viewed new (happening ∷ past)
+ViewAfterHappening (Some law) old new happening = new ≡ old
 
--- the child that a birth makes, by the table in force
+-- the child of a birth, according to this table
 abbrev pub newborn_in : List Entry → List ℕ → ℕ → Child
 newborn_in table id number = record { id = id; number = number; act = act_of id table }
 
--- the child may not live in the stage, by the table
+-- the child is excluded according to this table and stage
 abbrev pub is_excluded_by : List Entry → Option Stage → Child → Bool
 is_excluded_by table stage child = not (may_live (entry_of child.id table) child.act stage)

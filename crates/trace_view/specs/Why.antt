@@ -1,10 +1,10 @@
--- Why an entry's start is not due: the first reason that keeps it (init(8)).
+-- Why the start of an entry is not due: the first reason against it; see init(8).
 use Rattle.std.specs.Prelude.{ℕ, Bool, true, false, not, ◌&&◌, ◌||◌, if◌then◌else◌, List, find, Option, Some, None}
 use Rattle.std.specs.Option.{option_map, option_map_or}
 use Rattle.init_words.specs.declared.actions.Act.{Act}
 use Rattle.init_words.specs.declared.actions.Act.TheVariants as act
 use Rattle.trace_view.specs.Words.{Entry, Stage, Sysinit, Boot, Run, wanted_by, ignores_levels, is_limited, entry_of}
-use Rattle.trace_view.specs.Words.{Event, table_of, stage_of, Child, is_of, kept_children, open_of, starts_now}
+use Rattle.trace_view.specs.Words.{Event, table_of, stage_of, Child, is_child_of, kept_children, open_of, starts_now}
 use Rattle.trace_view.specs.Words.{is_wanted, is_owed, entries_before, is_excluded, was_booted, newest}
 use Rattle.init_words.specs.declared.orders.OrderKind.{OrderKind}
 use Rattle.trace_events.specs.Timing.{hold_times, is_held, is_full}
@@ -20,20 +20,20 @@ use Rattle.trace_view.specs.Births.{ran_early}
 use Rattle.trace_view.specs.Calls.{was_named}
 use Rattle.trace_view.specs.Wishes.{first_wish}
 
--- how an entry stands: each thing that can keep its start back
+-- the first entry before the id's in the table that init waits for
 abbrev pub first_owed : List ℕ → List Event → Option Entry
 first_owed id past = find (λ e. is_owed e past) (entries_before id (table_of past))
 
--- the first entry of all that init waits for
+-- the first entry of the table that init waits for
 abbrev pub first_awaited : List Event → Option Entry
 first_awaited past = find (λ e. is_owed e past) (table_of past)
 
 abbrev pub entry_id : Entry → List ℕ
 entry_id e = e.id
 
--- its kept child may not live in the stage in force
+-- the kept child of the id is excluded
 abbrev pub stops_now : List ℕ → List Event → Bool
-stops_now id past = option_map_or (is_excluded past) (find (is_of id) (kept_children past)) false
+stops_now id past = option_map_or (is_excluded past) (find (is_child_of id) (kept_children past)) false
 
 abbrev pub number_of : Child → ℕ
 number_of child = child.number
@@ -41,10 +41,11 @@ number_of child = child.number
 abbrev pub excluded_as : Child → Excluded
 excluded_as child = record { id = child.id; number = child.number }
 
+-- the state of an entry: everything that can prevent its start
 abbrev pub standing_of : Entry → List Event → Standing
 standing_of e past = record {
   starts = starts_now e past;
-  child = option_map number_of (find (is_of e.id) (kept_children past));
+  child = option_map number_of (find (is_child_of e.id) (kept_children past));
   stops = stops_now e.id past;
   booted = was_booted past;
   ran = ran_early e past;
@@ -59,29 +60,33 @@ standing_of e past = record {
   full = is_limited e.act && is_full e.id past;
 }
 
+-- a child, if there is one, is the reason; otherwise a later one
 abbrev pub by_child : Option ℕ → Why → Why
 by_child (Some number) later = ChildKept number
 by_child None later = later
 
--- its action starts it in a stage that is over: Sysinit, or, in a level, Boot where that was entered
+-- the action starts its entries in a stage that is over: in Sysinit, or, in a level, in Boot if that was entered
 abbrev pub is_past : Act → Bool → Stage → Bool
 is_past action booted Sysinit = false
 is_past act.Sysinit booted _ = true
 is_past action booted Boot = false
 is_past action booted (Run level) = booted && ignores_levels action
 
--- of an entry whose stage is to come: before the first level init waits for an entry
+-- why an entry is not started whose stage is still to come: before the first level, init may be waiting for another
+-- entry
 abbrev pub by_awaited : Stage → Option (List ℕ) → Why
 by_awaited (Run level) awaited = OtherStage
 by_awaited _ (Some id) = StageOwed id
 by_awaited _ None = OtherStage
 
+-- why an entry is not started that belongs to another stage: that stage is over, and the entry ran in it or not; or it
+-- is still to come
 abbrev pub elsewhere : Act → Stage → Standing → Why
 elsewhere action stage s =
     if is_past action s.booted stage then (if s.ran then RanBefore else StageOver) else by_awaited stage s.awaited
 
--- it doesn't start in the stage: its action is never started, no stage has begun, it has a child that lives on, or its
--- stage is another
+-- why an entry is not started that does not start in the stage in force: no stage has begun, its action is never
+-- started, it has a child that may live, or its stage is another one
 abbrev pub not_here : Act → Option Stage → Standing → Why
 not_here action None s = NoStage
 not_here action (Some stage) s =
@@ -89,11 +94,12 @@ not_here action (Some stage) s =
     else if s.stops then elsewhere action stage s
     else by_child s.child (elsewhere action stage s)
 
--- it starts in the stage, and nothing of it runs, but its action doesn't ask for it: of one that has to be called
--- nothing named it, or it was called and started
+-- why an entry is not wanted that starts in the stage and has neither a child nor an open order: it was started; or it
+-- has to be called and nothing named it
 abbrev pub not_wanted : Act → Bool → Why
 not_wanted action named = if wanted_by action true true false || named then WasStarted else NotCalled
 
+-- an open order, if there is one, is the reason; and likewise for the reasons below
 abbrev pub by_order : Option OrderKind → Why → Why
 by_order (Some ask) later = OrderOpen ask
 by_order None later = later
@@ -114,7 +120,7 @@ abbrev pub by_hold : Option ℕ → Why → Why
 by_hold (Some since) later = Held since
 by_hold None later = later
 
--- the first reason of these that is there
+-- the first of these reasons that applies
 abbrev pub why_by : Act → Option Stage → Standing → Why
 why_by action stage s =
     if not s.starts then not_here action stage s
@@ -126,10 +132,11 @@ why_by action stage s =
     (by_wish s.wish
     (by_hold s.hold (if s.full then WindowFull else Nothing))))))
 
+-- the reason why an entry of the table is not started
 abbrev pub why_entry : Entry → List Event → Why
 why_entry e past = why_by e.act (stage_of past) (standing_of e past)
 
--- why the start of an id is not due; Nothing where it is
+-- the reason why the start of an id is not due; `Nothing` if it is due
 abbrev pub why : List ℕ → List Event → Why
 why id past = option_map_or (λ e. why_entry e past) (entry_of id (table_of past)) NoEntry
 

@@ -1,11 +1,11 @@
--- The wishes, as a view keeps them, and which of them is carried out first (telinit(8), initreq.h).
+-- The pending requests, as a view keeps them, and which of them is carried out first; see telinit(8) and initreq.h.
 use Rattle.std.specs.Prelude.{ℕ, Bool, not, ◌&&◌, ◌||◌, if◌then◌else◌, List, ◌∷◌, Option, Some, None}
 use Rattle.trace_view.specs.Words.{Stage, Boot, Run, same_level, Event, stage_of, enter_level, is_level, in_run}
-use Rattle.trace_view.specs.Words.{other_than, wants_reexec, wants_reread, heard_level, level_wish, was_booted}
-use Rattle.trace_view.specs.Words.{is_announced, keeps_news}
+use Rattle.trace_view.specs.Words.{other_than, wants_reexec, wants_reread, last_requested_level, level_wish, was_booted}
+use Rattle.trace_view.specs.Words.{is_announced, are_calls_pending}
 use Rattle.init_words.specs.declared.levels.Level.{Level}
 use Rattle.init_words.specs.declared.levels.Level.TheVariants.{S}
-use Rattle.trace_events.specs.CallSets.{has_news, news_of}
+use Rattle.trace_events.specs.CallSets.{has_news, pending_calls}
 use Rattle.trace_events.specs.declared.steps.Goal.{Goal}
 use Rattle.trace_events.specs.declared.steps.Step.{Step}
 use Rattle.trace_events.specs.declared.steps.Step.TheVariants as step
@@ -13,54 +13,63 @@ use Rattle.trace_view.specs.declared.wishes.Wish.{Wish}
 use Rattle.trace_view.specs.declared.wishes.Wish.TheVariants as wish
 use Rattle.trace_view.specs.declared.wishes.Wishes.{Wishes}
 
--- the wish that is carried out first
+-- a request for a level goes before the calls of entries
 abbrev pub or_news : Bool → Option Goal → Option Wish
 or_news news (Some heard) = Some (wish.Level heard.level)
 or_news news None = if news then Some wish.News else None
 
+-- the first of the pending requests: a re-execution, reading inittab, a level, the calls of entries
 abbrev pub first_of : Bool → Bool → Option Goal → Bool → Option Wish
 first_of reexec reread level news =
     if reexec then Some wish.Reexec else if reread then Some wish.Reread else or_news news level
 
+-- the pending request that is carried out first; calls of entries are only carried out in a run level
 abbrev pub first_wish : List Event → Option Wish
 first_wish past =
-    first_of (wants_reexec past) (wants_reread past) (level_wish past) (in_run (stage_of past) && keeps_news past)
+    first_of (wants_reexec past) (wants_reread past) (level_wish past)
+    (in_run (stage_of past) && are_calls_pending past)
 
--- the level that is asked for and not yet entered
+-- the level, unless it is the present stage
 abbrev pub unless_here : Option Stage → Option Goal → Option Level
 unless_here stage None = None
 unless_here stage (Some heard) = if is_level heard.level stage then None else Some heard.level
 
+-- the level that was requested and not entered yet
 abbrev pub asked_level : List Event → Option Level
-asked_level past = unless_here (stage_of past) (heard_level past)
+asked_level past = unless_here (stage_of past) (last_requested_level past)
 
 -- the stage that the first of these steps enters, with the seconds between its signals
 abbrev pub entered_by : List Step → Option (Stage × ℕ)
 entered_by (step.Enter stage grace ∷ steps) = Some (stage, grace)
 entered_by _ = None
 
--- the stage that init enters for another level that is asked for
+-- the stage that init enters next because another level was requested
 abbrev pub next_stage : List Event → Option (Stage × ℕ)
 next_stage past = entered_by (enter_level (level_wish past) past)
 
--- the wishes as the past has them, and whether Boot was entered, by which the way to a level goes
+-- the pending requests; whether Boot was entered, which decides the way to a level; and whether the level was announced
+-- settled
 abbrev pub wishes_of : List Event → Wishes
 wishes_of past = record {
   reexec = wants_reexec past;
   reread = wants_reread past;
-  heard = heard_level past;
-  news = news_of past;
+  heard = last_requested_level past;
+  news = pending_calls past;
   booted = was_booted past;
   announced = is_announced past;
 }
 
+-- the request that is carried out first, as read off the view
 abbrev pub first_wish_in : Option Stage → Wishes → Option Wish
 first_wish_in stage w = first_of w.reexec w.reread (other_than stage w.heard) (in_run stage && has_news w.news)
 
+-- the stage that is entered for a requested level, with the seconds: Boot first, if it was not entered yet and the
+-- level is not S
 abbrev pub stage_for : Bool → Option Goal → Option (Stage × ℕ)
 stage_for booted None = None
 stage_for booted (Some wish) =
     Some (if not (same_level wish.level S) && not booted then Boot else Run wish.level, wish.grace)
 
+-- the stage that init enters next because another level was requested, as read off the view
 abbrev pub next_stage_in : Option Stage → Wishes → Option (Stage × ℕ)
 next_stage_in stage w = stage_for w.booted (other_than stage w.heard)

@@ -1,4 +1,4 @@
--- The words of the definitions and clauses of this crate that come from others.
+-- Names from other crates that the definitions and clauses of this crate use.
 pub use Rattle.init_words.specs.declared.entries.Entry.{Entry}
 pub use Rattle.init_words.specs.Actions.{ignores_levels, is_called_by, is_ondemand, wanted_by, is_limited}
 pub use Rattle.init_words.specs.Ids.{same_id}
@@ -6,7 +6,8 @@ pub use Rattle.trace_events.specs.declared.happenings.Happening.TheVariants.{Bir
 pub use Rattle.trace_events.specs.declared.happenings.Happening.TheVariants.{Hold, NoBirth, Reaped, Got, Told, NotRead}
 pub use Rattle.trace_events.specs.declared.happenings.Happening.TheVariants.{Handed}
 pub use Rattle.trace_events.specs.Event.{Event}
-pub use Rattle.trace_events.specs.Past.{time_of, Child, is_of, newborn, table_of, stage_of, open_of, unreaped_children}
+pub use Rattle.trace_events.specs.Past.{time_of, Child, is_child_of, newborn, table_of, stage_of, open_of}
+pub use Rattle.trace_events.specs.Past.{unreaped_children}
 pub use Rattle.trace_events.specs.Past.{has_number, is_child, kept_children, grace_of}
 pub use Rattle.trace_events.specs.Wanted.{same_acts, is_excluded, may_live, starts_now, is_wanted, is_owed}
 pub use Rattle.trace_events.specs.Wanted.{entries_before, is_order, starts_in}
@@ -17,7 +18,7 @@ pub use Rattle.init_words.specs.Orders.{same_power}
 pub use Rattle.text_lines.specs.Lines.{newlines}
 pub use Rattle.init_words.specs.declared.stages.Stage.{Stage}
 pub use Rattle.trace_events.specs.Wishes.{is_level, was_booted, in_run, other_than, wants_reexec, wants_reread}
-pub use Rattle.trace_events.specs.Wishes.{heard_level, level_wish, keeps_news}
+pub use Rattle.trace_events.specs.Wishes.{last_requested_level, level_wish, are_calls_pending}
 pub use Rattle.trace_text.specs.Lines.{trace_text, event_text}
 pub use Rattle.trace_check.specs.State.{at}
 pub use Rattle.init_words.specs.declared.stages.Stage.TheVariants.{Run, Sysinit, Boot}

@@ -1,4 +1,4 @@
-//! Which news of the power and which letters called entries since a stage was entered or a table read.
+//! Which power events and which letters called entries since the last stage or table.
 
 ghost use Rattle.std.specs.Prelude.{◌≡◌, ◌∷◌, List};
 ghost use Rattle.trace_view.specs.Words.{Event};
@@ -8,7 +8,7 @@ use init_words::{Entry, Letter, PowerKind};
 use std::alloc::Allocator;
 use trace_events::{CallSet, Happening, HappeningIn};
 
-/// Takes what the happening called.
+/// Updates the calls for a happening.
 pub(crate) fn take_call<B: Allocator>(calls: &mut CallSet, happening: &HappeningIn<B>)
     ensures { (past : List Event) → calls.old ≡ calls_of past
         → calls.new ≡ calls_of (happening.now ∷ past) }
@@ -21,7 +21,7 @@ pub(crate) fn take_call<B: Allocator>(calls: &mut CallSet, happening: &Happening
     }
 }
 
-/// One of the calls named the entry.
+/// Returns whether one of the calls names the entry.
 pub(crate) fn is_named(entry: &Entry, calls: CallSet) -> bool
     ensures { result ≡ is_named_by entry.now calls }
 {

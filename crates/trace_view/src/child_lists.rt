@@ -1,8 +1,8 @@
-//! Children in the order in which they came, where each is found, and let go of, by its id.
+//! A list of children in order of arrival, from which all children of an id can be removed at once.
 
 ghost use Rattle.std.specs.Prelude.{◌≡◌, ◌∷◌, ◌++◌, ◌<◌, ◌&&◌, if◌then◌else◌, List, [], ℕ, not, find, filter, reverse, true, Some, None, OnOk, OnErr, IfOk, option_map};
 ghost use Rattle.indexmap.specs.IndexMap.{spare};
-ghost use Rattle.trace_view.specs.Words.{Child, at, is_of, same_id};
+ghost use Rattle.trace_view.specs.Words.{Child, at, is_child_of, same_id};
 ghost use Rattle.trace_view.specs.ChildLists.{are_below, stays, staying};
 ghost use Rattle.trace_view.specs.Viewing.{is_excluded_by};
 ghost use Rattle.trace_view.specs.Why.{excluded_as};
@@ -15,25 +15,28 @@ use inittab_text::Table;
 use std::alloc::Allocator;
 use std::marker::Model;
 
-/// A child that came, by how many came before it in the list.
+/// A child, and the number of children that were added to the list before it.
 #[derive(Clone, Copy)]
 pub(crate) struct Arrival {
     pub(crate) child: BornChild,
     pub(crate) number: u64,
 }
 
-/// Children, the youngest first. Those of an id are let go of at once: what is kept of them is taken away later.
+/// A list of children, youngest first.
+///
+/// All children of an id are removed at once, in constant time: they are only marked as gone, and are removed from
+/// memory later.
 #[derive(Drop)]
 pub(crate) struct ChildList<A: Allocator> {
-    // The oldest first, also those that are gone.
+    // The arrivals, oldest first, including those that are gone.
     arrivals: Vec<Arrival, A>,
-    // Those of an id that came with a lesser number are gone.
+    // For each id, the number below which its arrivals are gone.
     gone: ById<u64, A>,
-    // The youngest of an id.
+    // The youngest child of each id.
     youngest: ById<BornChild, A>,
-    // The number of the next one.
+    // The number of the next arrival.
     next: u64,
-    // With so many arrivals those that are gone are taken away.
+    // The number of arrivals at which those that are gone are removed from memory.
     room: usize,
 }
 
@@ -50,7 +53,7 @@ impl<A: Allocator> Model for ChildList<A> {
         IsListed l.gone.entries (reverse l.arrivals.items) l.youngest.entries l.next };
 }
 
-/// None of its id was let go of since it came.
+/// Returns whether an arrival is still in the list, that is, no child of its id was removed since it came.
 fn stays<A: Allocator>(gone: &ById<u64, A>, arrival: &Arrival) -> bool
     ensures { result ≡ stays gone.now.entries arrival.now }
 {
@@ -60,7 +63,7 @@ fn stays<A: Allocator>(gone: &ById<u64, A>, arrival: &Arrival) -> bool
     }
 }
 
-/// Notes that those of an id are gone that came with a lesser number.
+/// Marks the arrivals of an id with a lower number as gone.
 fn mark<A: Allocator>(gone: &mut ById<u64, A>, id: Id, number: u64) -> Result<(), Memory>
     ensures ok { OnOk result ((other : List ℕ) → at other gone.new.entries
         ≡ (if same_id other id then Some number else at other gone.old.entries)) }
@@ -77,14 +80,15 @@ fn forget<A: Allocator>(youngest: &mut ById<BornChild, A>, id: &Id)
     youngest.swap_remove(id);
 }
 
-/// Takes those away that are gone.
+/// Removes the arrivals that are gone from memory.
 fn drop_gone<A: Allocator>(arrivals: &mut Vec<Arrival, A>, gone: &ById<u64, A>)
     ensures { arrivals.new.items ≡ filter (stays gone.now.entries) arrivals.old.items }
 {
     arrivals.retain(|arrival: &Arrival| stays(gone, arrival));
 }
 
-/// Takes those away that are gone, where there are so many; with how many that is done next.
+/// Removes the arrivals that are gone from memory if there are at least `room` arrivals. Returns the number of arrivals
+/// at which to do this next.
 fn make_room<A: Allocator>(
     arrivals: &mut Vec<Arrival, A>,
     gone: &ById<u64, A>,
@@ -102,7 +106,7 @@ fn make_room<A: Allocator>(
     arrivals.len().saturating_mul(2).saturating_add(64)
 }
 
-/// Makes room for one more.
+/// Reserves memory for one more entry.
 fn room_for_one<A: Allocator>(map: &mut ById<BornChild, A>) -> Result<(), Memory>
     ensures same { map.new.entries ≡ map.old.entries }
     ensures room { OnOk result (0 < spare map.new) }
@@ -111,7 +115,7 @@ fn room_for_one<A: Allocator>(map: &mut ById<BornChild, A>) -> Result<(), Memory
     Ok(())
 }
 
-/// Keeps it of its id, where there is room.
+/// Inserts a child under its id, in memory reserved before.
 fn put<A: Allocator>(map: &mut ById<BornChild, A>, child: BornChild)
     requires { 0 < spare map.old }
     ensures { (id : List ℕ) → at id map.new.entries
@@ -122,7 +126,7 @@ fn put<A: Allocator>(map: &mut ById<BornChild, A>, child: BornChild)
     };
 }
 
-/// It stays, and may not live.
+/// Returns whether an arrival is still in the list and is excluded.
 fn is_excluded_still<A: Allocator>(
     gone: &ById<u64, A>,
     table: &Table<A>,
@@ -135,7 +139,7 @@ fn is_excluded_still<A: Allocator>(
     stays(gone, arrival) && is_excluded(table, stage, &arrival.child)
 }
 
-/// The youngest of those that stay and may not live, by its id and number.
+/// Returns the id and number of the youngest excluded child in the list.
 fn first_excluded<A: Allocator>(
     gone: &ById<u64, A>,
     arrivals: &[Arrival],
@@ -155,7 +159,7 @@ fn first_excluded<A: Allocator>(
     None
 }
 
-/// Adds the child, where that is so.
+/// Appends the child if `so` is true.
 fn push_if<B: Allocator>(
     children: &mut Vec<BornChild, B>,
     child: BornChild,
@@ -170,7 +174,7 @@ fn push_if<B: Allocator>(
     Ok(())
 }
 
-/// Those that stay, the youngest first.
+/// Returns the children in the list, youngest first.
 fn staying<A: Allocator, B: Allocator>(
     alloc: B,
     gone: &ById<u64, A>,
@@ -189,7 +193,7 @@ fn staying<A: Allocator, B: Allocator>(
 }
 
 impl<A: Allocator + Copy> ChildList<A> {
-    /// No children. It takes no memory.
+    /// Creates an empty list. This does not allocate.
     pub(crate) fn new(alloc: A) -> ChildList<A>
         ensures { result ≡ [] }
     {
@@ -204,7 +208,7 @@ impl<A: Allocator + Copy> ChildList<A> {
 }
 
 impl<A: Allocator> ChildList<A> {
-    /// One more, the youngest.
+    /// Adds a child, which is the youngest.
     pub(crate) fn push(&mut self, child: BornChild) -> Result<(), Memory>
         ensures { OnOk result (self.new ≡ child ∷ self.old) }
     {
@@ -220,31 +224,31 @@ impl<A: Allocator> ChildList<A> {
         Ok(())
     }
 
-    /// Lets go of those of an id.
+    /// Removes all children of an id.
     pub(crate) fn drop_id(&mut self, id: Id) -> Result<(), Memory>
         ensures { OnOk result (self.new
-            ≡ filter (λ (child : Child). not (is_of id child)) self.old) }
+            ≡ filter (λ (child : Child). not (is_child_of id child)) self.old) }
     {
         mark(&mut self.gone, id, self.next)?;
         forget(&mut self.youngest, &id);
         Ok(())
     }
 
-    /// The youngest of an id.
+    /// Returns the youngest child of an id.
     pub(crate) fn youngest_of(&self, id: Id) -> Option<BornChild>
-        ensures { result ≡ find (is_of id) self.now }
+        ensures { result ≡ find (is_child_of id) self.now }
     {
         self.youngest.get(&id).copied()
     }
 
-    /// The youngest of those that may not live, by its id and number.
+    /// Returns the id and number of the youngest excluded child.
     pub(crate) fn excluded(&self, table: &Table<A>, stage: Option<Stage>) -> Option<Excluded>
         ensures { result ≡ option_map excluded_as (find (is_excluded_by table.now stage) self.now) }
     {
         first_excluded(&self.gone, self.arrivals.as_slice(), table, stage)
     }
 
-    /// All of them, the youngest first.
+    /// Returns all children, youngest first.
     pub(crate) fn to_vec<B: Allocator>(&self, alloc: B) -> Result<Vec<BornChild, B>, Memory>
         ensures { IfOk result (λ children. children.items ≡ self.now) }
     {

@@ -1,4 +1,4 @@
-//! The unreaped and the kept children, the youngest first.
+//! The unreaped and the kept children, youngest first.
 
 ghost use Rattle.std.specs.Prelude.{◌≡◌, ◌∷◌, List, None, false, option_map, OnOk, IfOk};
 ghost use Rattle.std.specs.List.{list_any};
@@ -18,7 +18,7 @@ use std::alloc::Allocator;
 use std::marker::Model;
 use trace_events::{Happening, HappeningIn};
 
-/// A child: the id that it was born for, its number, and the action that the id had then.
+/// A child: the id for which it was born, its number, and the action of the id at its birth, if the table had an entry.
 #[derive(Clone, Copy)]
 pub struct BornChild {
     pub id: Id,
@@ -36,7 +36,7 @@ impl Model for BornChild {
     ghost inverse = { λ c. record { id = c.id; number = c.number; act = c.act } };
 }
 
-/// The child that a birth makes, by the table in force.
+/// Returns the child of a birth, given the table in force.
 pub(crate) fn newborn<A: Allocator>(table: &Table<A>, id: Id, number: ChildNumber) -> BornChild
     ensures { result ≡ newborn_in table.now id number }
 {
@@ -44,7 +44,7 @@ pub(crate) fn newborn<A: Allocator>(table: &Table<A>, id: Id, number: ChildNumbe
     BornChild { id, number, act }
 }
 
-/// The unreaped children, the youngest first.
+/// Updates the unreaped children, youngest first, for a happening.
 pub(crate) fn take_unreaped<A: Allocator, B: Allocator>(
     unreaped: &mut ChildList<A>,
     table: &Table<A>,
@@ -67,7 +67,7 @@ pub(crate) fn take_unreaped<A: Allocator, B: Allocator>(
     }
 }
 
-/// Lets go of those of the id, where the youngest of them has the number.
+/// Removes the children of the id if the youngest of them has this number.
 fn drop_child<A: Allocator>(
     children: &mut ChildList<A>,
     id: Id,
@@ -81,7 +81,7 @@ fn drop_child<A: Allocator>(
     Ok(())
 }
 
-/// There is a child, and it has this number.
+/// Returns whether there is a child and it has this number.
 fn has_number(child: Option<BornChild>, number: ChildNumber) -> bool
     ensures { result ≡ option_map_or (has_number number) child false }
 {
@@ -91,7 +91,7 @@ fn has_number(child: Option<BornChild>, number: ChildNumber) -> bool
     }
 }
 
-/// The kept children, the youngest first.
+/// Updates the kept children, youngest first, for a happening.
 pub(crate) fn take_kept<A: Allocator, B: Allocator>(
     kept: &mut ChildList<A>,
     unreaped: &ChildList<A>,
@@ -117,7 +117,7 @@ pub(crate) fn take_kept<A: Allocator, B: Allocator>(
     }
 }
 
-/// One more, where there is one.
+/// Adds a child, if there is one.
 fn push_some<A: Allocator>(
     children: &mut ChildList<A>,
     child: Option<BornChild>,
@@ -130,7 +130,7 @@ fn push_some<A: Allocator>(
     Ok(())
 }
 
-/// The child was born for an entry whose action starts it before the first level.
+/// Returns whether the child was born for an entry whose action starts it before the first level.
 pub(crate) fn is_early(child: &BornChild) -> bool
     ensures { result ≡ is_early child.now }
 {
@@ -140,7 +140,7 @@ pub(crate) fn is_early(child: &BornChild) -> bool
     }
 }
 
-/// The children that were born so, the oldest first.
+/// Updates the children born before the first level, oldest first, for a happening.
 pub(crate) fn take_early<A: Allocator, B: Allocator>(
     early: &mut Vec<BornChild, A>,
     table: &Table<A>,
@@ -160,7 +160,7 @@ pub(crate) fn take_early<A: Allocator, B: Allocator>(
     Ok(())
 }
 
-/// The child was born for the entry, with its action.
+/// Returns whether the child was born for the entry, with its present action.
 fn is_born_as(entry: &Entry, child: &BornChild) -> bool
     ensures { result ≡ is_born_as entry.now child.now }
 {
@@ -170,21 +170,21 @@ fn is_born_as(entry: &Entry, child: &BornChild) -> bool
     }
 }
 
-/// One of the children was.
+/// Returns whether one of the children was born for the entry, with its present action.
 pub(crate) fn has_born_as(entry: &Entry, children: &[BornChild]) -> bool
     ensures { result ≡ list_any (is_born_as entry.now) children.now }
 {
     children.iter().any(|child| is_born_as(entry, child))
 }
 
-/// Its number.
+/// Returns the number of the child, if there is a child.
 pub(crate) fn number_of(child: Option<BornChild>) -> Option<ChildNumber>
     ensures { result ≡ option_map number_of child }
 {
     Some(child?.number)
 }
 
-/// The child may not live in the stage, by the table: it is stopped (init(8)).
+/// Returns whether the child is excluded: by this table, it may not live in the stage, and is stopped (init(8)).
 pub(crate) fn is_excluded<A: Allocator>(
     table: &Table<A>,
     stage: Option<Stage>,
@@ -198,7 +198,7 @@ pub(crate) fn is_excluded<A: Allocator>(
     }
 }
 
-/// A child by its id and number.
+/// Returns the id and number of a child.
 pub(crate) fn excluded_as(child: &BornChild) -> Excluded
     ensures { result ≡ excluded_as child.now }
 {
@@ -208,8 +208,8 @@ pub(crate) fn excluded_as(child: &BornChild) -> Excluded
     }
 }
 
-/// There is a child, which may not live.
-pub(crate) fn excludes<A: Allocator>(
+/// Returns whether there is a child and it is excluded.
+pub(crate) fn is_child_excluded<A: Allocator>(
     child: Option<BornChild>,
     table: &Table<A>,
     stage: Option<Stage>,
@@ -222,7 +222,7 @@ pub(crate) fn excludes<A: Allocator>(
     }
 }
 
-/// The ids of the children that the table has no entry for.
+/// Returns the ids of the children for which the table has no entry.
 pub(crate) fn gone_of<A: Allocator, B: Allocator + Copy>(
     alloc: B,
     table: &Table<A>,

@@ -1,4 +1,4 @@
-//! The lines at which the last happenings of each kind begin.
+//! The line numbers of the last happenings of each kind.
 
 ghost use Rattle.std.specs.Prelude.{◌≡◌, ℕ, List, ◌∷◌, OnOk};
 ghost use Rattle.trace_view.specs.Words.{Event, stage_of, at};
@@ -17,30 +17,29 @@ use std::alloc::{Allocator, Global};
 use std::marker::Model;
 use trace_events::{Happening, HappeningIn, is_level};
 
-/// A line of each id.
+/// A line number for each id.
 type LineById<A> = ById<u64, A>;
 
-/// The lines of the last happenings that are about no id.
+/// The line numbers of the last happenings that do not concern an id.
 #[derive(Clone, Copy, Default)]
 pub(crate) struct KindLines {
     /// A table.
     pub(crate) table: Option<u64>,
-    /// A stage that was entered.
+    /// The beginning of a stage.
     pub(crate) entering: Option<u64>,
-    /// A request that init executes itself anew.
+    /// A request for a re-execution.
     pub(crate) reexec: Option<u64>,
-    /// A request that inittab is read again.
+    /// A request to read inittab again.
     pub(crate) reread: Option<u64>,
     /// A request for a level.
     pub(crate) goal: Option<u64>,
-    /// A letter, or news of the power.
+    /// A request to call a letter, or one for a power event.
     pub(crate) news: Option<u64>,
 }
 
-/// The lines, counted from 1, at which the last happenings of each kind begin: of those that a reason can have that keeps
-/// an entry from its start.
+/// The line numbers, counted from 1, of the last happenings of each kind that can prevent an entry from being started.
 ///
-/// A contract sees of it which pasts it has seen (`Lined`).
+/// A contract sees which pasts this has seen (`Lined`).
 #[derive(Drop)]
 pub struct LastLines<A: Allocator = Global> {
     kinds: KindLines,
@@ -68,6 +67,7 @@ impl<A: Allocator> Model for LastLines<A> {
     } };
 }
 
+/// Returns whether the happening is a table.
 pub(crate) fn is_table<B: Allocator>(happening: &HappeningIn<B>) -> bool
     ensures { result ≡ is_table happening.now }
 {
@@ -83,7 +83,7 @@ fn born_in<B: Allocator>(happening: &HappeningIn<B>) -> Option<Id>
     }
 }
 
-/// The id whose child was born before the first level.
+/// Returns the id if its child was born before the first level.
 fn early_in<A: Allocator, B: Allocator>(table: &Table<A>, happening: &HappeningIn<B>) -> Option<Id>
     ensures { result ≡ early_in table.now happening.now }
 {
@@ -129,7 +129,7 @@ fn held_in<B: Allocator>(happening: &HappeningIn<B>) -> Option<Id>
     }
 }
 
-/// The later of two lines.
+/// Returns the later of two lines.
 fn later(line: Option<u64>, other: Option<u64>) -> Option<u64>
     ensures { result ≡ later line other }
 {
@@ -140,7 +140,7 @@ fn later(line: Option<u64>, other: Option<u64>) -> Option<u64>
     }
 }
 
-/// Keeps the line of the id, where there is one.
+/// Stores the line for the id, if there is one.
 fn mark<A: Allocator>(lines: &mut LineById<A>, id: Option<Id>, line: u64) -> Result<(), Memory>
     ensures { OnOk result ((other : List ℕ) → at other lines.new.entries
         ≡ line_after (names other id) line (at other lines.old.entries)) }
@@ -152,7 +152,7 @@ fn mark<A: Allocator>(lines: &mut LineById<A>, id: Option<Id>, line: u64) -> Res
 }
 
 impl KindLines {
-    /// The lines after the happening at a line, where the stage was in force before it.
+    /// Returns the line numbers after the happening at this line; `stage` was in force before it.
     fn after<B: Allocator>(
         self,
         stage: Option<Stage>,
@@ -197,14 +197,14 @@ impl KindLines {
 }
 
 impl<A: Allocator> LastLines<A> {
-    /// The line of the last birth of a child of an id.
+    /// Returns the line of the last birth of a child of an id.
     fn birth(&self, id: &Id) -> Option<u64>
         ensures { (past : List Event) → Lined self.now past → result ≡ last_of born_in id.now past }
     {
         of_id(&self.births, id)
     }
 
-    /// The line of the last start of an id, also of one that failed.
+    /// Returns the line of the last start of an id, including one that failed.
     fn start(&self, id: &Id) -> Option<u64>
         ensures { (past : List Event) → Lined self.now past
             → result ≡ later (last_of born_in id.now past) (last_of unborn_in id.now past) }
@@ -212,7 +212,7 @@ impl<A: Allocator> LastLines<A> {
         later(self.birth(id), of_id(&self.failures, id))
     }
 
-    /// The line of the last birth of a child of an id, or of its end, where that is later.
+    /// Returns the line of the last birth of a child of an id, or of its reaping if that is later.
     fn child(&self, id: &Id) -> Option<u64>
         ensures { (past : List Event) → Lined self.now past
             → result ≡ later (last_of born_in id.now past) (last_of reaped_in id.now past) }
@@ -220,7 +220,7 @@ impl<A: Allocator> LastLines<A> {
         later(self.birth(id), of_id(&self.reapings, id))
     }
 
-    /// Since when init waits for an id.
+    /// Returns the line since which init has been waiting for an id.
     fn awaited(&self, id: &Id) -> Option<u64>
         ensures { (past : List Event) → Lined self.now past
             → result ≡ later (last_of born_in id.now past) (last_line is_entering past) }
@@ -228,7 +228,7 @@ impl<A: Allocator> LastLines<A> {
         later(self.birth(id), self.kinds.entering)
     }
 
-    /// The line of the last order about an id.
+    /// Returns the line of the last order for an id.
     fn order(&self, id: &Id) -> Option<u64>
         ensures { (past : List Event) → Lined self.now past
             → result ≡ last_of ordered_in id.now past }
@@ -236,14 +236,14 @@ impl<A: Allocator> LastLines<A> {
         of_id(&self.orders, id)
     }
 
-    /// The line of the last hold of an id.
+    /// Returns the line of the last hold of an id.
     fn hold(&self, id: &Id) -> Option<u64>
         ensures { (past : List Event) → Lined self.now past → result ≡ last_of held_in id.now past }
     {
         of_id(&self.holds, id)
     }
 
-    /// The line of a request that stands.
+    /// Returns the line of a pending request.
     fn wish(&self, wish: Wish) -> Option<u64>
         ensures { (past : List Event) → Lined self.now past → result ≡ wish_line wish past }
     {
@@ -255,7 +255,7 @@ impl<A: Allocator> LastLines<A> {
         }
     }
 
-    /// The line at fault, where a reason keeps the id from its start and has one.
+    /// Returns the line that explains why the id is not started, if the reason has one.
     pub fn line_at_fault(&self, id: &Id, why: Why) -> Option<u64>
         ensures { (past : List Event) → Lined self.now past
             → result ≡ line_at_fault id.now why past }

@@ -1,4 +1,4 @@
-//! The law that nothing keeps an id back exactly where its start is due.
+//! The law that there is no reason against a start exactly if the start is due.
 
 ghost use Rattle.std.specs.Prelude.{◌≡◌, IsTrue, List, ℕ};
 ghost use Rattle.std.specs.List.{list_any};
@@ -6,7 +6,8 @@ ghost use Rattle.trace_view.specs.Words.{is_distinct, Start, Event, table_of, du
 ghost use Rattle.trace_events.specs.declared.steps.Step.TheVariants.{Order};
 ghost use Rattle.trace_view.specs.Why.{why, is_nothing};
 
-/// Nothing keeps an id back exactly where its start is due. It does nothing: its contract is the law.
+/// States in its contract that there is no reason against starting an id exactly if its start is due. The function
+/// itself does nothing.
 pub fn law_of_reasons()
     ensures { (id : List ℕ) (past : List Event) → IsTrue (is_distinct (table_of past))
         → is_nothing (why id past) ≡ list_any (same_step (Order id Start)) (due_starts past) }

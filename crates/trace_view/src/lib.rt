@@ -1,7 +1,8 @@
-//! How the entries of an init stand at the end of a trace, and why an entry isn't started next.
+//! The state of each entry at the end of a trace, and the reason why an entry is not started next.
 //!
-//! A view takes the happenings of a trace one after another, whoever made it, as long as they break no law. Each answer
-//! is what the definitions of traces read off the past: a start is due exactly where nothing keeps it.
+//! A view takes the happenings of a trace one after another, whoever wrote it, as long as they break no law. Its
+//! answers are what the definitions of traces read off the past; a start is due exactly if there is no reason against
+//! it.
 #![tactic(auto)]
 
 mod calls;

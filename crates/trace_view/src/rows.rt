@@ -1,4 +1,4 @@
-//! What is told of an id.
+//! What is reported about an id.
 
 ghost use Rattle.std.specs.Prelude.{◌≡◌, ◌∷◌, ℕ, List, [], OnOk};
 ghost use Rattle.trace_view.specs.Words.{Event, at, time_of};
@@ -12,7 +12,7 @@ use std::alloc::Allocator;
 use std::hash::{BuildHasherDefault, FoldHasher};
 use trace_events::{Happening, HappeningIn};
 
-/// How often children of an id were born, and when the latest was, in seconds.
+/// The number of births of an id's children, and the time of the latest in seconds.
 #[derive(Clone, Copy)]
 pub struct Births {
     pub count: u64,
@@ -22,43 +22,43 @@ pub struct Births {
 /// How an id last ended, and when, in seconds.
 #[derive(Clone, Copy)]
 pub struct Ending {
-    /// The status with which its child was reaped; None: a start failed.
+    /// The status with which its child was reaped, or `None` if a start failed.
     pub status: Option<Status>,
     pub time: u64,
 }
 
-/// What is told of an id. Times are seconds.
+/// What is reported about an id. Times are in seconds.
 #[derive(Clone, Copy)]
 pub struct Row {
-    /// The action of its entry, where the table in force has one.
+    /// The action of its entry, if the table in force has one.
     pub act: Option<Act>,
-    /// Why it isn't started next.
+    /// Why it is not started next.
     pub why: Why,
     /// Its unreaped child.
     pub child: Option<ChildNumber>,
-    /// How often it was born, and when last.
+    /// How often its children were born, and when the last one was.
     pub births: Option<Births>,
-    /// That child may not live in the stage: it is stopped.
+    /// Whether that child is excluded, that is, being stopped.
     pub excluded: bool,
     /// Its open order.
     pub order: Option<OrderKind>,
-    /// When it was told that a TERM was sent to its child, which may not live.
+    /// When it was told that its child was sent a TERM, if the child is excluded.
     pub term: Option<u64>,
     /// How it last ended.
     pub last: Option<Ending>,
 }
 
-/// What is kept of each id.
+/// A value for each id.
 pub(crate) type ById<V, A> = IndexMap<Id, V, BuildHasherDefault<FoldHasher>, A>;
 
-/// Nothing of any id. It takes no memory.
+/// Returns an empty map. This does not allocate.
 pub(crate) fn empty_map<V, A: Allocator + Copy>(alloc: A) -> ById<V, A>
     ensures { result.entries ≡ [] }
 {
     IndexMap::new(alloc)
 }
 
-/// One birth more.
+/// Counts one more birth.
 fn one_more(before: Option<Births>, time: u64) -> Births
     ensures { result ≡ one_more time before }
 {
@@ -74,7 +74,7 @@ fn one_more(before: Option<Births>, time: u64) -> Births
     }
 }
 
-/// How often children of each id were born.
+/// Updates the births of each id for a happening.
 pub(crate) fn take_birth<A: Allocator, B: Allocator>(
     births: &mut ById<Births, A>,
     time: u64,
@@ -94,7 +94,7 @@ pub(crate) fn take_birth<A: Allocator, B: Allocator>(
     }
 }
 
-/// How each id last ended.
+/// Updates how each id last ended for a happening.
 pub(crate) fn take_end<A: Allocator, B: Allocator>(
     ends: &mut ById<Ending, A>,
     time: u64,
@@ -121,7 +121,7 @@ pub(crate) fn take_end<A: Allocator, B: Allocator>(
     }
 }
 
-/// What is kept of the id.
+/// Returns the value of an id.
 pub(crate) fn of_id<V: Copy, A: Allocator>(values: &ById<V, A>, id: &Id) -> Option<V>
     ensures { result ≡ at id.now values.now.entries }
 {

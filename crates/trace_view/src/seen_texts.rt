@@ -1,10 +1,10 @@
-//! The text of a trace that comes in pieces, seen by a view and by whatever else is to see its happenings.
+//! Reads the text of a trace that comes in pieces, and shows its happenings to a view and to another observer.
 
 ghost use Rattle.std.specs.Prelude.{◌≡◌, ◌^◌, ◌<◌, ◌∷◌, List, ℕ, ◌++◌, [], length, true, option_map, IfOk, OnOk};
 ghost use Rattle.trace_view.specs.Words.{Event, broken, stage_of, law_number};
 ghost use Rattle.trace_view.specs.LastLines.{following_line};
 ghost use Rattle.trace_view.specs.SeenTexts.{HasSeenText, IsSeeing, IsSeen, SeesOn};
-ghost use Rattle.trace_view.specs.Viewing.{SeesNext, Viewed};
+ghost use Rattle.trace_view.specs.Viewing.{ViewAfterHappening, Viewed};
 
 use crate::text_views::{TextView, ViewEnd};
 use crate::views::TraceView;
@@ -14,17 +14,17 @@ use std::marker::Model;
 use trace_check::Law;
 use trace_events::HappeningIn;
 
-/// What sees the happenings of a trace, one after another, the oldest first.
+/// An observer of the happenings of a trace, which come one after another, oldest first.
 pub trait TraceObserver<A: Allocator> {
-    /// It has seen this past, the newest happening first.
+    /// The observer has seen this past, newest happening first.
     ghost has_seen: { Self → List Event → Type 0 };
 
-    /// What has seen nothing. It takes no memory.
+    /// Creates an observer that has seen nothing. This does not allocate.
     fn new(alloc: A) -> Self
         ensures { has_seen result [] };
 
-    /// Sees the next happening, which begins at this line, where the stage was in force before it; the view has seen it.
-    /// Where memory runs out it is of no more use.
+    /// Observes the next happening, which begins at this line. `stage` was in force before it; the view has already
+    /// seen it. If memory allocation fails, the observer must not be used any more.
     fn see(
         &mut self,
         view: &TraceView<A>,
@@ -37,9 +37,9 @@ pub trait TraceObserver<A: Allocator> {
             → has_seen self.old past → has_seen self.new (happening.now ∷ past)) };
 }
 
-/// The text of a trace that comes in pieces, cut anywhere: the view of it, and what else sees its happenings.
+/// A view of the text of a trace, which comes in pieces cut anywhere, together with another observer of its happenings.
 ///
-/// A contract sees of it which texts it has taken (`HasSeenText`).
+/// A contract sees which texts this has taken (`HasSeenText`).
 #[derive(Drop)]
 pub struct ObservedTrace<S: Drop, A: Allocator = Global> {
     view: TextView<A>,
@@ -55,7 +55,7 @@ impl<S: Drop, A: Allocator> Model for ObservedTrace<S, A> {
 }
 
 impl<S: TraceObserver<A> + Drop, A: Allocator + Copy> ObservedTrace<S, A> {
-    /// Nothing was taken yet, and nothing seen. It takes no memory.
+    /// Creates a view that has taken nothing, with an observer that has seen nothing. This does not allocate.
     pub fn new(alloc: A) -> ObservedTrace<S, A>
         ensures { HasSeenText S.has_seen result [] }
     {
@@ -72,7 +72,7 @@ impl<S: TraceObserver<A> + Drop, A: Allocator + Copy> ObservedTrace<S, A> {
         self.view.feed(piece)
     }
 
-    /// Sees the next happening, if one is whole.
+    /// Shows the next happening, if it is complete.
     fn see_next(&mut self) -> Result<bool, Memory>
         ensures goes { IfOk result (λ more. (text : List ℕ) → length text < 2 ^ 64
             → SeesOn S.has_seen more self.old self.new text) }
@@ -90,8 +90,8 @@ impl<S: TraceObserver<A> + Drop, A: Allocator + Copy> ObservedTrace<S, A> {
         }
     }
 
-    /// Takes the next piece of the text, and sees all happenings of it that are whole. Where memory runs out a part of it
-    /// may be taken, and it is of no more use.
+    /// Takes the next piece of the text, and shows all complete happenings. If memory allocation fails, a part of them
+    /// may have been shown, and the view must not be used any more.
     pub fn take(&mut self, piece: &[u8]) -> Result<(), Memory>
         ensures { OnOk result ((text : List ℕ) → length (text ++ piece.now) < 2 ^ 64
             → HasSeenText S.has_seen self.old text
@@ -102,34 +102,35 @@ impl<S: TraceObserver<A> + Drop, A: Allocator + Copy> ObservedTrace<S, A> {
         Ok(())
     }
 
-    /// Shows the view a happening that the text doesn't have: what comes of what was seen. Gives the least law that it
-    /// breaks; one that breaks a law isn't shown. Where memory runs out the view is of no more use.
+    /// Shows the view a happening that is not in the text, such as a consequence of those seen. Returns the
+    /// lowest-numbered law that it breaks, in which case it is not shown. If memory allocation fails, the view must not
+    /// be used any more.
     pub fn show<B: Allocator>(&mut self, happening: &HappeningIn<B>) -> Result<Option<Law>, Memory>
         ensures law { IfOk result (λ law. (past : List Event)
             → Viewed self.old.viewing.viewing past
             → option_map law_number law ≡ broken happening.now past) }
-        ensures next { IfOk result (λ law. SeesNext law self.old.viewing.viewing
+        ensures next { IfOk result (λ law. ViewAfterHappening law self.old.viewing.viewing
             self.new.viewing.viewing happening.now) }
     {
         self.view.show(happening)
     }
 
-    /// The view of what was seen.
+    /// Returns the view of the happenings seen.
     pub fn view(&self) -> &TraceView<A>
         ensures { result.now ≡ self.now.viewing.viewing }
     {
         self.view.view()
     }
 
-    /// What else has seen the happenings.
+    /// Returns the other observer.
     pub fn seen(&self) -> &S
         ensures { result.now ≡ self.now.seen }
     {
         &self.seen
     }
 
-    /// Why the view goes no further, and the number of the line, from 1, at which the last happening begins where that
-    /// isn't finished.
+    /// Returns why the view ended, if it did, and the number of the line at which the last happening begins if that is
+    /// incomplete, counted from 1.
     pub fn end(&self) -> (Option<ViewEnd>, Option<u64>)
         ensures { (text : List ℕ) → length text < 2 ^ 64 → HasSeenText S.has_seen self.now text
             → IsSeen S.has_seen text result.0 result.1 self.now.viewing.viewing self.now.seen }
@@ -139,7 +140,7 @@ impl<S: TraceObserver<A> + Drop, A: Allocator + Copy> ObservedTrace<S, A> {
     }
 }
 
-/// Nothing else sees the happenings.
+/// An observer that ignores all happenings.
 impl<A: Allocator> TraceObserver<A> for () {
     ghost use Rattle.std.specs.Prelude.{⊤};
 

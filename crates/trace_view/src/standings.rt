@@ -1,44 +1,44 @@
-//! How an entry stands: each thing that can keep its start back.
+//! The state of an entry: everything that can prevent its start.
 
 use crate::wishes::Wish;
 use init_words::{ChildNumber, Id, OrderKind};
 
-/// A child that may not live in the stage in force, by the id that it was born for.
+/// An excluded child, with the id for which it was born.
 #[derive(Clone, Copy)]
 pub struct Excluded {
     pub id: Id,
     pub number: ChildNumber,
 }
 
-/// How an entry of the table stands: each thing that can keep its start back. Times are seconds.
+/// The state of an entry of the table: everything that can prevent its start. Times are in seconds.
 #[derive(Clone, Copy)]
 pub struct Standing {
-    /// It starts in the stage in force.
+    /// Whether it starts in the stage in force.
     pub starts: bool,
-    /// Its child whose end was not told.
+    /// The number of its child whose end was not told, if any.
     pub child: Option<ChildNumber>,
-    /// That child may not live in the stage in force.
+    /// Whether that child is excluded.
     pub stops: bool,
-    /// Boot was entered.
+    /// Whether Boot was entered.
     pub booted: bool,
-    /// A child of it was born before the first level, when it had its action of now.
+    /// Whether a child of it was born before the first level, with its present action.
     pub ran: bool,
-    /// The first entry of all that init waits for.
+    /// The first entry of the table that init waits for.
     pub awaited: Option<Id>,
     /// Its open order.
     pub order: Option<OrderKind>,
-    /// Its action asks for a start.
+    /// Whether its action asks for a start.
     pub wanted: bool,
-    /// News of the power or a letter named it since the stage was entered or the table read.
+    /// Whether a power event or a letter named it since the last stage or table.
     pub named: bool,
     /// The first earlier entry that init waits for.
     pub owed: Option<Id>,
-    /// The youngest child that may not live, of any id.
+    /// The youngest excluded child of any id.
     pub excluded: Option<Excluded>,
-    /// The wish that is carried out first.
+    /// The request that is carried out first.
     pub wish: Option<Wish>,
-    /// Since when it is held.
+    /// Since when it has been held.
     pub hold: Option<u64>,
-    /// It was started ten times in two minutes: it is held next.
+    /// Whether it was started ten times in two minutes, so that it is held next.
     pub full: bool,
 }

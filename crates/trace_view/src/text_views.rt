@@ -1,8 +1,8 @@
-//! The view of the text of a trace that comes in pieces.
+//! A view of the text of a trace that comes in pieces.
 
 ghost use Rattle.std.specs.Prelude.{◌≡◌, ◌^◌, ◌<◌, List, ℕ, ◌++◌, [], length, true, None, is_some, option_map, reverse, IfOk, OnOk};
 ghost use Rattle.trace_view.specs.Words.{Event, broken, line_left, capped, law_number};
-ghost use Rattle.trace_view.specs.Viewing.{SeesNext, Viewed};
+ghost use Rattle.trace_view.specs.Viewing.{ViewAfterHappening, Viewed};
 ghost use Rattle.trace_view.specs.Shown.{IsShown};
 ghost use Rattle.trace_view.specs.Views.{ViewGoesOn, HasShown, IsAt, SeesStop, left_of, may_be, seen_by};
 
@@ -16,21 +16,21 @@ use trace_events::HappeningIn;
 use trace_text::ReadFault;
 use trace_verdict::TextReader;
 
-/// Why a view goes no further.
+/// The reason why a view ended.
 #[derive(Clone, Copy)]
 pub enum ViewEnd {
-    /// The happening at the line of this number, from 1, breaks this law, and no lesser one.
+    /// The happening at the line of this number, counted from 1, breaks this law, and no lower-numbered one.
     Breach(Law, u64),
-    /// The line of this number, from 1, begins no happening.
+    /// No happening begins at the line of this number, counted from 1.
     Torn(u64),
-    /// The first happening reads no inittab: the text begins within a run.
+    /// The first happening is not a table: the text begins in the middle of a run.
     Within,
 }
 
-/// A view of the text of a trace that comes in pieces, cut anywhere. It goes on up to the first happening that breaks a
-/// law, and the first line that begins none; and sees nothing of a text that begins within a run.
+/// A view of the text of a trace, which comes in pieces cut anywhere.
 ///
-/// A contract sees of it which texts it has taken (`HasShown`).
+/// It ends before the first happening that breaks a law, and at the first line at which no happening begins. It shows
+/// nothing of a text that begins in the middle of a run. A contract sees which texts it has taken (`HasShown`).
 #[derive(Drop)]
 pub struct TextView<A: Allocator = Global> {
     reader: TextReader<A>,
@@ -46,14 +46,14 @@ impl<A: Allocator> Model for TextView<A> {
     ghost view = { λ v. record { reading = v.reader; viewing = v.view; stop = v.stop } };
 }
 
-/// A run may have the happening at this line: it begins with an inittab that is read.
+/// Returns whether a run can have the happening at this line: its first happening is a table.
 fn may_be<B: Allocator>(line: u64, happening: &HappeningIn<B>) -> bool
     ensures { result ≡ may_be line happening.now }
 {
     line != 1 || is_table(happening)
 }
 
-/// Shows a view the next happening, at this line.
+/// Shows a view the next happening, which begins at this line.
 fn see_next<A: Allocator + Copy, B: Allocator>(
     view: &mut TraceView<A>,
     line: u64,
@@ -70,7 +70,7 @@ fn see_next<A: Allocator + Copy, B: Allocator>(
     }
 }
 
-/// The happening, where it is seen: nothing stops the view there.
+/// Returns the happening, unless the view ended before it.
 fn seen_by<A: Allocator>(stop: Option<ViewEnd>, happening: HappeningIn<A>) -> Option<HappeningIn<A>>
     ensures { result ≡ seen_by stop happening }
 {
@@ -81,7 +81,7 @@ fn seen_by<A: Allocator>(stop: Option<ViewEnd>, happening: HappeningIn<A>) -> Op
 }
 
 impl<A: Allocator + Copy> TextView<A> {
-    /// A view that has taken nothing. It takes no memory.
+    /// Creates a view that has taken nothing. This does not allocate.
     pub fn new(alloc: A) -> TextView<A>
         ensures { HasShown result [] [] }
     {
@@ -92,7 +92,7 @@ impl<A: Allocator + Copy> TextView<A> {
         }
     }
 
-    /// Takes the next piece of the text, and sees nothing of it yet.
+    /// Takes the next piece of the text without showing its happenings yet.
     pub fn feed(&mut self, piece: &[u8]) -> Result<(), Memory>
         ensures { OnOk result ((trace : List Event) (text : List ℕ) → HasShown self.old trace text
             → IsAt self.new trace (text ++ piece.now)) }
@@ -104,8 +104,8 @@ impl<A: Allocator + Copy> TextView<A> {
         Ok(())
     }
 
-    /// Sees the next happening, and gives it; None where none is whole, and where the view goes no further. Where memory
-    /// runs out the view is of no more use.
+    /// Shows the next happening and returns it, or `None` if it is incomplete or the view has ended. If memory
+    /// allocation fails, the view must not be used any more.
     pub fn next(&mut self) -> Result<Option<HappeningIn<A>>, Memory>
         ensures goes { IfOk result (λ next. (trace : List Event) (text : List ℕ)
             → length text < 2 ^ 64 → ViewGoesOn next self.old self.new trace text) }
@@ -132,15 +132,16 @@ impl<A: Allocator + Copy> TextView<A> {
         }
     }
 
-    /// How many lines of the text it has read: those of the happenings that it has seen, as long as it goes on.
+    /// Returns the number of lines of the text that were read. Until the view ends, they are those of the happenings
+    /// seen.
     pub fn lines(&self) -> u64
         ensures { result ≡ self.now.reading.lines }
     {
         self.reader.lines()
     }
 
-    /// Shows the view a happening that the text doesn't have. Gives the least law that it breaks; one that breaks a law
-    /// isn't shown. Where memory runs out the view is of no more use.
+    /// Shows the view a happening that is not in the text. Returns the lowest-numbered law that it breaks, in which
+    /// case it is not shown. If memory allocation fails, the view must not be used any more.
     pub(crate) fn show<B: Allocator>(
         &mut self,
         happening: &HappeningIn<B>,
@@ -148,12 +149,12 @@ impl<A: Allocator + Copy> TextView<A> {
         ensures law { IfOk result (λ law. (past : List Event) → Viewed self.old.viewing past
             → option_map law_number law ≡ broken happening.now past) }
         ensures next { IfOk result (λ law.
-            SeesNext law self.old.viewing self.new.viewing happening.now) }
+            ViewAfterHappening law self.old.viewing self.new.viewing happening.now) }
     {
         self.view.take(happening)
     }
 
-    /// The view of what was seen.
+    /// Returns the view of the happenings seen.
     pub fn view(&self) -> &TraceView<A>
         ensures { result.now ≡ self.now.viewing }
     {
@@ -170,8 +171,8 @@ impl<A: Allocator + Copy> TextView<A> {
         }
     }
 
-    /// The view of what was taken, why it went no further, and the number of the line, from 1, at which the last
-    /// happening begins where that isn't finished: it isn't seen.
+    /// Returns the view of what was taken, why it ended, if it did, and the number of the line at which the last
+    /// happening begins if that is incomplete, counted from 1. An incomplete happening is not seen.
     pub fn answer(&self) -> (&TraceView<A>, Option<ViewEnd>, Option<u64>)
         ensures { (trace : List Event) (text : List ℕ) → length text < 2 ^ 64
             → HasShown self.now trace text

@@ -3,7 +3,7 @@
 ghost use Rattle.std.specs.Prelude.{◌≡◌, ◌&&◌, ◌||◌, if◌then◌else◌, true, false, List, Some, None, option_map, option_copied, IfOk};
 ghost use Rattle.std.specs.Option.{option_map_or, option_or};
 ghost use Rattle.trace_view.specs.Words.{Start, Entry, Event, table_of, stage_of, grace_of, time_of, unreaped_children, broken, is_order, is_excluded, is_owed, is_wanted, starts_in, starts_now, entry_of, is_distinct, law_number, open_of, child_of, is_announced};
-ghost use Rattle.trace_view.specs.Viewing.{unviewed, Viewed, SeesNext};
+ghost use Rattle.trace_view.specs.Viewing.{unviewed, Viewed, ViewAfterHappening};
 ghost use Rattle.trace_view.specs.Why.{entry_id, first_awaited, standing_of, stops_now, number_of, why, why_entry};
 ghost use Rattle.trace_view.specs.Rows.{row_of, gone_ids, is_complete_now, complete_in};
 ghost use Rattle.trace_view.specs.Wishes.{asked_level, first_wish, next_stage};
@@ -11,7 +11,8 @@ ghost use Rattle.trace_view.specs.Wishes.{asked_level, first_wish, next_stage};
 use crate::calls::{is_named, take_call};
 use crate::child_lists::ChildList;
 use crate::children::{
-    BornChild, excludes, gone_of, has_born_as, number_of, take_early, take_kept, take_unreaped,
+    BornChild, gone_of, has_born_as, is_child_excluded, number_of, take_early, take_kept,
+    take_unreaped,
 };
 use crate::rows::{Births, ById, Ending, Row, empty_map, of_id, take_birth, take_end};
 use crate::standings::Standing;
@@ -24,9 +25,9 @@ use std::marker::Model;
 use trace_check::{Law, TraceJudge};
 use trace_events::{CallSet, HappeningIn};
 
-/// A view of a trace that comes one happening after another, the oldest first.
+/// A view of a trace whose happenings come one after another, oldest first.
 ///
-/// A contract sees of it which pasts it has seen (`Viewed`).
+/// A contract sees which pasts the view has seen (`Viewed`).
 #[derive(Drop)]
 pub struct TraceView<A: Allocator = Global> {
     alloc: A,
@@ -57,7 +58,7 @@ impl<A: Allocator> Model for TraceView<A> {
     } };
 }
 
-/// The entry starts in the stage, where there is one.
+/// Returns whether there is a stage and the entry starts in it.
 fn starts_in(entry: &Entry, stage: Option<Stage>) -> bool
     ensures { result ≡ starts_in entry.now stage }
 {
@@ -85,7 +86,7 @@ fn act_in(entry: Option<&Entry>) -> Option<Act>
     }
 }
 
-/// The order is a start.
+/// Returns whether the order is a start.
 fn is_start(order: Option<OrderKind>) -> bool
     ensures { result ≡ is_order Start order }
 {
@@ -101,7 +102,7 @@ fn owed_by(waited: bool, kept: bool, starting: bool, wanted: bool) -> bool
     waited && (kept || starting || wanted)
 }
 
-/// The first id; else the other one, where it is so.
+/// Returns the first id; if there is none, the other one if `so` is true.
 fn id_or(first: Option<Id>, so: bool, other: Id) -> Option<Id>
     ensures { result ≡ option_or first (if so then Some other else None) }
 {
@@ -127,7 +128,7 @@ fn only_if<T: Copy>(test: bool, value: Option<T>) -> Option<T>
 impl<A: Allocator + Copy> TraceView<A> {
     ghost use Rattle.std.specs.Prelude.{[]};
 
-    /// A view that has seen nothing. It takes no memory.
+    /// Creates a view that has seen nothing. This does not allocate.
     pub fn new(alloc: A) -> TraceView<A>
         ensures value { result ≡ unviewed }
         ensures seen { Viewed result [] }
@@ -145,12 +146,13 @@ impl<A: Allocator + Copy> TraceView<A> {
         }
     }
 
-    /// Takes the next happening, and gives the least law that it breaks. One that breaks a law isn't taken: the view
-    /// stays as it was. Where memory runs out a part of the happening may be taken, and the view is of no more use.
+    /// Takes the next happening. Returns the lowest-numbered law that it breaks, in which case it is not taken and the
+    /// view stays as it was. If memory allocation fails, a part of the happening may have been taken, and the view must
+    /// not be used any more.
     pub fn take<B: Allocator>(&mut self, happening: &HappeningIn<B>) -> Result<Option<Law>, Memory>
         ensures law { IfOk result (λ law. (past : List Event) → Viewed self.old past
             → option_map law_number law ≡ broken happening.now past) }
-        ensures next { IfOk result (λ law. SeesNext law self.old self.new happening.now) }
+        ensures next { IfOk result (λ law. ViewAfterHappening law self.old self.new happening.now) }
     {
         if let Some(law) = self.judge.take(happening)? {
             return Ok(Some(law));
@@ -170,7 +172,7 @@ impl<A: Allocator + Copy> TraceView<A> {
 }
 
 impl<A: Allocator> TraceView<A> {
-    /// How an entry of the table in force stands.
+    /// Returns the state of an entry of the table in force.
     pub fn standing(&self, entry: &Entry) -> Standing
         ensures { (past : List Event) → Viewed self.now past
             → entry_of entry.now.id (table_of past) ≡ Some entry.now
@@ -189,7 +191,7 @@ impl<A: Allocator> TraceView<A> {
         Standing {
             starts: starts_in(entry, stage),
             child: number_of(kept.youngest_of(id)),
-            stops: excludes(kept.youngest_of(id), table, stage),
+            stops: is_child_excluded(kept.youngest_of(id), table, stage),
             booted: self.wishes.booted,
             ran: has_born_as(entry, self.early.as_slice()),
             awaited: self.awaited(),
@@ -204,7 +206,7 @@ impl<A: Allocator> TraceView<A> {
         }
     }
 
-    /// Init waits for an entry of the table in force.
+    /// Returns whether init waits for an entry of the table in force.
     fn owes(&self, entry: &Entry) -> bool
         ensures { (past : List Event) → Viewed self.now past
             → entry_of entry.now.id (table_of past) ≡ Some entry.now
@@ -217,7 +219,7 @@ impl<A: Allocator> TraceView<A> {
         owed_by(waited, kept, starting, wanted)
     }
 
-    /// The first entry of all that init waits for.
+    /// Returns the first entry of the table that init waits for.
     fn awaited(&self) -> Option<Id>
         ensures { (past : List Event) → Viewed self.now past
             → result ≡ option_map entry_id (first_awaited past) }
@@ -231,7 +233,7 @@ impl<A: Allocator> TraceView<A> {
         }
     }
 
-    /// Why the id isn't started next.
+    /// Returns the reason why the id is not started next.
     pub fn why(&self, id: &Id) -> Why
         ensures { (past : List Event) → Viewed self.now past → result ≡ why id.now past }
     {
@@ -241,7 +243,8 @@ impl<A: Allocator> TraceView<A> {
         }
     }
 
-    /// Why an entry of the table in force isn't started next. Where its child lives on nothing else is looked at.
+    /// Returns the reason why an entry of the table in force is not started next. If the entry starts in the stage and
+    /// has a child, nothing else is examined.
     fn why_of(&self, entry: &Entry) -> Why
         ensures { (past : List Event) → Viewed self.now past
             → entry_of entry.now.id (table_of past) ≡ Some entry.now
@@ -255,7 +258,7 @@ impl<A: Allocator> TraceView<A> {
         }
     }
 
-    /// What is told of an id: of an entry of the table, or of one whose child outlives its entry.
+    /// Returns what is reported about an id, which belongs to an entry of the table or to a child whose entry is gone.
     pub fn row(&self, id: &Id) -> Row
         ensures { (past : List Event) → Viewed self.now past → result ≡ row_of id.now past }
     {
@@ -267,7 +270,7 @@ impl<A: Allocator> TraceView<A> {
             act: act_in(entry),
             why: self.why(id),
             child: number_of(unreaped.youngest_of(*id)),
-            excluded: excludes(unreaped.youngest_of(*id), table, stage),
+            excluded: is_child_excluded(unreaped.youngest_of(*id), table, stage),
             births: of_id(&self.births, id),
             order: self.judge.order(id),
             term: self.judge.termed(id),
@@ -275,14 +278,14 @@ impl<A: Allocator> TraceView<A> {
         }
     }
 
-    /// The open order of an id.
+    /// Returns the open order of an id.
     pub fn order(&self, id: &Id) -> Option<OrderKind>
         ensures { (past : List Event) → Viewed self.now past → result ≡ open_of id.now past }
     {
         self.judge.order(id)
     }
 
-    /// The number of the id's unreaped child.
+    /// Returns the number of the id's unreaped child.
     pub fn child(&self, id: &Id) -> Option<ChildNumber>
         ensures { (past : List Event) → Viewed self.now past
             → result ≡ option_map number_of (child_of id.now past) }
@@ -290,17 +293,17 @@ impl<A: Allocator> TraceView<A> {
         number_of(self.unreaped.youngest_of(*id))
     }
 
-    /// The id has an unreaped child that may not live on.
+    /// Returns whether the id has an unreaped child that is excluded.
     pub fn has_excluded(&self, id: &Id) -> bool
         ensures { (past : List Event) → Viewed self.now past
             → result ≡ option_map_or (is_excluded past) (child_of id.now past) false }
     {
         let table = self.judge.table();
         let stage = self.judge.stage();
-        excludes(self.unreaped.youngest_of(*id), table, stage)
+        is_child_excluded(self.unreaped.youngest_of(*id), table, stage)
     }
 
-    /// An entry starts in the stage in force.
+    /// Returns whether an entry starts in the stage in force.
     pub fn starts(&self, entry: &Entry) -> bool
         ensures { (past : List Event) → Viewed self.now past
             → result ≡ starts_now entry.now past }
@@ -308,7 +311,7 @@ impl<A: Allocator> TraceView<A> {
         starts_in(entry, self.judge.stage())
     }
 
-    /// An entry of the table in force is wanted.
+    /// Returns whether an entry of the table in force is wanted.
     pub fn is_wanted(&self, entry: &Entry) -> bool
         ensures { (past : List Event) → Viewed self.now past
             → entry_of entry.now.id (table_of past) ≡ Some entry.now
@@ -317,7 +320,7 @@ impl<A: Allocator> TraceView<A> {
         self.judge.is_wanted(entry)
     }
 
-    /// The table in force; no id stands in it twice.
+    /// Returns the table in force. It has no id twice.
     pub fn table(&self) -> &Table<A>
         ensures value { (past : List Event) → Viewed self.now past → result.now ≡ table_of past }
         ensures distinct { is_distinct result.now ≡ true }
@@ -325,56 +328,58 @@ impl<A: Allocator> TraceView<A> {
         self.judge.table()
     }
 
-    /// The stage in force.
+    /// Returns the stage in force.
     pub fn stage(&self) -> Option<Stage>
         ensures { (past : List Event) → Viewed self.now past → result ≡ stage_of past }
     {
         self.judge.stage()
     }
 
-    /// The seconds between the two signals that stop a child.
+    /// Returns the seconds between the two signals that stop a child.
     pub fn grace(&self) -> u16
         ensures { (past : List Event) → Viewed self.now past → result ≡ grace_of past }
     {
         self.judge.grace()
     }
 
-    /// The time, in seconds.
+    /// Returns the time, in seconds.
     pub fn time(&self) -> u64
         ensures { (past : List Event) → Viewed self.now past → result ≡ time_of past }
     {
         self.judge.time()
     }
 
-    /// The wish that is carried out first.
+    /// Returns the request that is carried out first.
     pub fn wish(&self) -> Option<Wish>
         ensures { (past : List Event) → Viewed self.now past → result ≡ first_wish past }
     {
         self.wishes.first(self.judge.stage())
     }
 
-    /// The level that is asked for and not yet entered.
+    /// Returns the level that was requested and not entered yet.
     pub fn asked_level(&self) -> Option<Level>
         ensures { (past : List Event) → Viewed self.now past → result ≡ asked_level past }
     {
         self.wishes.asked(self.judge.stage())
     }
 
-    /// The stage that init enters for another level that is asked for, with the seconds between its signals.
+    /// Returns the stage that init enters next because another level was requested, with the seconds between its
+    /// signals.
     pub fn next_stage(&self) -> Option<(Stage, u16)>
         ensures { (past : List Event) → Viewed self.now past → result ≡ next_stage past }
     {
         self.wishes.next_stage(self.judge.stage())
     }
 
-    /// The runlevel in force was announced settled, and no table was read since.
+    /// Returns whether the runlevel in force was announced settled, and no table came since.
     pub fn is_settled(&self) -> bool
         ensures { (past : List Event) → Viewed self.now past → result ≡ is_announced past }
     {
         self.wishes.announced
     }
 
-    /// The stage in force is a runlevel, and nothing is owed in it at this moment, whether that was announced or not.
+    /// Returns whether the stage in force is a runlevel that could be announced settled at this moment, whether that
+    /// was announced or not.
     pub fn is_complete(&self) -> bool
         ensures { (past : List Event) → Viewed self.now past → result ≡ is_complete_now past }
     {
@@ -384,7 +389,7 @@ impl<A: Allocator> TraceView<A> {
         }
     }
 
-    /// The stage is a runlevel that is in force, and nothing is owed in it.
+    /// Returns whether the stage, which is in force, is a runlevel that could be announced settled.
     fn completes(&self, stage: Stage) -> bool
         ensures { (past : List Event) → Viewed self.now past
             → result ≡ complete_in (Some stage) past }
@@ -396,7 +401,7 @@ impl<A: Allocator> TraceView<A> {
         }
     }
 
-    /// The unreaped children, the youngest first.
+    /// Returns the unreaped children, youngest first.
     pub fn children<B: Allocator>(&self, alloc: B) -> Result<Vec<BornChild, B>, Memory>
         ensures { IfOk result (λ children. (past : List Event) → Viewed self.now past
             → children.items ≡ unreaped_children past) }
@@ -405,7 +410,7 @@ impl<A: Allocator> TraceView<A> {
         Ok(children)
     }
 
-    /// The ids of the unreaped children that the table in force has no entry for, the youngest child first.
+    /// Returns the ids of the unreaped children for which the table in force has no entry, youngest child first.
     pub fn gone<B: Allocator + Copy>(&self, alloc: B) -> Result<Vec<Id, B>, Memory>
         ensures { IfOk result (λ ids. (past : List Event) → Viewed self.now past
             → ids.items ≡ gone_ids (table_of past) (unreaped_children past)) }

@@ -1,4 +1,4 @@
-//! Why an entry isn't started next.
+//! Why an entry is not started next.
 
 ghost use Rattle.std.specs.Prelude.{◌≡◌};
 ghost use Rattle.trace_view.specs.Why.{by_awaited, elsewhere, is_past, not_here, not_wanted, why_by};
@@ -7,7 +7,7 @@ use crate::standings::{Excluded, Standing};
 use crate::wishes::Wish;
 use init_words::{Act, ChildNumber, Id, OrderKind, Stage};
 
-/// Why an entry isn't started next: the first reason.
+/// The first reason why an entry is not started next.
 #[derive(Clone, Copy)]
 pub enum Why {
     /// The table in force has no such entry.
@@ -16,37 +16,37 @@ pub enum Why {
     NeverStarts,
     /// No stage has begun.
     NoStage,
-    /// Its stage is over, and it ran in it.
+    /// Its stage is over, and it ran in that stage.
     RanBefore,
-    /// Its stage is over, and it never ran in it.
+    /// Its stage is over, and it never ran in that stage.
     StageOver,
-    /// Its stage is to come, and init waits for an entry.
+    /// Its stage is still to come, and init waits for this entry first.
     StageOwed(Id),
-    /// It names other levels than the one in force, or belongs to another stage, which may be to come.
+    /// It names other levels than the one in force, or belongs to another stage, which may be still to come.
     OtherStage,
-    /// A child of it was not told to have ended.
+    /// It has a child whose end was not told.
     ChildKept(ChildNumber),
-    /// An order about it is open.
+    /// It has an open order.
     OrderOpen(OrderKind),
-    /// Nothing called it since the stage began or the table was read.
+    /// Nothing called it since the last stage or table.
     NotCalled,
     /// It was started since the stage began.
     WasStarted,
-    /// Init waits for an earlier entry.
+    /// Init waits for this earlier entry.
     EarlierOwed(Id),
-    /// A child that may not live was not told to have ended.
+    /// The end of this excluded child was not told.
     ExcludedKept(Excluded),
-    /// A wish is carried out first.
+    /// This request is carried out first.
     WishStands(Wish),
-    /// It is held, since this time.
+    /// It has been held since this time.
     Held(u64),
-    /// It was started ten times in two minutes: it is held next.
+    /// It was started ten times in two minutes, and is held next.
     WindowFull,
-    /// Nothing: its start is due.
+    /// There is no reason: its start is due.
     Nothing,
 }
 
-/// The action starts its entries in a stage that is over.
+/// Returns whether the action starts its entries in a stage that is over.
 fn is_past(act: Act, booted: bool, stage: Stage) -> bool
     ensures { result ≡ is_past act booted stage }
 {
@@ -58,7 +58,7 @@ fn is_past(act: Act, booted: bool, stage: Stage) -> bool
     }
 }
 
-/// Why an entry whose stage is to come isn't started.
+/// Returns why an entry is not started whose stage is still to come.
 fn by_awaited(stage: Stage, awaited: Option<Id>) -> Why
     ensures { result ≡ by_awaited stage awaited }
 {
@@ -69,7 +69,7 @@ fn by_awaited(stage: Stage, awaited: Option<Id>) -> Why
     }
 }
 
-/// Why an entry of another stage isn't started.
+/// Returns why an entry of another stage is not started.
 fn elsewhere(act: Act, stage: Stage, standing: &Standing) -> Why
     ensures { result ≡ elsewhere act stage standing.now }
 {
@@ -83,7 +83,7 @@ fn elsewhere(act: Act, stage: Stage, standing: &Standing) -> Why
     }
 }
 
-/// Why an entry that doesn't start in the stage doesn't.
+/// Returns why an entry is not started that does not start in the stage in force.
 fn not_here(act: Act, stage: Option<Stage>, standing: &Standing) -> Why
     ensures { result ≡ not_here act stage standing.now }
 {
@@ -99,7 +99,7 @@ fn not_here(act: Act, stage: Option<Stage>, standing: &Standing) -> Why
     }
 }
 
-/// Why an entry of which nothing runs isn't asked for.
+/// Returns why an entry is not wanted that has neither a child nor an open order.
 fn not_wanted(act: Act, named: bool) -> Why
     ensures { result ≡ not_wanted act named }
 {
@@ -110,7 +110,7 @@ fn not_wanted(act: Act, named: bool) -> Why
     }
 }
 
-/// The first reason that keeps an entry of this action back, where it stands so.
+/// Returns the first reason against starting an entry with this action and in this state.
 pub fn why_by(act: Act, stage: Option<Stage>, standing: &Standing) -> Why
     ensures { result ≡ why_by act stage standing.now }
 {

@@ -1,4 +1,4 @@
-//! The wishes that stand.
+//! The pending requests.
 
 ghost use Rattle.std.specs.Prelude.{◌≡◌, ◌∷◌, List};
 ghost use Rattle.trace_view.specs.Words.{Event, Got, other_than, stage_of};
@@ -9,34 +9,34 @@ use initctl_frame::HeardRequest;
 use std::alloc::Allocator;
 use trace_events::{CallSet, Goal, Happening, HappeningIn, in_run, is_level};
 
-/// A wish that stands: no entry is started before it is carried out.
+/// A pending request. No entry is started before it is carried out.
 #[derive(Clone, Copy)]
 pub enum Wish {
-    /// Init is to execute itself anew.
+    /// A re-execution of init.
     Reexec,
-    /// Inittab is to be read again.
+    /// Reading inittab again.
     Reread,
-    /// Another level is to be entered.
+    /// Entering another level.
     Level(Level),
-    /// Entries are to be called for news of the power or for a letter.
+    /// Calling entries for a power event or for a letter.
     News,
 }
 
-/// What was wished and is not yet done (telinit(8), initreq.h).
+/// The pending requests (telinit(8), initreq.h), and the state on which they depend.
 #[derive(Clone, Copy, Default)]
 pub(crate) struct Wishes {
     pub(crate) reexec: bool,
     pub(crate) reread: bool,
     pub(crate) heard: Option<Goal>,
     pub(crate) news: CallSet,
-    /// Boot was entered.
+    /// Whether Boot was entered.
     pub(crate) booted: bool,
-    /// The level was announced settled, and neither a stage nor a table came since.
+    /// Whether the level was announced settled, and no stage or table came since.
     pub(crate) announced: bool,
 }
 
 impl Wishes {
-    /// Takes the happening, where the stage is in force after it.
+    /// Updates the pending requests for a happening; `stage` is in force after it.
     pub(crate) fn take<B: Allocator>(&mut self, stage: Option<Stage>, happening: &HappeningIn<B>)
         ensures { (past : List Event) → stage ≡ stage_of (happening.now ∷ past)
             → self.old ≡ wishes_of past → self.new ≡ wishes_of (happening.now ∷ past) }
@@ -85,7 +85,7 @@ impl Wishes {
         }
     }
 
-    /// The level that is asked for and isn't this stage.
+    /// Returns the level that was requested, unless it is the present stage.
     pub(crate) fn asked(self, stage: Option<Stage>) -> Option<Level>
         ensures { result ≡ unless_here stage self.heard }
     {
@@ -97,7 +97,7 @@ impl Wishes {
         }
     }
 
-    /// The wish for another level, in this stage.
+    /// Returns the request for another level than the present stage, which has to be a level.
     fn level(self, stage: Option<Stage>) -> Option<Goal>
         ensures { result ≡ other_than stage self.heard }
     {
@@ -111,7 +111,8 @@ impl Wishes {
         }
     }
 
-    /// The stage that is entered for it, with the seconds between its signals: Boot first, where that was not entered.
+    /// Returns the stage that is entered for the requested level, with the seconds between its signals. This is Boot
+    /// first, if Boot was not entered yet and the level is not S.
     pub(crate) fn next_stage(self, stage: Option<Stage>) -> Option<(Stage, u16)>
         ensures { result ≡ next_stage_in stage self }
     {
@@ -122,7 +123,7 @@ impl Wishes {
         Some((Stage::Run(wish.level), wish.grace))
     }
 
-    /// The wish that is carried out first, in this stage.
+    /// Returns the request that is carried out first in this stage.
     pub(crate) fn first(self, stage: Option<Stage>) -> Option<Wish>
         ensures { result ≡ first_wish_in stage self }
     {

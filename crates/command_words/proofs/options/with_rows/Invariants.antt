@@ -4,7 +4,7 @@ use Rattle.clap.specs.Words.{app_of}
 use Rattle.command_words.specs.CommandLines.{row_rule, texts_of, with_rules}
 use Rattle.command_words.proofs.options.with_rows.Given as goal
 
--- what is there with the rows that are left is the whole
+-- adding the remaining rows to the command built so far gives the command with all rows
 abbrev pub invariant-loop-row : goal.invariant-loop-row
 invariant-loop-row l = record {
   whole : with_rules (app_of l.line) (map row_rule (texts_of (drop l.row-index l.table)))

@@ -1,4 +1,4 @@
--- Each clause is a lemma on sound traces.
+-- Each clause is a lemma about sound traces.
 use Rattle.core_model.proofs.Words.{arith, one_child_at, settle_belongs, agrees_at}
 use Rattle.trace_laws.proofs.Pace.{start_paced}
 use Rattle.trace_laws.proofs.Targets.{hit_own}

@@ -1,7 +1,7 @@
 use Rattle.core_text.proofs.CommonWords.{◌≤◌, ◌+◌}
 use Rattle.core_text.proofs.reading.table_lines.Given as goal
 
--- the lines that are known, and those among which the first that is wrong stands, are no more than were given
+-- the lines known to fit, and those among which the first wrong one is, are together no more than were given
 abbrev pub invariant-loop-rest : goal.invariant-loop-rest
 invariant-loop-rest g l = l.known + l.rest ≤ l.count
 

@@ -1,7 +1,7 @@
 use Rattle.core_waiting.proofs.Words.{◌≡◌, ◌++◌, length, answers_text}
 use Rattle.core_waiting.proofs.lines.add_answers.Given as goal
 
--- the text so far, and behind it the lines of the records that are left, is the text and the lines of all
+-- the text so far, followed by the lines of the remaining records, is the text with all lines
 abbrev pub invariant-loop-slot : goal.invariant-loop-slot
 invariant-loop-slot l = l.text.items ++ answers_text l.stage l.rest ≡ l.fn.text.items ++ answers_text l.stage l.slots
 

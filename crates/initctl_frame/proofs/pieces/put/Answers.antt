@@ -1,11 +1,11 @@
 use Rattle.initctl_frame.proofs.Words.{◌≡◌, ◌∙◌, ℕ, ◌+◌, ◌<◌, List, [], ◌∷◌, ◌++◌, length, take, drop, get_or, suc, ap}
 use Rattle.initctl_frame.proofs.Words.{ap₂, subst, sym, arith, Option, append_assoc, length-append, length-drop}
 use Rattle.initctl_frame.proofs.Words.{length-take, take_all, drop-cons, set-append_seam, slice_set, HeardRequest}
-use Rattle.initctl_frame.proofs.Words.{Fills, filled}
+use Rattle.initctl_frame.proofs.Words.{StoresRequests, filled}
 use Rattle.std.specs.Option.{option_to_list}
 use Rattle.initctl_frame.proofs.pieces.put.Goals as goal
 
--- the next place takes the request
+-- writing a request into the next place adds it to the requests
 filled_next : (places gots : List HeardRequest) (got : HeardRequest) → length gots < length places
     → slice_set (filled places gots) (length gots) got ≡ filled places (gots ++ got ∷ [])
 filled_next places gots got position =
@@ -27,7 +27,7 @@ returns-in-Some-clause-fills c = λ places gots fills.
     let next : c.args.count ≡ length gots = omega (arith, fills.as_many) in
     let position : length gots < length places = omega (arith, fills.as_many) in
     let got = c.in-Some.got in
-    subst (λ (told : Option HeardRequest). Fills places (gots ++ option_to_list told) (c.args.count + 1)
+    subst (λ (told : Option HeardRequest). StoresRequests places (gots ++ option_to_list told) (c.args.count + 1)
     (slice_set c.args.room.now c.args.count got)) (sym c.in-Some.is)
     (record {
       as_many = omega (arith, length-append gots (got ∷ []));

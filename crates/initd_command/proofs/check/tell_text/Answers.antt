@@ -1,11 +1,11 @@
-use Rattle.initd_command.proofs.Words.{◌≡◌, ◌∙◌, refl, sym, subst, Some, Keeps-refl, Judged, unfinished, cut_at}
+use Rattle.initd_command.proofs.Words.{◌≡◌, ◌∙◌, refl, sym, subst, Some, Keeps-refl, TraceJudgement, unfinished, cut_at}
 use Rattle.initd_command.proofs.Words.{judged_of, verdict_of}
 use Rattle.initd_command.specs.Verdicts.{EndsTold}
 use Rattle.initd_command.proofs.check.tell_text.Goals as goal
 
 pub returns-in-Some : goal.returns-in-Some
 returns-in-Some g c =
-    let judged : Judged = judged_of c.args.judged in
+    let judged : TraceJudgement = judged_of c.args.judged in
     let out = g.W.Write.contents c.args.out.now in
     let ending = unfinished c.in-Some.line (verdict_of c.args.finding.now) in
     let cut : cut_at c.args.growing c.args.judged.open_line ≡ Some c.in-Some.line =

@@ -2,24 +2,25 @@ use Rattle.initd_command.proofs.Words.{◌≡◌, refl, sym, subst, rules, inl, 
 use Rattle.initd_command.proofs.Words.{string_bytes, Keeps-refl, KnownTexts, InitdArguments, check_of, judges}
 use Rattle.initd_command.proofs.Words.{initd_read_of}
 use Rattle.initd_command.proofs.Words.{simulation_of, simulates, runs, version, RunArguments, run_of, HostCall, Ending}
-use Rattle.initd_command.proofs.Words.{refused, usage, usage_named, AsksBy, AsksArguments, RunTold, HostSettings}
-use Rattle.initd_command.specs.Runs.{EndsBy, EndsRead}
+use Rattle.initd_command.proofs.Words.{refused, usage, usage_named, ArgumentsAsk, CommandLineAsks, RunRecord}
+use Rattle.initd_command.proofs.Words.{HostSettings}
+use Rattle.initd_command.specs.Runs.{ArgumentsEnd, ParsedArgumentsEnd}
 use Rattle.initd_command.specs.declared.run.Obstacle.TheVariants.{Memory}
 use Rattle.initd_command.proofs.Ran.{none_asked}
 use Rattle.initd_command.proofs.command.run_words.Goals as goal
 
--- words that were read end, and ask, by what they say
+-- arguments that were read end, and ask hosts, as they say
 by_words : (text_at : KnownTexts) (words : List (List ℕ)) (options : Option InitdArguments)
-    (conforms : Option HostSettings → Type 0) (ending : Ending) (old new : RunTold)
-    → initd_read_of words ≡ options → EndsRead text_at words options ending old.out new.out
-    → AsksArguments text_at options conforms ending old new
-    → EndsBy text_at words ending old.out new.out × AsksBy text_at words conforms ending old new
+    (conforms : Option HostSettings → Type 0) (ending : Ending) (old new : RunRecord)
+    → initd_read_of words ≡ options → ParsedArgumentsEnd text_at words options ending old.out new.out
+    → CommandLineAsks text_at options conforms ending old new
+    → ArgumentsEnd text_at words ending old.out new.out × ArgumentsAsk text_at words conforms ending old new
 by_words text_at words options conforms ending old new is ends asks = (
-  inr (subst (λ s. EndsRead text_at words s ending old.out new.out) (sym is) ends),
-  subst (λ s. AsksArguments text_at s conforms ending old new) (sym is) asks,
+  inr (subst (λ s. ParsedArgumentsEnd text_at words s ending old.out new.out) (sym is) ends),
+  subst (λ s. CommandLineAsks text_at s conforms ending old new) (sym is) asks,
 )
 
-abbrev told : Option (List RunArguments) → Option (List HostCall) → List ℕ → Option (List ℕ) → RunTold
+abbrev told : Option (List RunArguments) → Option (List HostCall) → List ℕ → Option (List ℕ) → RunRecord
 told opened calls trace out = record { opened = opened; calls = calls; trace = trace; out = out }
 
 pub returns-in-Ok-Simulate : goal.returns-in-Ok-Simulate
@@ -92,7 +93,7 @@ returns-in-Err-Usage g c =
 
 pub returns : goal.returns
 returns g c =
-    let now : RunTold = told (g.S.Hosts.opened c.args.hosts.now) (g.S.Hosts.told c.args.hosts.now)
+    let now : RunRecord = told (g.S.Hosts.opened c.args.hosts.now) (g.S.Hosts.told c.args.hosts.now)
     (g.F.Traces.told c.args.traces.now) (g.W.Write.contents c.args.out.now) in (
       refused Memory,
       c.report_memory.ensures.status,

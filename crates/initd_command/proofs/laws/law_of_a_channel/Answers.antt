@@ -3,11 +3,11 @@ use Rattle.std.specs.Prelude.{Ok, Err}
 use Rattle.host_calls.specs.declared.calls.Call.TheVariants as call
 use Rattle.host_files.proofs.GrownLemmas.{all_read}
 use Rattle.host_system.specs.Hearing.{bytes_taken}
-use Rattle.host_trace.specs.Requests.{bytes_of}
+use Rattle.supervisor.specs.Requests.{bytes_of}
 use Rattle.initd_command.specs.Words.{HostCall}
 use Rattle.initd_command.proofs.laws.law_of_a_channel.Goals as goal
 
--- the bytes that calls took
+-- the two definitions of the bytes that the calls returned agree
 same_bytes : (calls : List HostCall) → bytes_of calls ≡ bytes_taken calls
 same_bytes [] = refl
 same_bytes (call.TakeBytes room (Ok bytes) ∷ calls) = ap (λ taken. taken ++ bytes) (same_bytes calls)

@@ -1,5 +1,5 @@
 use Rattle.initd_command.proofs.Words.{[], run_of}
-use Rattle.host_calls.proofs.Record.{Since-map}
+use Rattle.host_calls.proofs.Record.{NewCallsSatisfy-map}
 use Rattle.initd_command.proofs.Ran.{brief_written, made_traced, plain_written, some_known}
 use Rattle.initd_command.proofs.run.make_over.Goals as goal
 
@@ -11,7 +11,7 @@ returns-then-options-clause-ended g c =
       status,
       served,
       reported,
-      λ bytes is table opens. Since-map _ _ _ _ (made table opens) (λ calls.
+      λ bytes is table opens. NewCallsSatisfy-map _ _ _ _ (made table opens) (λ calls.
           made_traced _ _ (run_of c.args.options.now) table end
           (c.new.ensures.nothing taken) bytes calls c.requires.trace
           (brief_written _ bytes is c.args.options.now.brief c.if-options.true)),
@@ -25,7 +25,7 @@ returns-clause-ended g c =
       status,
       served,
       reported,
-      λ bytes is table opens. Since-map _ _ _ _ (made table opens) (λ calls.
+      λ bytes is table opens. NewCallsSatisfy-map _ _ _ _ (made table opens) (λ calls.
           made_traced _ _ (run_of c.args.options.now) table end taken bytes calls c.requires.trace
           (plain_written _ bytes is c.args.options.now.brief c.if-options.false)),
     )

@@ -1,8 +1,9 @@
 use Rattle.initd_command.proofs.Words.{◌≡◌, refl, sym, ◌∙◌, ap, subst, ◌&&◌, if◌then◌else◌, not, Bool, true, false}
-use Rattle.initd_command.proofs.Words.{List, ℕ, Option, Appends, AppendsPrefix, Since, run_of, MakesTraced, Writes}
+use Rattle.initd_command.proofs.Words.{List, ℕ, Option, Appends, AppendsPrefix, NewCallsSatisfy, run_of, MakesTraced}
+use Rattle.initd_command.proofs.Words.{Writes}
 use Rattle.initd_command.proofs.run.make_run.Goals as goal
 
--- a text that was told was written, any other in part
+-- a text whose writing succeeded was written whole, any other in part
 writes : (told : Bool) (text : List ℕ) (old new : Option (List ℕ)) → (told ≡ true → Appends old new text)
     → AppendsPrefix old new text → Writes told text old new
 writes true text old new whole part = whole refl
@@ -42,7 +43,7 @@ returns-clause-ended g c =
       ),
       bytes,
       grown,
-      λ table opens. subst (λ now. Since (g.H.Host.told c.args.run.host) now
+      λ table opens. subst (λ now. NewCallsSatisfy (g.H.Host.told c.args.run.host) now
           (MakesTraced (run_of c.args.options.now) table end bytes)) (sym c.close-is_printed.ensures.told)
           (made table opens),
     )

@@ -1,5 +1,5 @@
 use Rattle.initd_command.proofs.Words.{◌≡◌, ◌++◌, ◌∙◌, [], ap, append-nil, is_some, run_of, subst, sym}
-use Rattle.host_calls.proofs.Record.{Since-map}
+use Rattle.host_calls.proofs.Record.{NewCallsSatisfy-map}
 use Rattle.initd_command.proofs.Ran.{made_untraced}
 use Rattle.initd_command.proofs.run.make_traced.Goals as goal
 
@@ -13,7 +13,7 @@ returns-in_default-clause-ended g c =
       reported,
       [],
       none,
-      λ table opens. Since-map _ _ _ _ (made table opens) (λ calls.
+      λ table opens. NewCallsSatisfy-map _ _ _ _ (made table opens) (λ calls.
           made_untraced _ _ (run_of c.args.options.now) table end tt calls
           (sym c.requires ∙ ap is_some c.in_default.is)),
     )

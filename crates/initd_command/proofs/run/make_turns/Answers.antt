@@ -1,9 +1,10 @@
 use Rattle.initd_command.proofs.Words.{◌≡◌, ℕ, Bool, true, not, refl, sym, ◌∙◌, ap, subst, reverse, [], None, List}
-use Rattle.initd_command.proofs.Words.{Event, Served, Finds, Judgement, Notes, NotesOf, Watched, watched_state, run_of}
-use Rattle.initd_command.proofs.Words.{waiting_text, IsNoted, LogEnds, TurnsFrom, end_of, noted_of}
-use Rattle.host_trace.specs.Edges.{EdgeState, calls_of}
-use Rattle.host_trace.proofs.Told.{Since-edge, had_each, with_logs, with_logs-calls, with_logs-had}
-use Rattle.init_turns.specs.Arriving.{ServesTurns}
+use Rattle.initd_command.proofs.Words.{Event, Served, IsJudgementOf, Judgement, Notes, AreNotesOf, Watched}
+use Rattle.initd_command.proofs.Words.{watched_state, run_of}
+use Rattle.initd_command.proofs.Words.{waiting_text, AreNotesOfRun, LogEnds, TurnsFrom, end_of, noted_of}
+use Rattle.supervisor.specs.Edges.{EdgeState, calls_of}
+use Rattle.supervisor.proofs.Told.{NewCallsSatisfy-edge, had_each, with_logs, with_logs-calls, with_logs-had}
+use Rattle.supervisor.specs.Arriving.{AreObservedTurns}
 use Rattle.initd_command.proofs.Noted.{is_served, judged_still, led_fits, noted_over, served_still}
 use Rattle.initd_command.proofs.run.make_turns.Goals as goal
 
@@ -30,9 +31,9 @@ returns-clause-ended g c =
     ap (λ (parts : _ × Watched _). parts.1) c.into_parts-host.ensures in
     let parts = c.into_parts-log.ensures.parts ∙ ap (λ (w : Watched _). (w.log, w.notes, w.judgement)) given in
     let tells : (trace : List Event) → now.taken trace
-    → NotesOf notes (reverse trace) × Finds found (reverse trace) × has_ended c.end-log_end.result.1 trace =
+    → AreNotesOf notes (reverse trace) × IsJudgementOf found (reverse trace) × has_ended c.end-log_end.result.1 trace =
     λ trace took. (
-      subst (λ (p : _ × Notes × Judgement). NotesOf p.1 (reverse trace)) (sym parts) took.0,
+      subst (λ (p : _ × Notes × Judgement). AreNotesOf p.1 (reverse trace)) (sym parts) took.0,
       c.into_parts-log.ensures.found trace
           (subst (λ (w : Watched _). (watched_state state w).taken trace) (sym given) took),
       c.end-log_end.ensures.ended trace
@@ -42,12 +43,12 @@ returns-clause-ended g c =
       (rw c.deref.ensures at c.report_end-status.ensures.status),
       (c.ended_with-served.result, noted, refl, most, asked),
       (rw c.deref.ensures at c.report_end-status.ensures.reported),
-      λ table opens. Since-edge g.H.Host.told c.args.host c.into_parts-host.result.0 c.new-watched.result
+      λ table opens. NewCallsSatisfy-edge g.H.Host.told c.args.host c.into_parts-host.result.0 c.new-watched.result
           c.new-edge.result last _ _ c.new-edge.ensures c.law_of_calls.ensures (ap (λ (parts : _ × Watched _). parts.0)
-          c.into_parts-host.ensures) (c.serve-core.ensures.trace service.level table opens) (λ mades made.
-          let calls = calls_of mades in
+          c.into_parts-host.ensures) (c.serve-core.ensures.trace service.level table opens) (λ made_calls made.
+          let calls = calls_of made_calls in
           let over : (state c.args.log).taken [] → TurnsFrom service.level table calls
-          (λ past. (c.ended_with-served.result.logged ≡ true → IsNoted service.result noted past)
+          (λ past. (c.ended_with-served.result.logged ≡ true → AreNotesOfRun service.result noted past)
           × LogEnds has_ended c.ended_with-served.result.logged (reverse past)) =
           λ none. noted_over has_ended notes found c.end-log_end.result.1 c.serve-core.result.1.value first now service
           service.level table c.serve-core.result.0 c.ended_with-served.result c.then_some-judgement.result calls
@@ -57,7 +58,8 @@ returns-clause-ended g c =
               served = c.ended_with-served.result;
               noted = noted;
               turns = served_still (λ (turns : ℕ)
-                  (drained : Bool). ServesTurns service.strict service.drain service.level table turns None None calls)
+                  (drained : Bool).
+                  AreObservedTurns service.strict service.drain service.level table turns None None calls)
                   c.serve-core.result.0 c.ended_with-served.result _ c.ended_with-served.ensures made.0;
               fronts = λ later earlier next call is apart goal p sound opening allowed.
                   let led = made.2 later earlier next call is apart goal p sound opening allowed in
@@ -76,11 +78,11 @@ returns-clause-ended g c =
             },
             λ none allowed carried. (over none allowed carried).1,
             λ none. record {
-              mades = with_logs (λ (w : Watched _). w.log) mades;
-              same = with_logs-calls (λ (w : Watched _). w.log) mades;
+              made_calls = with_logs (λ (w : Watched _). w.log) made_calls;
+              same = with_logs-calls (λ (w : Watched _). w.log) made_calls;
               had = with_logs-had (λ (w : Watched _). w.log) (watched_state state) state _ (λ log works. works)
-                  (λ log trace took. took.2) mades
-                  (had_each (watched_state state) _ first mades (fresh none) made.3);
+                  (λ log trace took. took.2) made_calls
+                  (had_each (watched_state state) _ first made_calls (fresh none) made.3);
             },
           )),
     )

@@ -1,4 +1,4 @@
-use Rattle.initd_command.proofs.Words.{sym, subst, IfOk-weaker, run_of, AreFiles, IsInittab, IsInWay}
+use Rattle.initd_command.proofs.Words.{sym, subst, IfOk-weaker, run_of, AreFiles, IsInittab, IsRunObstacle}
 use Rattle.initd_command.proofs.Ended.{handed_on}
 use Rattle.initd_command.proofs.run.read_inittab.Goals as goal
 
@@ -7,7 +7,7 @@ returns-in_err-inittab-clause-err g c =
     let text_at = g.T.Texts.text_at c.args.texts.now in
     let service = run_of c.args.options.now in
     let are = subst (AreFiles text_at service) (sym c.deref.ensures.value) c.in_ok-parts.ensures.ok in
-    handed_on c.from_residual-in_err-inittab.result c.in_err-inittab.field-0.0 (IsInWay text_at service)
+    handed_on c.from_residual-in_err-inittab.result c.in_err-inittab.field-0.0 (IsRunObstacle text_at service)
     c.from_residual-in_err-inittab.ensures.1 (c.in_err-inittab.ensures.err text_at service are)
 
 pub returns-clause-ok : goal.returns-clause-ok

@@ -1,4 +1,5 @@
-use Rattle.initd_command.proofs.Words.{◌≡◌, ◌∙◌, refl, sym, subst, [], ◌∷◌, inl, inr, Keeps-refl, Since, run_of}
+use Rattle.initd_command.proofs.Words.{◌≡◌, ◌∙◌, refl, sym, subst, [], ◌∷◌, inl, inr, Keeps-refl, NewCallsSatisfy}
+use Rattle.initd_command.proofs.Words.{run_of}
 use Rattle.initd_command.proofs.Words.{refused, turned, MakesTraced}
 use Rattle.initd_command.specs.Services.{EndsTold}
 use Rattle.initd_command.proofs.Ran.{ran_to}
@@ -32,10 +33,10 @@ returns-in-Ok g c =
             out = now_out;
           })
           (parts, are, read, (taken, unled ∙ led, opens, tells))
-          (subst (λ now. Since (g.S.Hosts.opened c.args.hosts.now) now (λ saids. saids ≡ service ∷ []))
+          (subst (λ now. NewCallsSatisfy (g.S.Hosts.opened c.args.hosts.now) now (λ saids. saids ≡ service ∷ []))
           (sym c.make_run.ensures.opened) c.in-Ok.ensures.opened)
           grown
-          (λ table opening. subst (λ now. Since now (g.S.Hosts.told c.make_run.new.hosts)
+          (λ table opening. subst (λ now. NewCallsSatisfy now (g.S.Hosts.told c.make_run.new.hosts)
           (MakesTraced service table end bytes)) c.in-Ok.ensures.host (ran table opening))
           (g.H.Host.settings run.host, c.in-Ok.ensures.settings, c.make_run.ensures.conforms),
     )

@@ -16,7 +16,7 @@ returns-then-is_err g c =
       c.report_fault.ensures.reported,
     )
 
--- the run ended before its script
+-- the run ended before the end of its script
 pub returns-in-Err : goal.returns-in-Err
 returns-in-Err g c =
     let s = scenario c.args.level c.args.inittab.now c.args.script.now in (

@@ -1,7 +1,8 @@
 use Rattle.inittab_lint.proofs.Words.{◌≡◌, ◌++◌, ◌+◌, ◌≤◌, length, lines_of, warnings_of_lines}
 use Rattle.inittab_lint.proofs.linting.add_text.Given as goal
 
--- the warnings so far, and behind them those of the lines that are left, are those of all
+-- the warnings found so far, followed by those about the remaining lines, are the earlier ones and those about all
+-- lines
 abbrev pub invariant-loop-rest : goal.invariant-loop-rest
 invariant-loop-rest g l = record {
   counted : l.number + length l.rest ≤ length l.text;

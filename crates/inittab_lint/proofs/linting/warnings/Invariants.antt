@@ -2,7 +2,7 @@ use Rattle.inittab_lint.proofs.Words.{◌≡◌, ◌++◌, ◌+◌, ◌≤◌, l
 use Rattle.init_words.specs.Parts.{texts_of}
 use Rattle.inittab_lint.proofs.linting.warnings.Given as goal
 
--- the warnings so far, and behind them those of the files that are left, are those of all
+-- the warnings found so far, followed by those about the remaining files, are the warnings about all files
 abbrev pub invariant-loop-part : goal.invariant-loop-part
 invariant-loop-part g l = record {
   counted : l.number + length l.rest ≤ length l.parts;

@@ -1,7 +1,7 @@
 use Rattle.inittab_lint.proofs.Words.{◌≡◌, length, operator_in, operator_of}
 use Rattle.inittab_lint.proofs.shell.operator_of.Given as goal
 
--- what is left says what the whole process does
+-- the operator of the remaining text is that of the whole process
 abbrev pub invariant-loop-byte : goal.invariant-loop-byte
 invariant-loop-byte l = operator_in l.parts.items l.was_read l.start l.rest ≡ operator_of l.process
 

@@ -2,7 +2,8 @@ use Rattle.inittab_lint.proofs.Words.{◌≡◌, ◌++◌, map, filter, length, 
 use Rattle.inittab_text.specs.Lines.{fields_at}
 use Rattle.inittab_lint.proofs.traps.add_kinds.Given as goal
 
--- what was found so far, and behind it what holds of those that are left, is what was found before and all that holds
+-- the warnings found so far, followed by those of the remaining kinds that apply, are the earlier ones and all that
+-- apply
 abbrev pub invariant-loop-kind : goal.invariant-loop-kind
 invariant-loop-kind g l =
     l.found.items ++ map (at_line l.part l.line) (filter (holds l.act l.fields.levels.now l.fields.process.now) l.rest)

@@ -6,15 +6,16 @@ use Rattle.initview_command.proofs.command.run_words.Goals as goal
 pub returns-then-is_version-clause-ends : goal.returns-then-is_version-clause-ends
 returns-then-is_version-clause-ends g c =
     version_done (g.T.Texts.text_at c.args.texts.now) (g.G.LiveTraces.text_at c.args.growing.now)
-    (g.G.LiveTraces.writer_at c.args.growing.now) c.say_version.result (g.S.Says.said c.args.out.now)
-    (g.S.Says.said c.say_version.new.out) (map string_bytes c.args.words.now) _
+    (g.G.LiveTraces.writer_at c.args.growing.now) c.say_version.result (g.S.LineSink.said c.args.out.now)
+    (g.S.LineSink.said c.say_version.new.out) (map string_bytes c.args.words.now) _
     (sym c.is_version.ensures ∙ c.if-is_version.true) c.say_version.ensures
 
 pub returns-in-Err-clause-ends : goal.returns-in-Err-clause-ends
 returns-in-Err-clause-ends g c =
     fault_done (g.T.Texts.text_at c.args.texts.now) (g.G.LiveTraces.text_at c.args.growing.now)
     (g.G.LiveTraces.writer_at c.args.growing.now) c.report_fault.result (g.E.Reporter.reports c.args.err.now)
-    (g.E.Reporter.reports c.report_fault.new.err) (g.S.Says.said c.args.out.now) (map string_bytes c.args.words.now) _
+    (g.E.Reporter.reports c.report_fault.new.err) (g.S.LineSink.said c.args.out.now)
+    (map string_bytes c.args.words.now) _
     (sym c.is_version.ensures ∙ c.if-is_version.false) c.in-Err.fault c.in-Err.ensures.usage
     c.report_fault.ensures.report c.report_fault.ensures.memory
 
@@ -22,20 +23,20 @@ pub returns-in_default-clause-ends : goal.returns-in_default-clause-ends
 returns-in_default-clause-ends g c =
     let rows = rows_of (found_of c.in-Ok.matches) in
     ends_for (g.T.Texts.text_at c.args.texts.now) (g.G.LiveTraces.text_at c.args.growing.now)
-    (g.G.LiveTraces.writer_at c.args.growing.now) c.report_refusal.result (g.S.Says.said c.args.out.now)
-    (g.S.Says.said c.args.out.now)
+    (g.G.LiveTraces.writer_at c.args.growing.now) c.report_refusal.result (g.S.LineSink.said c.args.out.now)
+    (g.S.LineSink.said c.args.out.now)
     (map string_bytes c.args.words.now) _ (sym c.is_version.ensures ∙ c.if-is_version.false) rows c.in-Ok.ensures.ok _
     (words_given rows c.words_of.result _ c.unwrap_or-words.result c.unwrap_or-words.ensures refl c.words_of.ensures)
     _ c.in_default.ensures (refuses c.report_refusal.result (g.E.Reporter.reports c.args.err.now)
-    (g.E.Reporter.reports c.report_refusal.new.err) (g.S.Says.said c.args.out.now) c.report_refusal.ensures)
+    (g.E.Reporter.reports c.report_refusal.new.err) (g.S.LineSink.said c.args.out.now) c.report_refusal.ensures)
 
 pub returns-in-Err-use_times-clause-ends : goal.returns-in-Err-use_times-clause-ends
 returns-in-Err-use_times-clause-ends g c =
     let unread = c.in-Err-use_times.ensures.err in
     let rows = rows_of (found_of c.in-Ok.matches) in
     zone_unread (g.T.Texts.text_at c.args.texts.now) (g.G.LiveTraces.text_at c.args.growing.now)
-    (g.G.LiveTraces.writer_at c.args.growing.now) c.report_zone.result (g.S.Says.said c.args.out.now)
-    (g.S.Says.said c.use_times.new.out)
+    (g.G.LiveTraces.writer_at c.args.growing.now) c.report_zone.result (g.S.LineSink.said c.args.out.now)
+    (g.S.LineSink.said c.use_times.new.out)
     (map string_bytes c.args.words.now) _ (sym c.is_version.ensures ∙ c.if-is_version.false) rows c.in-Ok.ensures.ok _
     (words_given rows c.words_of.result _ c.unwrap_or-words.result c.unwrap_or-words.ensures refl c.words_of.ensures)
     c.in-Some.command c.is_set.result c.in-Some.ensures c.is_set.ensures unread.0 c.report_zone.ensures unread.1
@@ -44,11 +45,11 @@ pub returns-clause-ends : goal.returns-clause-ends
 returns-clause-ends g c =
     let rows = rows_of (found_of c.in-Ok.matches) in
     so_done (g.T.Texts.text_at c.args.texts.now) (g.G.LiveTraces.text_at c.args.growing.now)
-    (g.G.LiveTraces.writer_at c.args.growing.now) c.run_asked.result (g.S.Says.said c.args.out.now)
-    (g.S.Says.said c.run_asked.new.out)
+    (g.G.LiveTraces.writer_at c.args.growing.now) c.run_asked.result (g.S.LineSink.said c.args.out.now)
+    (g.S.LineSink.said c.run_asked.new.out)
     (map string_bytes c.args.words.now) _ (sym c.is_version.ensures ∙ c.if-is_version.false) rows c.in-Ok.ensures.ok _
     (words_given rows c.words_of.result _ c.unwrap_or-words.result c.unwrap_or-words.ensures refl c.words_of.ensures)
-    c.in-Some.command c.is_set.result c.in-Some.ensures c.is_set.ensures (g.S.Says.said c.use_times.new.out)
+    c.in-Some.command c.is_set.result c.in-Some.ensures c.is_set.ensures (g.S.LineSink.said c.use_times.new.out)
     (path_texts c.paths_of-paths.result) c.paths_of-paths.ensures c.in_default-use_times.ensures.ok c.run_asked.ensures
 
 pub returns-in_default-clause-refused : goal.returns-in_default-clause-refused

@@ -1,7 +1,7 @@
 use Rattle.initview_command.proofs.Words.{ℕ, List, ◌*◌, ◌+◌, Option, PIECE_LIMIT, MayKeep}
 use Rattle.initview_command.proofs.following.take_there.Given as goal
 
--- of what was read so far the last lines are kept
+-- the last lines for what was read so far are kept
 abbrev pub invariant-loop : goal.invariant-loop
 invariant-loop g l =
     (input : Option (List ℕ))

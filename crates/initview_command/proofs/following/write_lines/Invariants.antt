@@ -2,11 +2,11 @@ use Rattle.initview_command.proofs.Words.{ℕ, List, ◌≤◌, ◌*◌, ◌+◌
 use Rattle.initview_command.proofs.Words.{Start, HasFollowed, there_limit}
 use Rattle.initview_command.proofs.following.write_lines.Given as goal
 
--- the lines of what was read so far were written
+-- the lines for what was read so far were written
 abbrev pub invariant-loop : goal.invariant-loop
 invariant-loop g l =
     (start : Start) (input : Option (List ℕ))
-    → HasFollowed start input l.fn.reader (g.R.Read.remaining l.fn.from) (g.S.Says.said l.fn.out)
+    → HasFollowed start input l.fn.reader (g.R.Read.remaining l.fn.from) (g.S.LineSink.said l.fn.out)
     → (text : List ℕ) × Consumes input (g.R.Read.remaining l.from) text
     × (length text ≤ there_limit + PIECE_LIMIT * l.counter)
-    × HasWritten start l.reader text (g.S.Says.said l.out)
+    × HasWritten start l.reader text (g.S.LineSink.said l.out)

@@ -6,7 +6,7 @@ pub returns-in-Memory-clause-ends : goal.returns-in-Memory-clause-ends
 returns-in-Memory-clause-ends g c = inl c.report_memory.ensures.status
 
 pub returns-in-Memory-clause-said : goal.returns-in-Memory-clause-said
-returns-in-Memory-clause-said g c = says_nothing (g.S.Says.said c.args.out.now)
+returns-in-Memory-clause-said g c = says_nothing (g.S.LineSink.said c.args.out.now)
 
 pub returns-in-Memory-clause-silent : goal.returns-in-Memory-clause-silent
 returns-in-Memory-clause-silent g c = λ done. not_done _ c.report_memory.result c.report_memory.ensures.status done

@@ -2,7 +2,7 @@ use Rattle.initview_lines.proofs.CommonWords.{◌≡◌, ◌++◌, List, filter,
 use Rattle.initview_lines.specs.Left.{is_open, start_line}
 use Rattle.initview_lines.proofs.left.add_starts.Given as goal
 
--- the lines so far, and behind them those of the entries that are left, are the lines of all
+-- the lines so far, followed by those of the remaining entries, are the lines of all entries
 abbrev pub invariant-loop-entry : goal.invariant-loop-entry
 invariant-loop-entry l = (past : List Event) → Viewed l.view past → l.lines.items ++ map (start_line l.shape)
     (filter (is_open past) l.rest) ≡ l.fn.lines.items ++ map (start_line l.shape) (filter (is_open past) l.entries)

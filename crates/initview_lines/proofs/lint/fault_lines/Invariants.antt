@@ -3,7 +3,8 @@ use Rattle.std.proofs.Common.{◌||◌, not}
 use Rattle.initview_lines.specs.Lint.{IsCursor, fault_line_of, has_nameless, is_nameless}
 use Rattle.initview_lines.proofs.lint.fault_lines.Given as goal
 
--- the lines so far, and behind them those of what is left, are the lines of all; and so with the lines without id
+-- the messages so far, followed by those about the remaining faults, are the messages about all; likewise for whether
+-- there are lines without an id
 abbrev pub invariant-loop-fault : goal.invariant-loop-fault
 invariant-loop-fault l =
     (l.lines.items ++ map (fault_line_of l.parts) (filter (λ fault. not (is_nameless l.parts fault)) l.rest)

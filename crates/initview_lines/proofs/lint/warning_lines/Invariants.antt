@@ -2,7 +2,7 @@ use Rattle.initview_lines.proofs.CommonWords.{◌≡◌, ◌++◌, length, map}
 use Rattle.initview_lines.specs.Lint.{warning_line}
 use Rattle.initview_lines.proofs.lint.warning_lines.Given as goal
 
--- the lines so far, and behind them those of what is left, are the lines of all
+-- the lines so far, followed by those of the remaining warnings, are the lines of all warnings
 abbrev pub invariant-loop-found : goal.invariant-loop-found
 invariant-loop-found l = l.lines.items ++ map (warning_line l.parts) l.rest ≡ map (warning_line l.parts) l.warnings
 

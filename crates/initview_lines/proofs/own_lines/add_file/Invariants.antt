@@ -3,7 +3,8 @@ use Rattle.text_lines.specs.Lines.{lines_of}
 use Rattle.initview_lines.specs.IdLines.{own_lines}
 use Rattle.initview_lines.proofs.own_lines.add_file.Given as goal
 
--- the lines so far, and behind them what is told of the lines that are left, are the lines and what is told of all
+-- the lines so far, followed by the messages about the remaining lines, are the earlier lines and the messages about
+-- all
 abbrev pub invariant-loop-rest : goal.invariant-loop-rest
 invariant-loop-rest l = record {
   counted : l.number + length l.rest ≤ length l.file.bytes;

@@ -2,7 +2,8 @@ use Rattle.initview_lines.proofs.CommonWords.{◌≡◌, ◌++◌, ◌+◌, ◌�
 use Rattle.initview_lines.specs.IdLines.{lines_from}
 use Rattle.initview_lines.proofs.own_lines.add_files.Given as goal
 
--- the lines so far, and behind them what is told of the files that are left, are the lines and what is told of all
+-- the lines so far, followed by the messages about the remaining files, are the earlier lines and the messages about
+-- all
 abbrev pub invariant-loop-file : goal.invariant-loop-file
 invariant-loop-file l = record {
   counted : l.number + length l.rest ≤ length l.files;

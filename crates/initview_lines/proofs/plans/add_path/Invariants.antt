@@ -1,7 +1,7 @@
 use Rattle.initview_lines.proofs.CommonWords.{◌≡◌, ◌++◌, None, length, last_of, path_lines}
 use Rattle.initview_lines.proofs.plans.add_path.Given as goal
 
--- the lines and the last entry so far, and behind them the path of the entries that are left, are those of all
+-- the lines and the last entry so far, together with those of the remaining entries, are those of all entries
 abbrev pub invariant-loop-one : goal.invariant-loop-one
 invariant-loop-one l =
     (last_of l.last l.rest ≡ last_of None l.path)

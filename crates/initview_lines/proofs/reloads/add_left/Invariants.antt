@@ -1,7 +1,7 @@
 use Rattle.initview_lines.proofs.CommonWords.{◌≡◌, ◌++◌, List, filter, length, map, Event, Viewed, is_new, line_now}
 use Rattle.initview_lines.proofs.reloads.add_left.Given as goal
 
--- the lines so far, and behind them those of what is left, are the lines of all
+-- the lines so far, followed by those of the remaining ids, are the lines of all ids
 abbrev pub invariant-loop-id : goal.invariant-loop-id
 invariant-loop-id l = (past : List Event) → Viewed l.view past → l.lines.items ++ map (line_now l.old past)
     (filter (is_new l.old) l.rest) ≡ l.fn.lines.items ++ map (line_now l.old past) (filter (is_new l.old) l.ids)

@@ -1,7 +1,7 @@
 use Rattle.initview_lines.proofs.CommonWords.{◌≡◌, ◌++◌, List, length, map, Event, Viewed, row_at}
 use Rattle.initview_lines.proofs.rows.add_ids.Given as goal
 
--- the lines so far, and behind them those of the ids that are left, are the lines of all
+-- the lines so far, followed by those of the remaining ids, are the lines of all ids
 abbrev pub invariant-loop-id : goal.invariant-loop-id
 invariant-loop-id l = (past : List Event) → Viewed l.view past
     → l.lines.items ++ map (row_at l.shape past) l.rest ≡ l.fn.lines.items ++ map (row_at l.shape past) l.ids

@@ -22,7 +22,7 @@ drawn_behind (p ∷ ps) qs =
     ap (λ t. life_from p.from p.what ++ t) (drawn_behind ps qs)
     ∙ sym (append_assoc (life_from p.from p.what) (lives_drawn ps) (lives_drawn qs))
 
--- a life has one bar of a life, and a mark none
+-- a life has one bar of a life, and a mark has none
 no_stop : (last : ℕ) (l : Life) (term : Option ℕ) → lives_drawn (stop_bar last l term) ≡ []
 no_stop last l None = refl
 no_stop last l (Some term) = refl
@@ -83,7 +83,7 @@ row_lives end s waited ls id marks =
     ∙ ap (λ t. lives_drawn (bars_of s.end waited ls) ++ t) (no_marks s.end id marks)
     ∙ append-nil (lives_drawn (bars_of s.end waited ls)) ∙ all_lives s.end waited ls
 
--- each birth makes a life, and no other mark does
+-- each birth begins a life, and no other mark does
 same_life : (l : Life) (time : ℕ) (what : Shown) → key (life_after l time what) ≡ key l
 same_life l time Read = refl
 same_life l time (Entered stage) = refl
@@ -147,7 +147,7 @@ life_faults last (l ∷ ls) =
     count_more (has_failed l) _ (signs_of last ls) (length (filter has_failed ls)) (life_faults last ls)
     ∙ kept_more (has_failed l) l (filter has_failed ls)
 
--- the faults of one mark more
+-- the number of faults with one more mark
 abbrev with_if : Bool → Bool → ℕ → ℕ
 with_if id_marks fault n = if id_marks then (if fault then 1 + n else n) else n
 

@@ -1,7 +1,7 @@
 use Rattle.initview_timeline.proofs.Words.{◌≡◌, length, next_begin}
 use Rattle.initview_timeline.proofs.pieces.next_begin.Given as goal
 
--- none of those before begins
+-- no mark before the remaining ones ends the piece
 abbrev pub invariant-loop-mark : goal.invariant-loop-mark
 invariant-loop-mark l = next_begin l.last l.id l.rest ≡ next_begin l.last l.id l.later
 

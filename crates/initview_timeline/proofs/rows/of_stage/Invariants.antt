@@ -1,7 +1,7 @@
 use Rattle.initview_timeline.proofs.Words.{◌≡◌, length, of_stage}
 use Rattle.initview_timeline.proofs.rows.of_stage.Given as goal
 
--- with the marks that are left, they are those of all
+-- the marks found so far, updated for the remaining ones, are those from the last stage on
 abbrev pub invariant-loop-mark : goal.invariant-loop-mark
 invariant-loop-mark l = of_stage l.found l.rest ≡ of_stage l.marks l.marks
 

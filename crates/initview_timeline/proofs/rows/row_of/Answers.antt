@@ -11,7 +11,7 @@ behind : (xs ys zs one two three : List Piece) → one ≡ xs → two ≡ one ++
 behind xs ys zs one two three is so then =
     then ∙ ap (λ t. t ++ zs) (so ∙ ap (λ t. t ++ ys) is) ∙ append_assoc xs ys zs
 
--- the row by its parts
+-- the row with these parts
 abbrev row_with : Scene → List ℕ → State → Bool → List Life → List Piece → List Piece → Row
 row_with s id end waited lives bars signs = record {
   id = id;

@@ -1,7 +1,7 @@
 use Rattle.initview_timeline.proofs.Words.{◌≡◌, ◌||◌, ℕ, List, length, among, is_begun}
 use Rattle.initview_timeline.proofs.sets.begun_ids.Given as goal
 
--- the ids so far, with those of the marks that are left, are those of all
+-- the ids so far, with those of the remaining marks, are those of all marks
 abbrev pub invariant-loop-mark : goal.invariant-loop-mark
 invariant-loop-mark l = (id : List ℕ) → (among id l.ids.keys || is_begun id l.rest) ≡ is_begun id l.marks
 

@@ -1,7 +1,7 @@
 use Rattle.initview_timeline.proofs.Words.{◌≡◌, ◌||◌, ℕ, List, length, among}
 use Rattle.initview_timeline.proofs.sets.set_of.Given as goal
 
--- the ids so far, with those that are left, are all
+-- the ids so far, with the remaining ones, are all ids
 abbrev pub invariant-loop-id : goal.invariant-loop-id
 invariant-loop-id l = (id : List ℕ) → (among id l.set.keys || among id l.rest) ≡ among id l.ids
 

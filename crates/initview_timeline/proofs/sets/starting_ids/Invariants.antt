@@ -1,7 +1,7 @@
 use Rattle.initview_timeline.proofs.Words.{◌≡◌, ◌||◌, ℕ, List, length, among, starts_there}
 use Rattle.initview_timeline.proofs.sets.starting_ids.Given as goal
 
--- the ids so far, with those of the entries that are left, are those of all
+-- the ids so far, with those of the remaining entries, are those of all entries
 abbrev pub invariant-loop-entry : goal.invariant-loop-entry
 invariant-loop-entry l = (id : List ℕ)
     → (among id l.ids.keys || starts_there id l.stage l.rest) ≡ starts_there id l.stage l.entries

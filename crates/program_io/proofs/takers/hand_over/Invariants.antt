@@ -3,7 +3,8 @@ use Rattle.std.specs.Io.KnownBytes.{Consumes}
 use Rattle.program_io.specs.declared.takers.TheConstants.{PIECE_LIMIT}
 use Rattle.program_io.proofs.takers.hand_over.Given as goal
 
--- what was read so far was taken
+-- the bytes read so far are at most a full piece per read, and the taker has received them if it had received none
+-- before
 abbrev pub invariant-loop : goal.invariant-loop
 invariant-loop g l =
     (text : List ℕ) × Consumes (g.R.Read.remaining l.fn.from) (g.R.Read.remaining l.from) text

@@ -1,12 +1,12 @@
 use Rattle.rc_links.proofs.Words.{◌+◌, subst, get_or, drop, drop_more, arith, PlannedText, IsShort}
 use Rattle.rc_links.proofs.NameLemmas.{cut_at, err_and}
-use Rattle.rc_links.proofs.PlanLemmas.{Says-weaker, any_deep, planned-step, short-push}
+use Rattle.rc_links.proofs.PlanLemmas.{FaultSatisfies-weaker, any_deep, planned-step, short-push}
 use Rattle.rc_links.proofs.planning.planned_all.Goals as goal
 
 pub returns-in_err-script-clause-deep : goal.returns-in_err-script-clause-deep
 returns-in_err-script-clause-deep g c =
     err_and c.from_residual.result c.in_err-script.field-0.0 _ c.from_residual.ensures.1
-    (Says-weaker c.in_err-script.field-0.0
+    (FaultSatisfies-weaker c.in_err-script.field-0.0
     (any_deep c.args.starts.now c.args.stops.now c.loop-position.position) c.in_err-script.ensures.deep)
 
 pub loop-position-preserved : goal.loop-position-preserved

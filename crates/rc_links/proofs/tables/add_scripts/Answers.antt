@@ -2,7 +2,7 @@ use Rattle.rc_links.proofs.Words.{◌≡◌, ◌∙◌, ◌+◌, sym, ap, refl, 
 use Rattle.rc_links.proofs.Words.{IsDouble, known_again, position_in}
 use Rattle.rc_links.proofs.NameLemmas.{cut_at, err_and, doubled-is, double-next, double-told, named-next, position-next}
 use Rattle.rc_links.proofs.NameLemmas.{unknown}
-use Rattle.rc_links.proofs.PlanLemmas.{Says-weaker}
+use Rattle.rc_links.proofs.PlanLemmas.{FaultSatisfies-weaker}
 use Rattle.rc_links.proofs.tables.add_scripts.Goals as goal
 
 pub loop-position-init : goal.loop-position-init
@@ -23,7 +23,7 @@ returns-in_err-add_script-clause-double g c =
     let same = ap (λ xs. double_from (take n all) xs) (sym cut.0) ∙ c.loop-position.invariant.single in
     let f = c.in_err-add_script.field-0.0 in
     err_and c.from_residual.result f _ c.from_residual.ensures.1
-    (Says-weaker {P = IsDouble (known_again c.loop-position.provided c.loop-position.names s)} f
+    (FaultSatisfies-weaker {P = IsDouble (known_again c.loop-position.provided c.loop-position.names s)} f
     (λ wrong told. (told.0, double-told all (take n all) (drop (n + 1) all) s told.0 same (sym told.1 ∙ is), told.2))
     c.in_err-add_script.ensures.double)
 

@@ -1,6 +1,6 @@
 use Rattle.rc_links.proofs.Words.{◌∙◌, ◌+◌, sym, ap, drop, missing_from, position_in}
 use Rattle.rc_links.proofs.NameLemmas.{cut_at, missing-is, missing-next, missing-told}
-use Rattle.rc_links.proofs.PlanLemmas.{Says-weaker}
+use Rattle.rc_links.proofs.PlanLemmas.{FaultSatisfies-weaker}
 use Rattle.rc_links.proofs.tables.check_missing.Goals as goal
 
 pub returns-in-Some-clause-missing : goal.returns-in-Some-clause-missing
@@ -11,7 +11,7 @@ returns-in-Some-clause-missing g c =
     let is = missing-is (position_in c.args.table.now) all s c.requires in
     let same = ap (λ xs. missing_from all xs) (sym cut.0) ∙ c.loop-script.invariant in
     let due = c.in-Some.ensures ∙ is in
-    Says-weaker c.missing_told.result (λ wrong told.
+    FaultSatisfies-weaker c.missing_told.result (λ wrong told.
     (told.0, missing-told all (drop (c.loop-script.script-index + 1) all) s told.0 same (sym told.1 ∙ due), told.2))
     c.missing_told.ensures
 

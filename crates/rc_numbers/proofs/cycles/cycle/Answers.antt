@@ -1,5 +1,5 @@
 use Rattle.rc_numbers.proofs.Words.{◌≡◌, ◌∙◌, ◌<◌, ◌≤◌, length, subst, List, ℕ, sym, get_or, IfOk-weaker, AllBelow}
-use Rattle.rc_numbers.proofs.Words.{IsCycle, IsRing}
+use Rattle.rc_numbers.proofs.Words.{IsCycle, IsClosedWalk}
 use Rattle.rc_numbers.proofs.CycleLemmas.{IsCycle-rotated, AllBelow-append, AllBelow-drop, AllBelow-take, ring_some}
 use Rattle.rc_numbers.proofs.cycles.cycle.Goals as goal
 
@@ -15,7 +15,7 @@ returns-clause-cycle g c =
     let same : c.as_slice-2.result.now ≡ ring = c.as_slice-2.ensures.value ∙ sym c.as_slice.ensures.value in
     let P : List ℕ → Type 0 = λ xs. (c.least_at.result < length xs)
     × ((k : ℕ) → k < length xs → get_or xs c.least_at.result 0 ≤ get_or xs k 0) in
-    let Q : List ℕ → Type 0 = λ xs. IsRing edges xs in
+    let Q : List ℕ → Type 0 = λ xs. IsClosedWalk edges xs in
     let R : List ℕ → Type 0 = λ xs. IsCycle edges xs in
     let least = subst P same (c.least_at.ensures.within, c.least_at.ensures.least) in
     let is = subst Q (sym c.as_slice.ensures.value) c.in_ok-ring.ensures.ring in

@@ -1,5 +1,5 @@
-use Rattle.rc_numbers.proofs.Words.{ℕ, List, length, subst, sym, InRange, IsRing}
-use Rattle.rc_numbers.proofs.StepLemmas.{AreNeeds-permutation, InRange-needs, IsRing-weaken}
+use Rattle.rc_numbers.proofs.Words.{ℕ, List, length, subst, sym, InRange, IsClosedWalk}
+use Rattle.rc_numbers.proofs.StepLemmas.{AreNeeds-permutation, InRange-needs, IsClosedWalk-weaken}
 use Rattle.rc_numbers.proofs.cycles.earliest_ring.Goals as goal
 
 pub ring_through-requires-clause-range : goal.ring_through-requires-clause-range
@@ -12,7 +12,7 @@ ring_through-requires-clause-range g c =
 pub returns-in-Some-clause-ring : goal.returns-in-Some-clause-ring
 returns-in-Some-clause-ring g c =
     let is = rw c.in-Some.is at c.in_ok-ring.ensures.ring in
-    let P : List (ℕ × ℕ) → Type 0 = λ xs. IsRing xs c.in-Some.ring.items in
-    IsRing-weaken c.args.edges.now c.in_ok-needs.needs.items c.in-Some.ring.items
+    let P : List (ℕ × ℕ) → Type 0 = λ xs. IsClosedWalk xs c.in-Some.ring.items in
+    IsClosedWalk-weaken c.args.edges.now c.in_ok-needs.needs.items c.in-Some.ring.items
     (AreNeeds-permutation c.args.edges.now c.in_ok-needs.needs.items c.in_ok-needs.ensures)
     (subst P c.as_slice.ensures.value is)

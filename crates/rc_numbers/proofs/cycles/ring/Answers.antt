@@ -1,5 +1,5 @@
 use Rattle.rc_numbers.proofs.Words.{◌≡◌, ◌<◌, ◌+◌, ◌-◌, ◌++◌, ◌∷◌, [], arith, length, subst, List, ℕ, sym, get_or}
-use Rattle.rc_numbers.proofs.Words.{replicate, set, common_steps, IfOk-weaker, AllBelow, IsRing, need_from}
+use Rattle.rc_numbers.proofs.Words.{replicate, set, common_steps, IfOk-weaker, AllBelow, IsClosedWalk, need_from}
 use Rattle.rc_numbers.proofs.PassLemmas.{Needs-range, zeros-set}
 use Rattle.rc_numbers.proofs.CycleLemmas.{AllBelow-append, AllBelow-one, Marked, Marked-push, Marked-start, Trail}
 use Rattle.rc_numbers.proofs.CycleLemmas.{Trail-push, Trail-ring, marked_at, need-good}
@@ -72,7 +72,7 @@ returns-clause-ring g c =
     let some : 0 < c.index-2.result.now = grind (arith, common_steps) in
     let found = marked_at c.steps.marks.items c.steps.path.items c.steps.at c.index-2.result.now
     c.steps.invariant.marked at_n some in
-    let P : List ℕ → Type 0 = λ xs. IsRing c.args.edges.now xs in
+    let P : List ℕ → Type 0 = λ xs. IsClosedWalk c.args.edges.now xs in
     let ring = rw (← c.as_slice.ensures.value) at (Trail-ring c.args.edges.now c.steps.path.items c.steps.at
     (c.index-2.result.now - 1) c.steps.invariant.trail found.0 found.1) in
     IfOk-weaker c.suffix.result _ _ (λ t e. subst P (sym e) ring) c.suffix.ensures

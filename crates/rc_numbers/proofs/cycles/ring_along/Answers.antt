@@ -1,5 +1,5 @@
 use Rattle.rc_numbers.proofs.Words.{◌≡◌, ◌++◌, ◌∷◌, ◌∙◌, [], ℕ, List, arith, length, subst, sym, common_steps, AllBelow}
-use Rattle.rc_numbers.proofs.Words.{IsRing}
+use Rattle.rc_numbers.proofs.Words.{IsClosedWalk}
 use Rattle.rc_numbers.proofs.CycleLemmas.{AllBelow-append, AllBelow-one, Trail, Trail-push}
 use Rattle.rc_numbers.proofs.StepLemmas.{first_kept, path_closed}
 use Rattle.rc_numbers.proofs.cycles.ring_along.Goals as goal
@@ -10,7 +10,7 @@ returns-then-need-position-clause-ring g c = λ edges are.
     let at = c.steps.at in
     let next = c.in-Some.need in
     let pushed : c.push.new.self.items ≡ path ++ at ∷ [] = grind (arith, common_steps) in
-    let P : List ℕ → Type 0 = λ xs. IsRing edges xs in
+    let P : List ℕ → Type 0 = λ xs. IsClosedWalk edges xs in
     subst P (sym pushed) (path_closed edges path at next c.args.position (c.steps.invariant.trail edges are)
     (are at next c.in-Some.is) c.steps.invariant.first c.if-need-position.true)
 

@@ -2,14 +2,14 @@ use Rattle.rclinks_command.proofs.Words.{◌≡◌, ◌∙◌, ℕ, Bool, List, 
 use Rattle.rclinks_command.proofs.Words.{or_parts}
 use Rattle.rclinks_command.proofs.Words.{AreScripts, FileFault, HasNoPlan, IsPlan, KnownTexts, Reads, ReadsTo}
 use Rattle.rclinks_command.proofs.Words.{ReportsFile}
-use Rattle.rclinks_command.proofs.Words.{ReportsPlan, ScriptText, Warns, keeps_going}
+use Rattle.rclinks_command.proofs.Words.{ReportsPlan, ScriptText, ReportsWarning, keeps_going}
 use Rattle.std.proofs.lemmas.Result.{IfOk-weaker, IfErr-weaker}
 use Rattle.rclinks_command.specs.LineOptions.{line_options}
 use Rattle.rclinks_command.proofs.ReadingLemmas.{all_read, all_scripts, none_first, refused_first, some_first}
 use Rattle.rclinks_command.proofs.ReportLemmas.{refused_told, tells-then, warned_told}
 use Rattle.rclinks_command.proofs.answer.plan_of.Goals as goal
 
--- where no fault is the first, all paths give scripts
+-- if there is no first fault, all paths yield scripts
 all_given : (keeps_going : Bool) (text_at : KnownTexts) (paths : List (List ℕ)) (scripts : List ScriptText)
     (faults : List FileFault)
     → None ≡ slice_get faults 0 → ReadsTo keeps_going text_at paths scripts faults → AreScripts text_at paths scripts
@@ -64,7 +64,7 @@ returns-in-None-clause-told g c = λ plain.
     (keeps_going (line_options c.args.line.now)) text_at paths scripts faults first c.in_ok-faults.ensures.read in
     let warned = warned_told text_at paths faults old c.read_files.new.reading.report.items
     (c.in_ok-faults.ensures.told plain) (none_first faults first) in
-    let same = subst (λ report. Warns old report.items) (sym c.add_last.ensures.untold) warned in
+    let same = subst (λ report. ReportsWarning old report.items) (sym c.add_last.ensures.untold) warned in
     let odd =
     tells-then (codes "warning: ") old c.add_last.new.reading.report.items mid same c.in_ok-add_warnings.ensures in
     IfErr-weaker c.plan_all.result _ _

@@ -1,4 +1,4 @@
-use Rattle.rclinks_command.proofs.Words.{◌≡◌, ◌∙◌, sym, subst, targets_of, IsTaken, Wants}
+use Rattle.rclinks_command.proofs.Words.{◌≡◌, ◌∙◌, sym, subst, targets_of, IsTaken, NeededChanges}
 use Rattle.rclinks_command.proofs.WritingLemmas.{in_folders}
 use Rattle.rclinks_command.proofs.writing.changes_for.Goals as goal
 
@@ -17,7 +17,7 @@ returns-then-branch-clause-taken g c = λ _.
 pub returns-clause-wanted : goal.returns-clause-wanted
 returns-clause-wanted g c =
     in_folders c.args.line.now.keeps _ _ _ (λ plan. c.in_ok-plan.plan ≡ plan) _
-    (λ plan is. subst (λ plan. Wants (g.F.LinkFolders.held c.args.folders.now) (g.F.LinkFolders.scripts_in
+    (λ plan is. subst (λ plan. NeededChanges (g.F.LinkFolders.held c.args.folders.now) (g.F.LinkFolders.scripts_in
     c.args.folders.now) c.args.line.now.prunes c.args.dir.now plan c.in_ok-changes.field-0.items) is (record {
       folders = c.in_ok-read.read.items;
       targets = targets_of c.in_ok-targets.targets.items;

@@ -1,7 +1,7 @@
 use Rattle.respawn_limit.proofs.Words.{◌≡◌, ◌++◌, ◌∷◌, [], rules, subst, IsNonDecreasing, LimiterState, last_starts}
 use Rattle.respawn_limit.proofs.WindowLemmas.{length-last_starts, IsNonDecreasing-last_starts, IsNonDecreasing-push}
-use Rattle.respawn_limit.proofs.WindowLemmas.{Remembers-push}
-use Rattle.respawn_limit.proofs.PastLemmas.{StandsAfter-Noted, is_run-Noted}
+use Rattle.respawn_limit.proofs.WindowLemmas.{KeepsLastStarts-push}
+use Rattle.respawn_limit.proofs.PastLemmas.{IsStateAfter-Noted, is_run-Noted}
 use Rattle.respawn_limit.proofs.Limiter.note.Goals as goal
 
 pub invariant_of-self : goal.invariant_of-self
@@ -18,11 +18,11 @@ invariant_of-self c =
 pub returns-clause-noted : goal.returns-clause-noted
 returns-clause-noted c = λ noted known.
     let kept : c.push.new.self.items ≡ last_starts (c.args.self.now.starts ++ c.args.now ∷ []) = search rules in
-    rw kept (Remembers-push c.args.self.now.starts noted c.args.now known c.requires.late)
+    rw kept (KeepsLastStarts-push c.args.self.now.starts noted c.args.now known c.requires.late)
 
 pub returns-clause-past : goal.returns-clause-past
 returns-clause-past c = λ past stands.
-    StandsAfter-Noted c.args.self.now _ past c.args.now stands c.requires.late (search rules)
+    IsStateAfter-Noted c.args.self.now _ past c.args.now stands c.requires.late (search rules)
 
 pub returns-clause-run : goal.returns-clause-run
 returns-clause-run c =

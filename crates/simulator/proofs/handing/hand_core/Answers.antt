@@ -1,4 +1,4 @@
-use Rattle.simulator.proofs.Words.{Vec, ℕ, map, ◌∷◌, sym, ap, ◌∙◌, subst, StillFits, state_of, CoreState}
+use Rattle.simulator.proofs.Words.{Vec, ℕ, map, ◌∷◌, sym, ap, ◌∙◌, subst, FitsExtendedTrace, state_of, CoreState}
 use Rattle.trace_events.specs.declared.happenings.Happening.TheVariants as happening
 use Rattle.simulator.proofs.Foreign.{handed_then, kept_more, kept_push, more_texts, same_core, same_made}
 use Rattle.simulator.proofs.handing.hand_core.Goals as goal
@@ -20,7 +20,7 @@ pub returns-clause-fits : goal.returns-clause-fits
 returns-clause-fits g c goal past sound fits =
     let same = same_core c.args.how c.make_text.new.core c.go_on_as.new.core c.in_ok-taken.taken
     c.in_ok-taken.ensures.taken c.go_on_as.ensures in
-    subst (λ (core : CoreState). StillFits c.args.core.now core goal past (happening.Handed c.args.how ∷ past))
+    subst (λ (core : CoreState). FitsExtendedTrace c.args.core.now core goal past (happening.Handed c.args.how ∷ past))
     (sym same) (c.in_ok-text.ensures.fits goal past sound fits c.args.how)
 
 pub returns-clause-made : goal.returns-clause-made

@@ -11,7 +11,7 @@ returns-clause-ok g c goal past moment may =
     moment may (c.in_ok-pass_on.ensures.fits goal past moment may) (c.in_ok-pass_on.ensures.lasts goal past moment may)
     (λ sound follows. c.in_ok-take.ensures.ok goal past sound follows)
 
--- the happening was written and not taken in
+-- the happening was written, but not taken by the simulated system
 pub returns-in_err-take-clause-err : goal.returns-in_err-take-clause-err
 returns-in_err-take-clause-err g c =
     let is : c.from_residual-in_err-take.result ≡ Err fault.Memory = search rules in

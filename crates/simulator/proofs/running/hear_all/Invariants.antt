@@ -1,7 +1,7 @@
 use Rattle.simulator.proofs.Words.{◌+◌, ◌≤◌, length, map, Vec, ℕ, SoFar, SomeRest, FromScript, HasTexts}
 use Rattle.simulator.proofs.running.hear_all.Given as goal
 
--- what stands before the rest was heard, and init rests
+-- the text before the rest was processed, and init is at rest
 abbrev pub invariant-loop-rest : goal.invariant-loop-rest
 invariant-loop-rest g l = record {
   texts : HasTexts (map (λ (text : Vec ℕ g.row.A.Denot). text.items) l.made.items) l.core.fields.generation;

@@ -6,14 +6,14 @@ use Rattle.simulator.proofs.Moves.{err_then, leaves_behind, run_hears}
 use Rattle.simulator.proofs.Hearing.{may_say, objected, ready, hears_one, hears_goes, broken_heard, ok_gives}
 use Rattle.simulator.proofs.running.hear_next.Goals as goal
 
--- something is objected to the happening
+-- there is an objection to the happening
 pub returns-in-Some-clause-err : goal.returns-in-Some-clause-err
 returns-in-Some-clause-err g c goal past at =
     let (may_not, why) = objected goal past c.args.happening.now c.args.rereads c.args.core.now c.args.side.now
     c.in-Some.objection at c.requires.ranged (sym c.in-Some.is ∙ c.in_ok-objection.ensures) in
     (refl, may_not, why, Keeps-refl (g.W.Write.contents c.args.out.now))
 
--- nothing is, so the core is ready for it
+-- there is no objection, so the core is ready for the happening
 pub hear-requires-clause-ready : goal.hear-requires-clause-ready
 hear-requires-clause-ready g c =
     let (goal, past, at) = c.requires.rests in
@@ -22,14 +22,14 @@ hear-requires-clause-ready g c =
     (may_say goal past c.args.happening.now c.args.rereads c.args.core.now c.args.side.now at c.requires.ranged none)
     none
 
--- memory was wanting before the happening was heard
+-- memory allocation failed before the happening was processed
 pub returns-in_err-objection-clause-err : goal.returns-in_err-objection-clause-err
 returns-in_err-objection-clause-err g c =
     let is : c.from_residual.result ≡ Err fault.Memory = search rules in
     err_is c.from_residual.result fault.Memory _ is
     (λ goal past at. inl (Keeps-refl (g.W.Write.contents c.args.out.now)))
 
--- the happening was not written whole, or not taken in
+-- the happening was not written in full, or not taken
 pub returns-in_err-hear-clause-err : goal.returns-in_err-hear-clause-err
 returns-in_err-hear-clause-err g c =
     let f = c.in_err-hear.field-0.0 in

@@ -67,26 +67,26 @@ returns-in-Clock-clause-lasts g c goal past moment may =
 
 pub returns-in-Nudge-clause-fits : goal.returns-in-Nudge-clause-fits
 returns-in-Nudge-clause-fits g c goal past moment may =
-    fits_at goal past c.begin_round.new.self c.args.happening.now event.Nudge c.in-Nudge.is
-    (all_on c.args.core.now c.begin_round.new.self goal past (event.Nudge ∷ past)
-    (c.begin_round.ensures.fits goal past (run_sound goal past moment.runs) moment.fits.0) moment.fits)
+    fits_at goal past c.nudge.new.self c.args.happening.now event.Nudge c.in-Nudge.is
+    (all_on c.args.core.now c.nudge.new.self goal past (event.Nudge ∷ past)
+    (c.nudge.ensures.fits goal past (run_sound goal past moment.runs) moment.fits.0) moment.fits)
 
 pub returns-in-Nudge-clause-lasts : goal.returns-in-Nudge-clause-lasts
 returns-in-Nudge-clause-lasts g c goal past moment may =
-    lasts_at goal past c.begin_round.new.self c.args.happening.now event.Nudge c.in-Nudge.is
-    (lasts_nudge c.args.core.now c.begin_round.new.self goal past moment.lasts c.begin_round.ensures.state)
+    lasts_at goal past c.nudge.new.self c.args.happening.now event.Nudge c.in-Nudge.is
+    (lasts_nudge c.args.core.now c.nudge.new.self goal past moment.lasts c.nudge.ensures.state)
 
 pub returns-in-Got-clause-fits : goal.returns-in-Got-clause-fits
 returns-in-Got-clause-fits g c goal past moment may =
-    fits_at goal past c.receive.new.self c.args.happening.now (event.Got c.in-Got.request) c.in-Got.is
-    (all_on c.args.core.now c.receive.new.self goal past (event.Got c.in-Got.request ∷ past)
-    (c.receive.ensures.fits goal past (run_sound goal past moment.runs) moment.fits.0) moment.fits)
+    fits_at goal past c.got.new.self c.args.happening.now (event.Got c.in-Got.request) c.in-Got.is
+    (all_on c.args.core.now c.got.new.self goal past (event.Got c.in-Got.request ∷ past)
+    (c.got.ensures.fits goal past (run_sound goal past moment.runs) moment.fits.0) moment.fits)
 
 pub returns-in-Got-clause-lasts : goal.returns-in-Got-clause-lasts
 returns-in-Got-clause-lasts g c goal past moment may =
-    lasts_at goal past c.receive.new.self c.args.happening.now (event.Got c.in-Got.request) c.in-Got.is
-    (lasts_got c.args.core.now c.receive.new.self goal past moment.lasts c.in-Got.request moment.fits
-    (subst (λ h. is_in_range h ≡ true) c.in-Got.is c.requires.ranged) c.receive.ensures.state)
+    lasts_at goal past c.got.new.self c.args.happening.now (event.Got c.in-Got.request) c.in-Got.is
+    (lasts_got c.args.core.now c.got.new.self goal past moment.lasts c.in-Got.request moment.fits
+    (subst (λ h. is_in_range h ≡ true) c.in-Got.is c.requires.ranged) c.got.ensures.state)
 
 pub returns-in_ok-hand_core-in-Handed-clause-fits : goal.returns-in_ok-hand_core-in-Handed-clause-fits
 returns-in_ok-hand_core-in-Handed-clause-fits g c goal past moment may =

@@ -7,7 +7,7 @@ use Rattle.simulator.proofs.Moves.{err_then}
 use Rattle.simulator.proofs.Whole.{broken_ends, broken_first, memory_ends, so_far_first}
 use Rattle.simulator.proofs.running.run_script.Goals as goal
 
--- a fault before init rests
+-- a fault before init is at rest
 pub returns-in_err-rereads-clause-ended : goal.returns-in_err-rereads-clause-ended
 returns-in_err-rereads-clause-ended g c =
     let f = c.in_err-rereads.field-0.0 in
@@ -17,7 +17,7 @@ returns-in_err-rereads-clause-ended g c =
     (broken_first s f before (g.W.Write.contents c.args.out.now) (g.W.Write.contents c.run_until_rest.new.out) text
     (c.in_err-rereads.ensures.err (goal_in s) (NewTable (table_in s) ∷ []) moment)))
 
--- no memory for the script's end
+-- memory allocation failed for the end of the script
 pub returns-in_err-text-clause-ended : goal.returns-in_err-text-clause-ended
 returns-in_err-text-clause-ended g c =
     let is : c.from_residual-in_err-text.result ≡ Err fault.Memory =

@@ -6,7 +6,7 @@ use Rattle.simulator.proofs.Keeping.{lasts_step}
 use Rattle.simulator.proofs.Moves.{at_rest, moment_step, went_step, goes_step, leaves_behind, memory_after, more_run}
 use Rattle.simulator.proofs.running.run_until_rest.Goals as goal
 
--- init rests
+-- init is at rest
 pub returns-in_default-clause-ok : goal.returns-in_default-clause-ok
 returns-in_default-clause-ok g c goal past before =
     let (next, more, moment, goes, written) = c.steps.invariant.all goal past before in
@@ -24,7 +24,7 @@ returns-in_default-clause-ok g c goal past before =
       written,
     )
 
--- a step was not written, or not whole
+-- a step was not written, or not in full
 pub returns-in_err-write_happening-clause-err : goal.returns-in_err-write_happening-clause-err
 returns-in_err-write_happening-clause-err g c =
     let f = c.in_err-write_happening.field-0.0 in
@@ -42,7 +42,7 @@ returns-in_err-write_happening-clause-err g c =
           more (event_text c.in-Some.happening) written c.in_err-write_happening.ensures.err,
     ))
 
--- a step was written and not taken in
+-- a step was written, but not taken by the simulated system
 pub returns-in_err-taken-clause-err : goal.returns-in_err-taken-clause-err
 returns-in_err-taken-clause-err g c =
     let is : c.from_residual-in_err-taken.result ≡ Err fault.Memory = search rules in

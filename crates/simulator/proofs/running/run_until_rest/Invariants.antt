@@ -3,7 +3,7 @@ use Rattle.core_model.specs.Work.{work_left}
 use Rattle.simulator.proofs.Moves.{WentOn}
 use Rattle.simulator.proofs.running.run_until_rest.Given as goal
 
--- init went on from the moment at which it began
+-- init continued from the moment at which it began
 abbrev pub invariant-steps : goal.invariant-steps
 invariant-steps g l = record {
   some : SomeMoment l.core l.side;

@@ -4,7 +4,7 @@ use Rattle.std.specs.Result.{MatchResult, is_ok}
 use Rattle.std.specs.Str.{IsUtf8}
 use Rattle.text_lines.proofs.lines.is_utf8.Goals as goal
 
--- a call that answers Ok exactly for UTF-8
+-- a result that is `Ok` exactly for UTF-8 texts decides `is_utf8`
 answered : {T E : Type 0} (A : T → Type 0) (B : E → Type 0) (line : _) (r : Result T E)
     → MatchResult r (λ s. A s × IsUtf8 line) (λ e. (IsUtf8 line → ⊥) × B e) → is_ok r ≡ is_utf8 line
 answered A B line (Ok x) h = sym (is_utf8-from_IsUtf8 line h.1)

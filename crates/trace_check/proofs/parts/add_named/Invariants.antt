@@ -3,7 +3,8 @@ use Rattle.trace_check.proofs.Words.{among, is_named}
 use Rattle.indexmap.specs.IndexSet.{spare as set_spare}
 use Rattle.trace_check.proofs.parts.add_named.Given as goal
 
--- what the entries so far call, and what was called before; and there is room for the entries to come
+-- the ids so far are those called before and those of the entries passed that are named and start in the stage; and
+-- there is room for the remaining entries
 abbrev pub invariant-loop-position : goal.invariant-loop-position
 invariant-loop-position g l = ((id : List ℕ) → among id l.called.keys ≡ (list_any (λ e. has_id id e
     && (is_named l.happening e && starts_in e l.stage)) (take l.position l.table) || among id l.fn.called.keys))

@@ -1,4 +1,4 @@
--- What was held is written, and then the happening.
+-- The held happenings are written first, and then the new one.
 use Rattle.trace_log_wrappers.proofs.Words.{◌≡◌, true, is_in_range, written_of, held_first}
 use Rattle.trace_log_wrappers.proofs.AddLemmas.{ranged_ok, ranged_err, early_err}
 use Rattle.trace_log_wrappers.proofs.brief_logs.write_all.Goals as goal

@@ -1,4 +1,4 @@
--- What was held is written in three parts: where the last fails, the first two stay.
+-- The held happenings are written in three parts; if the last part fails, the first two have been written.
 use Rattle.trace_log_wrappers.proofs.Words.{◌++◌, reverse, look_events, round_events, reading_events}
 use Rattle.trace_log_wrappers.proofs.AddLemmas.{adds_two, front_err}
 use Rattle.trace_log_wrappers.proofs.brief_logs.write_held.Goals as goal

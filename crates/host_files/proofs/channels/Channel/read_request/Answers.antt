@@ -1,6 +1,6 @@
 use Rattle.std.proofs.Common.{rules, arith, ◌≡◌, ◌≤◌, ◌∙◌, ap, sym, length, drop, ◌-◌, [], List, ℕ}
 use Rattle.std.proofs.lemmas.List.{length-drop}
-use Rattle.host_files.specs.Channels.{ChannelState, HandsNothing, IsReadOn, bytes_read}
+use Rattle.host_files.specs.Channels.{ChannelState, HandsOverNothing, ReadsConsecutively, bytes_read}
 use Rattle.host_files.proofs.Handing.{read_on, still_none}
 use Rattle.host_files.proofs.channels.Channel.read_request.Goals as goal
 

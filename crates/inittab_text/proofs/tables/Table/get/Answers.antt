@@ -2,7 +2,7 @@ use Rattle.inittab_text.proofs.Words.{◌∙◌, Entry, same_id}
 use Rattle.inittab_text.proofs.Entries.{lookup-find}
 use Rattle.inittab_text.proofs.tables.Table.get.Goals as goal
 
--- the map finds what the list of its values has
+-- the map finds the entry that the list of its values has
 pub returns : goal.returns
 returns g c = record {
   value = rw (← c.self.view_is) (c.get.ensures.value

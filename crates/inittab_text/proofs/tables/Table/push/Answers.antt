@@ -5,7 +5,7 @@ use Rattle.indexmap.proofs.CallerLemmas.{insert_entry-new}
 use Rattle.inittab_text.proofs.tables.Table.push.Goals as goal
 use Rattle.inittab_text.proofs.tables.Table.push.Given.{Over}
 
--- the map has gained the entry at its end, under its id
+-- the map has the entry added at its end, under its id
 gained : (g : Over) (c : goal.In_ok-insert g)
     → c.insert.new.self.entries ≡ c.self.inside.entries.entries ++ (c.args.entry.id, c.args.entry) ∷ []
 gained g c =
@@ -13,7 +13,7 @@ gained g c =
     (lookup-find (λ (e : Entry). e.id) (same_id c.args.entry.id) c.self.inside.entries.entries c.self.invariant.0
     ∙ ap (entry_of c.args.entry.id) c.self.view_is ∙ c.requires.new)
 
--- its values are those before and the entry
+-- its values are the previous ones followed by the entry
 values_gained : (g : Over) (c : goal.In_ok-insert g)
     → values_of c.insert.new.self.entries ≡ c.args.self.now ++ c.args.entry ∷ []
 values_gained g c = ap values_of (gained g c) ∙ values-push c.self.inside.entries.entries c.args.entry.id c.args.entry

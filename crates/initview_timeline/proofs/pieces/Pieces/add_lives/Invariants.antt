@@ -1,7 +1,7 @@
 use Rattle.initview_timeline.proofs.Words.{◌≡◌, ◌++◌, length, bars_of, signs_of}
 use Rattle.initview_timeline.proofs.pieces.Pieces.add_lives.Given as goal
 
--- what is drawn so far, and behind it the lives that are left
+-- the pieces so far, followed by those of the remaining lives, are the earlier ones and those of all lives
 abbrev pub invariant-loop-life : goal.invariant-loop-life
 invariant-loop-life l =
     (l.self.bars ++ bars_of l.last l.waited l.rest ≡ l.fn.self.bars ++ bars_of l.last l.waited l.lives)

@@ -1,7 +1,8 @@
 use Rattle.initview_timeline.proofs.Words.{◌≡◌, ◌++◌, length, marks_bars, marks_signs, next_begin}
 use Rattle.initview_timeline.proofs.pieces.Pieces.add_marks.Given as goal
 
--- what is drawn so far, and behind it the marks that are left, of which the next that begins is known
+-- the pieces so far, followed by those of the remaining marks, are the earlier ones and those of all marks; the time at
+-- which a piece of the next mark ends is known
 abbrev pub invariant-loop-mark : goal.invariant-loop-mark
 invariant-loop-mark l =
     (l.self.bars ++ marks_bars l.last l.id l.rest ≡ l.fn.self.bars ++ marks_bars l.last l.id l.marks)

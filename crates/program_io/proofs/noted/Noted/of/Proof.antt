@@ -1,4 +1,4 @@
--- `of` makes a value of no bytes, whose `value` is read off the argument.
+-- `of` returns a value without bytes, whose ghost `value` is read off the argument.
 use Rattle.std.proofs.Common.{◌≡◌, List, [], ◌∷◌, ◌++◌, refl}
 use Rattle.std.proofs.raw_atomic.Walks.{leaves, proved}
 use mir.Syntax.{a_type, dcons, dnil, named}
@@ -30,7 +30,7 @@ use Rattle.program_io.specs.contracts.noted.Noted.of.Key.{name as #self}
 use Rattle.program_io.proofs.noted.Noted.of.Statement.{statement}
 use Rattle.program_io.proofs.noted.Noted.of.Code as code
 
--- the machine value of what was noted
+-- the machine representation of a noted value
 abbrev token : Val
 token = vstruct (vcons (vstruct vnil) vnil)
 

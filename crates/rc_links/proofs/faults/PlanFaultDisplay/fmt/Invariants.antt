@@ -4,7 +4,7 @@ use Rattle.std.specs.Fmt.{HasWritten, IsPlainFormatter}
 use Rattle.rc_links.specs.FaultTexts.{with_blank}
 use Rattle.rc_links.proofs.faults.PlanFaultDisplay.fmt.Given as goal
 
--- of a cycle: since the loop began, the names so far were written, each behind a blank
+-- for a cycle: since the loop began, the names so far were written, each with a blank before it
 abbrev pub invariant-loop-name : goal.invariant-loop-name
 invariant-loop-name g l =
     IsPlainFormatter l.initial.f

@@ -2,7 +2,7 @@ use Rattle.std.specs.Prelude.{Result, Ok, Err, OnOk}
 use Rattle.simulator.proofs.Taking.{follows_after}
 use Rattle.simulator.proofs.simulated.SimulatedSystem.take.Goals as goal
 
--- what three clauses say together of the same `Ok`
+-- combines three clauses about the same `Ok`
 three : {T E : Type 0} (r : Result T E) (P Q R S : Type 0) → (P → Q → R → S) → OnOk r P → OnOk r Q → OnOk r R → OnOk r S
 three (Ok x) P Q R S f p q t = f p q t
 three (Err e) P Q R S f p q t = tt

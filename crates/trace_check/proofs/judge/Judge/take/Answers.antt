@@ -1,4 +1,4 @@
-use Rattle.trace_check.proofs.Words.{◌≡◌, subst, JudgeState, TakesIn}
+use Rattle.trace_check.proofs.Words.{◌≡◌, subst, JudgeState, StateAfterHappening}
 use Rattle.trace_check.proofs.judge.Judge.take.Goals as goal
 
 pub returns-clause-ok : goal.returns-clause-ok
@@ -42,7 +42,7 @@ returns-clause-ok g c =
       children = c.take_child.new.children.entries;
       termed = c.take_term.new.termed.entries;
     } in
-    let taken : TakesIn c.args.table.now roomy after c.args.happening.now = record {
+    let taken : StateAfterHappening c.args.table.now roomy after c.args.happening.now = record {
       stage = c.stage_after-self-inside.ensures;
       grace = c.grace_after-self-inside.ensures;
       time = c.time_after-self-inside.ensures;
@@ -56,4 +56,4 @@ returns-clause-ok g c =
       children = c.take_child.ensures;
       termed = c.take_term.ensures;
     } in
-    subst (λ before. TakesIn c.args.table.now before after c.args.happening.now) same taken
+    subst (λ before. StateAfterHappening c.args.table.now before after c.args.happening.now) same taken

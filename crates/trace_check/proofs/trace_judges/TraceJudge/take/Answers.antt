@@ -19,18 +19,20 @@ returns-clause-law g c = λ past judged.
 pub returns-clause-next : goal.returns-clause-next
 returns-clause-next g c = λ past judged.
     let old : Judging = record { table = c.self.inside.table; state = c.self.inside.judge } in
-    let new : Judging = record { table = c.put_brought.new.table; state = c.take.new.self } in
+    let new : Judging = record { table = c.adopt_happening_table.new.table; state = c.take.new.self } in
     judged_more c.args.happening.now old new c.len-len.ensures.distinct
-    (sym c.in_default.ensures) c.in_ok-take.ensures.ok (c.put_brought.ensures ∙ c.in_ok-brought.ensures old.table) past
+    (sym c.in_default.ensures) c.in_ok-take.ensures.ok
+    (c.adopt_happening_table.ensures ∙ c.in_ok-brought.ensures old.table) past
     (subst (λ j. Judged j past) (sym c.self.view_is) judged)
 
 pub invariant_of-self-2 : goal.invariant_of-self-2
 invariant_of-self-2 g c = (
   rw c.calm_after-self-inside.ensures (calm_next c.args.happening.now c.self.inside.judge c.take.new.self
-      c.self.inside.table c.put_brought.new.table c.self.inside.calm (sym c.in_default.ensures)
-      c.in_ok-take.ensures.ok (c.put_brought.ensures ∙ c.in_ok-brought.ensures c.self.inside.table) c.self.invariant.0),
-  rw c.unowed_after-unowed.ensures (unowed_next c.args.happening.now c.self.inside.judge c.take.new.self
-      c.self.inside.table c.put_brought.new.table c.unowed_before-known.result c.len-len.ensures.distinct
-      c.in_ok-take.ensures.ok (c.put_brought.ensures ∙ c.in_ok-brought.ensures c.self.inside.table)
+      c.self.inside.table c.adopt_happening_table.new.table c.self.inside.calm (sym c.in_default.ensures)
+      c.in_ok-take.ensures.ok
+      (c.adopt_happening_table.ensures ∙ c.in_ok-brought.ensures c.self.inside.table) c.self.invariant.0),
+  rw c.unowed_count_after-unowed.ensures (unowed_next c.args.happening.now c.self.inside.judge c.take.new.self
+      c.self.inside.table c.adopt_happening_table.new.table c.unowed_before-known.result c.len-len.ensures.distinct
+      c.in_ok-take.ensures.ok (c.adopt_happening_table.ensures ∙ c.in_ok-brought.ensures c.self.inside.table)
       c.unowed_before-known.ensures),
 )

@@ -1,5 +1,5 @@
 use Rattle.std.proofs.Common.{inr}
-use Rattle.trace_files.specs.Filed.{MayMove}
+use Rattle.trace_files.specs.Filed.{MayFlush}
 use Rattle.trace_files.proofs.FiledLemmas.{still_refl, written_so}
 use Rattle.trace_files.proofs.file_logs.FileLog.write.Goals.{then-matches, else-matches}
 use Rattle.trace_files.proofs.file_logs.FileLog.write.Goals as goal
@@ -7,7 +7,7 @@ use Rattle.trace_files.proofs.file_logs.FileLog.write.Goals as goal
 pub returns-then-matches-2-clause-ok : goal.returns-then-matches-2-clause-ok
 returns-then-matches-2-clause-ok g c =
     let contents = g.S.Write.contents in
-    let moves : MayMove contents c.args.self.now c.if-matches.self = elim c.if-matches.branch [
+    let moves : MayFlush contents c.args.self.now c.if-matches.self = elim c.if-matches.branch [
       | then-matches w ↦ rw w.self-is w.put_away.ensures
       | else-matches w ↦ rw w.self-is (inr (still_refl contents _))
     ] in
@@ -17,7 +17,7 @@ returns-then-matches-2-clause-ok g c =
 pub returns-else-matches-2-clause-ok : goal.returns-else-matches-2-clause-ok
 returns-else-matches-2-clause-ok g c =
     let contents = g.S.Write.contents in
-    let moves : MayMove contents c.args.self.now c.if-matches.self = elim c.if-matches.branch [
+    let moves : MayFlush contents c.args.self.now c.if-matches.self = elim c.if-matches.branch [
       | then-matches w ↦ rw w.self-is w.put_away.ensures
       | else-matches w ↦ rw w.self-is (inr (still_refl contents _))
     ] in

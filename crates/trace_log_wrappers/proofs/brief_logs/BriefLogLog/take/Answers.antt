@@ -1,4 +1,4 @@
--- What is written and held behind a happening follows from the step.
+-- What is written and held after a happening follows from the contract of `step`.
 use Rattle.trace_log_wrappers.proofs.Words.{◌≡◌, true, is_in_range, newly_first}
 use Rattle.trace_log_wrappers.proofs.AddLemmas.{grows}
 use Rattle.trace_log_wrappers.proofs.KeepLemmas.{took_ok, took_err}

@@ -1,4 +1,4 @@
-use Rattle.trace_log_wrappers.proofs.Words.{rules, ◌≡◌, false, sym, subst, Ok, Err, OnOk, Result, NotesOf}
+use Rattle.trace_log_wrappers.proofs.Words.{rules, ◌≡◌, false, sym, subst, Ok, Err, OnOk, Result, AreNotesOf}
 use Rattle.std.specs.Result.{is_err}
 use Rattle.trace_log_wrappers.proofs.run_notes.RunNotes.note.Goals as goal
 
@@ -9,7 +9,7 @@ was_ok (Err fault) P works holds = absurd (cc)
 pub returns-else-is_err-clause-notes : goal.returns-else-is_err-clause-notes
 returns-else-is_err-clause-notes g c = λ past notes.
     let works : is_err c.note_child.result ≡ false = search rules in
-    let old : NotesOf _ past = subst (λ n. NotesOf n past) (sym c.self.view_is) notes in
+    let old : AreNotesOf _ past = subst (λ n. AreNotesOf n past) (sym c.self.view_is) notes in
     record {
       last = c.end_behind-self-inside.ensures past old.last;
       running = λ complete. was_ok c.note_child.result _ works c.note_child.ensures past (old.running complete);

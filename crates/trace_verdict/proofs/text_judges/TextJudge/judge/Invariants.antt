@@ -1,7 +1,7 @@
 use Rattle.trace_verdict.proofs.Words.{ℕ, List, ◌^◌, ◌<◌, length, IsAt}
 use Rattle.trace_verdict.proofs.text_judges.TextJudge.judge.Given as goal
 
--- it is at work on the same text
+-- the judge stays at work on the same text
 abbrev pub invariant-loop : goal.invariant-loop
 invariant-loop g l = (text : List ℕ) → length text < 2 ^ 64 → IsAt l.fn.self text → IsAt l.self text
 

@@ -1,4 +1,4 @@
-use Rattle.trace_view.proofs.Words.{◌∙◌, ap, not, reverse, Child, is_of}
+use Rattle.trace_view.proofs.Words.{◌∙◌, ap, not, reverse, Child, is_child_of}
 use Rattle.std.specs.Prelude.{filter}
 use Rattle.trace_view.proofs.ChildLists.{gone_staying, listed_gone}
 use Rattle.trace_view.proofs.child_lists.ChildList.drop_id.Goals as goal
@@ -12,4 +12,4 @@ pub returns : goal.returns
 returns g c =
     gone_staying c.args.id c.self.inside.next c.self.inside.gone.entries c.mark.new.gone.entries
     (reverse c.self.inside.arrivals.items) c.in_ok-mark.ensures.ok c.self.invariant.below
-    ∙ ap (filter (λ (child : Child). not (is_of c.args.id child))) c.self.view_is
+    ∙ ap (filter (λ (child : Child). not (is_child_of c.args.id child))) c.self.view_is

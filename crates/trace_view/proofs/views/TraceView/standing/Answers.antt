@@ -1,4 +1,5 @@
-use Rattle.trace_view.proofs.Words.{◌∙◌, ap, cond, false, find, subst, None, list_any, option_map_or, is_of, starts_in}
+use Rattle.trace_view.proofs.Words.{◌∙◌, ap, cond, false, find, subst, None, list_any, option_map_or, is_child_of}
+use Rattle.trace_view.proofs.Words.{starts_in}
 use Rattle.trace_view.proofs.Words.{is_born_as, is_named_by, Viewed, Wishes, number_of, is_excluded_by, entry_id}
 use Rattle.std.proofs.Common.{option_map}
 use Rattle.trace_view.proofs.Stands.{stands, excluded_is, lives_not, wish_is, held_is, full_is}
@@ -11,8 +12,9 @@ returns g c = rw (← c.self.view_is) (λ past seen found.
     stands c.args.entry.now past _ _ _ _ _ _ _ _ _ _ _ _ _ _
     (c.starts_in.ensures ∙ ap (starts_in c.args.entry.now) on)
     (c.number_of.ensures
-    ∙ ap (option_map number_of) (c.youngest_of.ensures ∙ ap (find (is_of c.args.entry.now.id)) seen.kept))
-    (c.excludes.ensures ∙ ap (λ o. option_map_or (is_excluded_by c.table-table.result.now c.stage-stage.result) o false)
+    ∙ ap (option_map number_of) (c.youngest_of.ensures ∙ ap (find (is_child_of c.args.entry.now.id)) seen.kept))
+    (c.is_child_excluded.ensures
+    ∙ ap (λ o. option_map_or (is_excluded_by c.table-table.result.now c.stage-stage.result) o false)
     c.youngest_of-2.ensures ∙ lives_not c.args.entry.now.id _ _ _ _ past (c.table-table.ensures.value past judged) on
     seen.kept)
     (ap (λ (w : Wishes). w.booted) seen.wishes)

@@ -1,4 +1,4 @@
-use Rattle.trace_view.proofs.Words.{◌∙◌, ◌∷◌, sym, ap, subst, None, TakesNext, law_number, Viewed}
+use Rattle.trace_view.proofs.Words.{◌∙◌, ◌∷◌, sym, ap, subst, None, JudgeAfterHappening, law_number, Viewed}
 use Rattle.std.proofs.Common.{option_map}
 use Rattle.trace_view.proofs.views.TraceView.take.Goals as goal
 
@@ -15,8 +15,8 @@ returns-clause-law g c = λ past seen.
 pub returns-clause-next : goal.returns-clause-next
 returns-clause-next g c = λ past seen.
     let was = subst (λ v. Viewed v past) (sym c.self.view_is) seen in
-    let next : TakesNext None c.self.inside.judge c.take.new.self c.args.happening.now =
-    subst (λ law. TakesNext law c.self.inside.judge c.take.new.self c.args.happening.now) c.in_default.is
+    let next : JudgeAfterHappening None c.self.inside.judge c.take.new.self c.args.happening.now =
+    subst (λ law. JudgeAfterHappening law c.self.inside.judge c.take.new.self c.args.happening.now) c.in_default.is
     c.in_ok-law.ensures.next in
     let judged = next past was.judged in
     let in_force = c.table-table.ensures.value (c.args.happening.now ∷ past) judged in

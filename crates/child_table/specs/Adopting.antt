@@ -1,0 +1,46 @@
+-- The records after another table was read (init(8)).
+use Rattle.std.specs.Prelude.{Bool, false, ◌&&◌, if◌then◌else◌, ◌++◌, List, map, filter, Option, Some, None, is_some}
+use Rattle.std.specs.Prelude.{is_none}
+use Rattle.init_words.specs.declared.entries.Entry.{Entry}
+use Rattle.respawn_limit.specs.State.{unused}
+use Rattle.inittab_text.specs.Tables.{entry_of}
+use Rattle.child_table.specs.State.{SlotState, new_record, is_act}
+use Rattle.child_table.specs.Lists.{record_by_id}
+
+-- the record of an entry of the new table: the child stays with its id, and so do its open order, its stop, and how the
+-- last child ended; whether it was asked stays if the id had the same action before; calls, starts and holds are
+-- dropped
+abbrev pub adopted : Entry → Option SlotState → SlotState
+adopted e None = new_record e
+adopted e (Some slot) = record slot {
+  id = e.id;
+  table_act = Some e.act;
+  asked = slot.asked && is_act e.act slot.table_act;
+  called = false;
+  limiter = unused;
+}
+
+-- the record of an id that is not in the new table: it keeps its child, and how the last child ended
+abbrev pub left_over : SlotState → SlotState
+left_over slot = record slot { table_act = None; asked = false; called = false; limiter = unused }
+
+-- a record stays without an entry if it has a child
+abbrev pub is_left_over : List Entry → SlotState → Bool
+is_left_over table slot = is_some slot.child && is_none (entry_of slot.id table)
+
+-- the record that stays of this one, if any
+abbrev pub left_one : List Entry → Option SlotState → Option SlotState
+left_one table None = None
+left_one table (Some slot) = if is_left_over table slot then Some (left_over slot) else None
+
+-- the records of the new table's entries, in table order
+abbrev pub entry_records : List Entry → List SlotState → List SlotState
+entry_records table slots = map (λ (e : Entry). adopted e (record_by_id e.id slots)) table
+
+-- the records that stay without an entry, in their earlier order
+abbrev pub left_records : List Entry → List SlotState → List SlotState
+left_records table slots = map left_over (filter (is_left_over table) slots)
+
+-- the records after the table was adopted: those of its entries, then those that stay without an entry
+abbrev pub after_adopt : List Entry → List SlotState → List SlotState
+after_adopt table slots = entry_records table slots ++ left_records table slots

@@ -1,7 +1,0 @@
-use Rattle.core_records.proofs.Words.{ap, ◌∙◌, not, ◌==◌, Counts, RecordState, is_stop_due, counts_of}
-use Rattle.core_records.proofs.Counted.{some_counted}
-use Rattle.core_records.proofs.records.Records.has_due.Goals as goal
-
-pub returns : goal.returns
-returns g c = ap (λ (k : Counts). not (k.due == 0)) (c.self.invariant.2 ∙ ap counts_of c.self.view_is)
-    ∙ some_counted (λ (slot : RecordState). is_stop_due slot.stop) c.args.self.now

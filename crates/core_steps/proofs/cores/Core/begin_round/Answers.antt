@@ -1,9 +1,0 @@
-use Rattle.core_steps.proofs.Words.{fits_round, round_keeps}
-use Rattle.core_steps.proofs.cores.Core.begin_round.Goals as goal
-
-pub invariant_of-self : goal.invariant_of-self
-invariant_of-self g c = rw c.begin_round_by_state.ensures (round_keeps c.self.inside.bare c.self.invariant)
-
-pub returns-clause-fits : goal.returns-clause-fits
-returns-clause-fits g c goal past sound fits =
-    rw (c.begin_round_by_state.ensures, c.self.view_is) (fits_round goal past c.args.self.now sound fits)

@@ -1,5 +1,0 @@
-use Rattle.core_steps.proofs.Words.{subst, IsFit}
-use Rattle.core_steps.proofs.cores.Core.law_of_rules.Goals as goal
-
-pub returns : goal.returns
-returns g c = subst IsFit c.self.view_is c.self.invariant

@@ -1,5 +1,0 @@
-use Rattle.core_steps.proofs.Places.{look_from}
-use Rattle.core_steps.proofs.walking.look_among.Goals as goal
-
-pub loop-position-init : goal.loop-position-init
-loop-position-init c = look_from c.args.slots.now c.args.from c.requires

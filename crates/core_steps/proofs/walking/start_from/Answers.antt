@@ -1,7 +1,0 @@
-use Rattle.core_steps.proofs.Words.{sym, ◌∙◌}
-use Rattle.core_steps.proofs.Starts.{along_past}
-use Rattle.core_steps.proofs.walking.start_from.Goals as goal
-
-pub returns : goal.returns
-returns g c = along_past c.args.stage c.args.now c.args.table.now c.args.slots.now c.loop-position.position
-    c.loop-position-test.false ∙ sym c.loop-position.invariant

@@ -1,6 +1,0 @@
-use Rattle.init_turns.proofs.Crashes.{leaves}
-use Rattle.init_turns.proofs.laws.law_of_a_crash.Goals as goal
-
-pub returns : goal.returns
-returns c level table later earlier next call distinct fronts allowed carried =
-    leaves level table distinct later earlier next call fronts allowed carried

@@ -1,5 +1,0 @@
-pub mod Arriving
-pub mod Crashes
-pub mod Opening
-pub mod Parts
-pub mod Words

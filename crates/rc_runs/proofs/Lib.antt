@@ -1,3 +1,0 @@
-pub mod OrderLemmas
-pub mod PlannedLemmas
-pub mod Words

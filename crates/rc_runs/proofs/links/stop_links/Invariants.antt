@@ -1,7 +1,0 @@
-use Rattle.rc_runs.proofs.Words.{◌≡◌, ◌++◌, map, string_bytes, drop, filter, is_link, texts_of}
-use Rattle.rc_runs.proofs.links.stop_links.Given as goal
-
-abbrev pub invariant-loop-name : goal.invariant-loop-name
-invariant-loop-name g l =
-    texts_of l.links.items ++ filter (is_link 75) (map string_bytes (drop l.name-index l.new))
-    ≡ filter (is_link 75) (map string_bytes l.new)

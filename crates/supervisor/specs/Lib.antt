@@ -1,0 +1,15 @@
+pub mod Arriving
+pub mod CallsLead
+pub mod Crashes
+pub mod EdgeWords
+pub mod Edges
+pub mod Fronts
+pub mod Grows
+pub mod Held
+pub mod Opening
+pub mod Parts
+pub mod Point
+pub mod Requests
+pub mod Texts
+pub mod Turns
+pub mod Words

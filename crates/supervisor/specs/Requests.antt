@@ -1,0 +1,36 @@
+-- Which requests the calls bring into the trace: those of the blocks that the bytes taken complete (initreq.h).
+use Rattle.std.specs.Prelude.{◌≡◌, ℕ, List, [], ◌∷◌, ◌++◌, Ok}
+use Rattle.initctl_frame.specs.declared.requests.HeardRequest.{HeardRequest as Request}
+use Rattle.supervisor.specs.EdgeWords.{requests_in_blocks, remainder_of, Got, Event, TakeBytes, HostCall}
+use Rattle.supervisor.specs.Point.{Point, bytes_after, point_after}
+
+-- the trace with these requests added, first one first
+abbrev pub requested : List Request → List Event → List Event
+requested [] past = past
+requested (request ∷ requests) past = requested requests (Got request ∷ past)
+
+-- These bytes come after others, of which the point has the incomplete block. The requests of the blocks that they
+-- complete in the whole list are added in order, and the bytes left over are those of the whole list.
+pub record Continues (before bytes : List ℕ) (p : Point) : Type 0 where
+  pub requests : List Request
+  pub gots : requests_in_blocks (before ++ bytes) ≡ requests_in_blocks before ++ requests
+  pub point : bytes_after bytes p ≡ record p { over = remainder_of (before ++ bytes); past = requested requests p.past }
+
+-- the requests of a trace, first one first
+abbrev pub requests_in : List Event → List Request
+requests_in [] = []
+requests_in (Got request ∷ past) = requests_in past ++ request ∷ []
+requests_in (_ ∷ past) = requests_in past
+
+-- the bytes that the calls took, first one first
+abbrev pub bytes_of : List HostCall → List ℕ
+bytes_of [] = []
+bytes_of (TakeBytes room (Ok bytes) ∷ calls) = bytes_of calls ++ bytes
+bytes_of (_ ∷ calls) = bytes_of calls
+
+-- the requests of these calls, whose bytes come after others, are those of all bytes without those of the earlier ones
+pub record Brings (before : List ℕ) (calls : List HostCall) (p : Point) : Type 0 where
+  pub requests : List Request
+  pub gots : requests_in_blocks (before ++ bytes_of calls) ≡ requests_in_blocks before ++ requests
+  pub past : requests_in (point_after calls p).past ≡ requests_in p.past ++ requests
+  pub over : (point_after calls p).over ≡ remainder_of (before ++ bytes_of calls)

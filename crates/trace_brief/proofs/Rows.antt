@@ -1,1 +1,0 @@
--- Worked traces and their brief forms: `refl` computes them.

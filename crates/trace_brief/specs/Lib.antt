@@ -1,3 +1,0 @@
-pub mod Brief
-pub mod Holding
-pub mod Readings

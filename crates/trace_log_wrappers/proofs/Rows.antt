@@ -1,0 +1,1 @@
+-- Worked examples: traces and their brief forms, each checked by computation (`refl`).
