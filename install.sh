@@ -1,17 +1,18 @@
 #!/bin/sh
 # Installs initd, telinit, rclinks, rc and initview, each proved before it is built, with their pages, the completion of
-# bash, the scripts of contrib and the facility files.
+# bash and fish, the scripts of contrib and the facility files.
 #
 #     ./install.sh [PREFIX]               under PREFIX; /opt/initd where it is left out
 #     ./install.sh --uninstall [PREFIX]   removes what was installed there
 #
-# A program that the gate (.ci/run, by tools/pages) or this script has built from these sources is taken as it is, by the
-# checksum that was left beside it; any other is proved and built by `rt run`, which takes long at the first time
-# (docs/COST.md). Files of an earlier installation that this one doesn't have are removed. With DESTDIR set all is put
-# under DESTDIR and stays meant for PREFIX, as for a package.
+# A program that the gate (.ci/run, by tools/pages) or this script has built from these sources is installed without
+# building it again; the checksum that was left beside it identifies it. Any other one is proved and built by `rt run`,
+# which takes long the first time (docs/COST.md). Files of an earlier installation that this one does not have are
+# removed. If DESTDIR is set, everything is put under DESTDIR but meant for PREFIX, as for a package.
 set -eu
 
 programs='initd telinit rclinks rc initview'
+scripts='initd-entry initd-service initd-with initd-top initd-logs'
 
 usage="usage: ./install.sh [--uninstall] [PREFIX]"
 usage() {
@@ -41,7 +42,7 @@ list=share/initd/installed
 
 if [ -n "$uninstall" ]; then
     [ -f "$root/$list" ] || {
-        echo "install.sh: $root/$list is not there: nothing was installed under $root" >&2
+        echo "install.sh: $root/$list does not exist; nothing is installed under $root" >&2
         exit 1
     }
     sort -r "$root/$list" | while read -r file; do
@@ -56,13 +57,13 @@ fi
 
 cd "$(dirname "$0")"
 
-# Proving takes long: that PREFIX can be written to is seen before.
+# Proving takes long, so PREFIX is first checked to be writable.
 mkdir -p "$root/share/initd" && [ -w "$root/share/initd" ] || {
-    echo "install.sh: $root can't be written to: give another PREFIX" >&2
+    echo "install.sh: $root: cannot write to it; use another PREFIX" >&2
     exit 1
 }
 
-# The program of this name is the one that was built from these sources.
+# The program with this name is the one that was built from these sources.
 is_built() {
     [ -x "crates/$1/out/$1" ] && [ -f "crates/$1/out/$1.sum" ] &&
         [ "$(cat "crates/$1/out/$1.sum")" = "$(tools/program-sum "$1")" ]
@@ -71,7 +72,7 @@ is_built() {
 for program in $programs; do
     is_built "$program" && continue
     command -v rt >/dev/null || {
-        echo "install.sh: crates/$program/out/$program is not built from these sources, and rt is not in PATH:" \
+        echo "install.sh: crates/$program/out/$program is not built from these sources, and rt is not in PATH;" \
             "install the Rattle kit that README.md names" >&2
         exit 1
     }
@@ -88,8 +89,8 @@ done
 new=$root/$list.new
 : >"$new"
 
-# put MODE FILE PLACE: one file, from the repository to under the prefix. It is put in place whole, so that a program
-# that runs is not written over.
+# put MODE FILE PLACE: installs one file of the repository under the prefix. It is replaced in one step, so that a
+# program that runs is not overwritten.
 put() {
     mkdir -p "$root/${3%/*}"
     cp "$2" "$root/$3.new"
@@ -101,21 +102,28 @@ put() {
 for program in $programs; do
     put 755 "crates/$program/out/$program" "bin/$program"
 done
-put 755 contrib/initd-entry bin/initd-entry
-put 755 contrib/initd-service bin/initd-service
+for script in $scripts; do
+    put 755 "contrib/$script" "bin/$script"
+done
+put 644 contrib/initd-lib share/initd/initd-lib
 for page in docs/man/*.[158]; do
     put 644 "$page" "share/man/man${page##*.}/${page##*/}"
 done
 put 644 contrib/completion/initd share/bash-completion/completions/initd
-for name in telinit rclinks rc initview initd-entry initd-service; do
+for name in telinit rclinks rc initview $scripts; do
     ln -sf initd "$root/share/bash-completion/completions/$name"
     echo "share/bash-completion/completions/$name" >>"$new"
+done
+put 644 contrib/completion/initd.fish share/fish/vendor_completions.d/initd.fish
+for name in telinit rclinks rc initview $scripts; do
+    ln -sf initd.fish "$root/share/fish/vendor_completions.d/$name.fish"
+    echo "share/fish/vendor_completions.d/$name.fish" >>"$new"
 done
 for facility in contrib/facilities/*; do
     put 644 "$facility" "share/initd/facilities/${facility##*/}"
 done
 put 644 examples/timeline/timeline.svg share/doc/initd/timeline.svg
-# Of their links those stay that lead to one another, to the picture, or within a page.
+# Only links to other installed pages, to the picture, or within a page are kept.
 for page in README.md SECURITY.md docs/OPERATING.md docs/SYSVINIT.md docs/DECISIONS.md; do
     shown=$root/share/initd/${page##*/}
     sed -E 's,\]\([./a-z]*(README|SECURITY|OPERATING|SYSVINIT|DECISIONS|timeline)\.(md|svg),](@\1.\2,g

@@ -1,12 +1,12 @@
 #!/bin/sh
-# Runs what the image runs, without an image: starts it in its own folder, restarts a service as `docker exec` does, and
-# stops all as `docker stop` does.
+# Does what the image does, without an image: starts init in its own folder, restarts a service as `docker exec` would,
+# and stops everything as `docker stop` would.
 cd "$(dirname "$0")" || exit 4
 rm -rf run && mkdir -m 700 run
-initd-entry -g 5 -d run --trace run/trace --brief --pause 0.1 --verbose >run/log 2>&1 &
+initd-entry -g 5 -d run --stop-level 4 --pause 0.1 --verbose >run/log 2>&1 &
 entry=$!
 until grep -qs 'Runlevel 3 settled' run/log; do kill -s 0 "$entry" || exit 4; sleep 0.1; done
-initd-service -d run -i inittab restart web || exit 4
+initd-service -d run restart web || exit 4
 kill -s TERM "$entry"
 wait "$entry"
 status=$?

@@ -1,5 +1,5 @@
 #!/bin/sh
-# Makes the links of etc/rc?.d by the headers of init.d: plan.sh FACILITY...
+# Makes the links in etc/rc?.d from the headers of the scripts in init.d: plan.sh FACILITY...
 cd "$(dirname "$0")" || exit 4
 rm -rf etc
 mkdir etc && cp -r init.d etc/init.d && rclinks "$@" etc/init.d/* >etc/plan || exit

@@ -1,16 +1,16 @@
 #!/bin/sh
-# Makes the two traces beside it, of runs that no init of this repository makes.
+# Makes the two traces in this folder, of runs that the init of this repository never makes.
 cd "$(dirname "$0")" || exit 4
 
-# A run as `initd simulate` makes it, and behind it a second birth of an id that has a child.
+# A run of `initd simulate`, followed by a second birth for an id that already has a child.
 printf 'id:3:initdefault:\nr:3:respawn:serv\n' >inittab
 printf '%s\n' 'birth r 10' 'told r' nudge 'still r' 'told r' >script
 initd simulate inittab script >second-birth.trace || exit
 printf '%s\n' 'ask r start' 'birth r 11' >>second-birth.trace
 rm inittab script
 
-# What sysvinit 3.06 did: the seconds of its starts of an entry whose child runs for 118 seconds once, and then for 0.4
-# each time, until it disabled the entry.
+# What sysvinit 3.06 did: the seconds at which it started an entry whose child first runs for 118 seconds, and then for
+# 0.4 seconds each time, until sysvinit disabled the entry.
 echo 0 118 118 118 119 119 120 120 120 121 121 122 122 122 123 | awk '
     function ended(child) {
         print "death " child "\nnudge\nask r look\nreaped r " child " exit 0\ntold r"
