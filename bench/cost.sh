@@ -1,12 +1,13 @@
 #!/bin/bash
-# What programs cost, in seconds of processor time, the least of nine runs where nothing else is said; of each, what its
-# start costs is taken off.
-#  - A line of a script for `initd simulate` and of its trace for `initd check`, over tables of 16, 512 and 4,096 respawn
-#    entries; where 4,096 all end; 60 turns of `initd run` over 500 children that sleep (three runs).
+# Measures what programs cost, in seconds of processor time: the least of nine runs unless stated otherwise, without the
+# cost of starting the program.
+#  - A line of a script for `initd simulate` and of its trace for `initd check`, with tables of 16, 512 and 4,096
+#    respawn entries; the same if 4,096 children all end; 60 turns of `initd run` with 500 children that sleep (three
+#    runs).
 #  - 10,000,000 lines for `initd check` and `initview`, in one piece, in 10 and in 1,000 (one run each, and the memory).
-#  - What grows: each of two sizes, and the exponent between them: 1 is as the size, 2 as its square.
+#  - Growth: each of two sizes, and the exponent between them: 1 is linear, 2 quadratic.
 # usage: bench/cost.sh [--growth] INITD INITVIEW RCLINKS     (as `rt run` leaves them in crates/initd/out/initd, ..;
-#        with --growth only what grows)
+# with --growth only the growth)
 set -eu
 alone=
 if [ "${1-}" = --growth ]; then
@@ -21,9 +22,10 @@ trap 'rm -r "$folder"' EXIT
 cd "$folder"
 TIMEFORMAT='%3U %3S'
 
-# may_end PROGRAM STATUS: init ends with 3 after its turns, and what views a trace or a table by what it finds.
+# may_end PROGRAM STATUS: init exits with status 3 after its turns, and a view of a trace or a table with a status that
+# depends on its contents.
 may_end() { [ "$2" = 3 ] || { [ "$1" = "$initview" ] && [ "$2" -le 4 ]; }; }
-# spent RUNS COMMAND..: the least seconds of processor time of so many runs
+# spent RUNS COMMAND..: the least seconds of processor time of this number of runs
 spent() {
     local runs=$1 run
     shift
@@ -37,13 +39,13 @@ spent() {
         } 2>&1
     done 3>&2 | awk '{ print $1 + $2 }' | sort -g | head -n 1
 }
-# cost COMMAND..: the least of nine, without what a start of the program costs.
+# cost COMMAND..: the least of nine runs, without the cost of starting the program.
 cost() { awk -v all="$(spent 9 "$@")" -v start="$(spent 9 "$1" --version)" 'BEGIN { print all - start }'; }
-# each COST LINES: microseconds a line
+# each COST LINES: microseconds per line
 each() { awk -v cost="$1" -v lines="$2" 'BEGIN { printf "%.3f microseconds a line\n", cost * 1e6 / lines }'; }
 ids() { awk -v n="$1" -v behind="$2" 'BEGIN { for (i = 0; i < n; i++) printf "%08x%s\n", i, behind }'; }
 births() { awk -v n="$1" 'BEGIN { print "clock 0"; for (i = 0; i < n; i++) printf "birth %08x %d\ntold %08x\n", i, 1000 + i, i }'; }
-# rounds N LINES [FIRST]: looks at all of N children from the first on, as often as these lines hold
+# rounds N LINES [FIRST]: looks at all of N children, from the first on, for this number of lines
 rounds() {
     awk -v n="$1" -v most="$2" -v first="${3:-0}" 'BEGIN {
         do {
@@ -60,7 +62,7 @@ ends() {
         for (i = 0; i < n; i++) printf "death %d\nreaped %08x %d exit 0\ntold %08x\n", 1000 + i, i, 1000 + i, i
     }'
 }
-# five LINES: a trace of idle rounds over five children, a day of them every 86,400
+# five LINES: a trace of idle rounds with five children, a day for each 86,400 rounds
 five() {
     awk -v most="$1" 'BEGIN {
         print "use 6\nid:3:initdefault:"
@@ -74,7 +76,7 @@ five() {
         }
     }'
 }
-# pieces TRACE COUNT FOLDER: the trace in so many pieces, with their list
+# pieces TRACE COUNT FOLDER: the trace in this number of pieces, with their list
 pieces() {
     local number=1 part
     rm -rf "$3"
@@ -114,7 +116,7 @@ traces() {
 }
 
 measured() { /usr/bin/time -q -f '%U seconds of user time, %S of system time, %M KiB at most' "$@"; }
-# Of a trace that no init writes `status` ends with 4.
+# For a trace that no init writes `status` exits with status 4.
 viewed() { measured "$initview" "$@" || [ $? = 4 ]; }
 longest() {
     local count
@@ -134,7 +136,7 @@ longest() {
     rm -r long in
 }
 
-# What grows. Each function makes what it is about in the size that it is given, and sets `words`, what is measured.
+# Growth. Each function creates its input in the given size, and sets `words`, the command that is measured.
 simulated() { words=("$initd" simulate --level 3 table script); }
 lint_faults() {
     awk -v n="$1" 'BEGIN { for (i = 0; i < n; i++) print "x" }' >table
@@ -230,7 +232,7 @@ missed() {
     } >script
     simulated
 }
-# held N COUNT: twenty rounds over N children, where so many of the first entries are held
+# held N COUNT: twenty rounds with N children, in which the first COUNT entries are held
 held() {
     local round
     ids "$1" :3:respawn:x >table

@@ -1,24 +1,25 @@
 #!/bin/bash
-# What the gate costs, in processor seconds: runs `rt ci` here with the words that are given, or from nothing, looks each
-# second at the processes of that run alone, and prints the table of bench/gate.md. What the run itself says goes to
+# Measures what the gate costs, in processor seconds: runs `rt ci` here with the given arguments, or from nothing, looks
+# each second at the processes of that run only, and prints the table of bench/gate.md. The output of the run goes to
 # standard error.
 # usage: bench/gate.sh [WORD..]
 set -u
 cd "$(dirname "$0")/.." || exit 1
-# A kit that keeps what passed is asked to prove it again; one that has no such word keeps nothing.
+# A kit that keeps what passed is asked to prove it again; a kit without this option keeps nothing.
 if [ $# -eq 0 ] && rt help 2>&1 | grep -q -e '--anew'; then
     set -- --anew
 fi
 said=$(mktemp) || exit 1
 trap 'rm -f "$said"' EXIT
 
-# The run has a session of its own, by which its processes are known.
+# The run has its own session, by which its processes are recognized.
 setsid rt ci "$@" >"$said" 2>&1 </dev/null &
 run=$!
 trap 'kill -s TERM -- "-$run" 2>/dev/null' TERM INT HUP
 
 declare -A used part
-# kind_of PROCESS PARENT: for what a process works: a column and a crate, by its words, or as its parent does.
+# kind_of PROCESS PARENT: what a process works for, a column and a crate, according to its arguments, or as its parent
+# does.
 kind_of() {
     local words folder crate kind
     words=$(tr '\0' ' ' <"/proc/$1/cmdline") 2>/dev/null

@@ -1,8 +1,9 @@
 #!/bin/bash
-# Whether a long run stays lawful and small: 50 services of which one dies each second, requests all the time, 10,000 in
-# three hours, the trace put away at each half mebibyte, and each happening judged. It prints init's memory after the first minute
-# and at the end, its processor time, and the verdicts of the run and of all pieces of its trace together.
-# usage: bench/long.sh INITD TELINIT [SECONDS]     (as `rt run` leaves them; three hours where the seconds are left out)
+# Tests whether a long run stays lawful and small: 50 services, of which one dies each second, requests all the time,
+# 10,000 in three hours, the trace put away at each half mebibyte, and each happening judged. It prints init's memory
+# after the first minute and at the end, its processor time, and the verdicts of the run and of all pieces of its trace
+# together.
+# usage: bench/long.sh INITD TELINIT [SECONDS]     (as `rt run` leaves them; the default is three hours)
 set -eu
 initd=$(realpath "$1")
 telinit=$(realpath "$2")
@@ -19,7 +20,7 @@ used() { awk -v hertz="$(getconf CLK_TCK)" '{ print ($14 + $15) / hertz }' "/pro
 
 ask() { "$telinit" --initctl initctl "$@" 2> said.telinit; }
 
-# the next request: mostly a letter of no entry, now and then inittab again, a re-execution, another level and back
+# the next request: mostly a letter of no entry, sometimes reading inittab again, a re-execution, another level and back
 request() {
     case $((sent % 100)) in
     50) ask 4 ;;
@@ -33,7 +34,7 @@ request() {
 
 echo 'id:3:initdefault:' > inittab
 for number in $(seq 50); do echo "s$number:3:respawn:sleep 100000"; done >> inittab
-# Level 4 has one, so that the run isn't drained there.
+# Level 4 has one, so that the run is not drained there.
 sed -i s/^s50:3/s50:34/ inittab
 "$initd" run --forever --fresh --drain --judge --brief --trace trace --trace-size 512K > said 2> told &
 pid=$!

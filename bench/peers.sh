@@ -1,10 +1,11 @@
 #!/bin/bash
-# `initd run`, without and with its bell, beside other inits and supervisors, each as the first process of a space of its
-# own, over the same programs: the least and the middle of some runs, which take turns. Children are read off /proc, so
-# that nothing is started beside what is measured. It wants root, for unshare(1) and chroot(1).
-# usage: bench/peers.sh [-n ROUNDS] INITD TELINIT [FOLDER]     (as `rt run` leaves them in crates/initd/out/initd, ..; three
-#        rounds where none are given) FOLDER has Debian's packages busybox-static, sysvinit-core, runit and s6 unpacked, with
-#        the libraries of s6; else they are fetched by apt-get(8). Whichever can't be had is left out, and told
+# Compares `initd run`, alone, with --bell, and with --bell and --watch, with other inits and supervisors, each as the
+# first process of its own namespace, with the same programs: the minimum and the median of some runs, made in rotation.
+# Children are read from /proc, so that nothing is started in addition to what is measured. It needs root, for
+# unshare(1) and chroot(1).
+# usage: bench/peers.sh [-n ROUNDS] INITD TELINIT [FOLDER]     (as `rt run` leaves them in crates/initd/out/initd, ..;
+# the default is three rounds) FOLDER has Debian's packages busybox-static, sysvinit-core, runit and s6 unpacked, with
+# the libraries of s6; otherwise they are fetched by apt-get(8). Those that are not available are omitted, and reported
 set -eu
 rounds=3
 if [ "${1-}" = -n ]; then
@@ -40,7 +41,11 @@ busybox=$peers/bin/busybox
     echo "busybox can't be had here: without its programs nothing is compared" >&2
     exit 1
 }
-inits="initd bell busybox"
+inits="initd bell watch busybox"
+helper=$(command -v waitpid || command -v perl) || {
+    echo "neither waitpid nor perl is in PATH: --watch is omitted" >&2
+    inits="initd bell busybox"
+}
 for peer in sysvinit:sbin/init runit:usr/bin/runsvdir s6:usr/bin/s6-svscan; do
     if [ -x "$peers/${peer#*:}" ]; then
         inits="$inits ${peer%%:*}"
@@ -49,7 +54,7 @@ for peer in sysvinit:sbin/init runit:usr/bin/runsvdir s6:usr/bin/s6-svscan; do
     fi
 done
 
-# A root of its own for each: the programs of busybox, what it links to, and a console that takes all.
+# A root for each: the programs of busybox, the libraries that it needs, and a console that accepts everything.
 libraries=$peers/lib/x86_64-linux-gnu:$peers/usr/lib/x86_64-linux-gnu
 put() {
     local root=$1 name=$3 file
@@ -71,6 +76,10 @@ rooted() {
     mknod -m 666 "$root/dev/console" c 1 3
     case $1 in
     initd | bell) put "$root" "$initd" init ;;
+    watch)
+        put "$root" "$initd" init
+        put "$root" "$helper" "${helper##*/}"
+        ;;
     busybox) ln -sf busybox "$root/bin/init" ;;
     sysvinit)
         put "$root" "$peers/sbin/init" init
@@ -82,8 +91,8 @@ rooted() {
 }
 for init in $inits; do rooted "$init"; done
 
-# head INIT, entry INIT NUMBER ACTION PROCESS: lines of its inittab, in level 3; of a supervisor the folder of a service.
-# busybox takes two lines of one process for one.
+# head_of INIT, entry INIT NUMBER ACTION PROCESS: lines of its inittab, in level 3; for a supervisor the folder of a
+# service. busybox takes two lines with the same process for one.
 head_of() {
     rm -rf "$own/$1"/service/*
     case $1 in
@@ -102,19 +111,32 @@ entry() {
     *) printf '%03x:3:%s:%s\n' "$2" "$3" "$4" ;;
     esac
 }
-# sleepers INIT COUNT ACTION: its inittab with so many entries that sleep
+# sleepers INIT COUNT ACTION: its inittab with this number of entries that sleep
 sleepers() {
     local number
     head_of "$1"
     for ((number = 1; number <= $2; number++)); do entry "$1" $number "$3" "/bin/sleep $((600 + number))"; done
 }
 
-# kids PID: the children of a process, in `kids`
+# kids PID: sets `kids` to the children of a process
 kids() {
     kids=()
     read -ra kids <"/proc/$1/task/$1/children" || true
 } 2>/dev/null
-# services INIT: the processes of its entries, in `kids`: a supervisor has a helper for each.
+# part_helpers: moves from `kids` to `helpers` what watches the others.
+part_helpers() {
+    local child name of=()
+    helpers=()
+    for child in "${kids[@]}"; do
+        read -r name <"/proc/$child/comm" || continue
+        case $name in
+        sh | perl | waitpid) helpers+=("$child") ;;
+        *) of+=("$child") ;;
+        esac
+    done
+    kids=("${of[@]}")
+} 2>/dev/null
+# services INIT: sets `kids` to the processes of its entries: a supervisor has a helper for each.
 services() {
     local helper of=()
     kids "$first"
@@ -126,12 +148,13 @@ services() {
         done
         kids=("${of[@]}")
         ;;
+    watch) part_helpers ;;
     esac
 }
 mkfifo "$own/never"
 exec {never}<>"$own/never"
 pause() { read -rt 0.0005 -u "$never" || true; }
-# until_so COMMAND..: waits until it holds, a minute at most.
+# until_so COMMAND..: waits until it succeeds, at most a minute.
 until_so() {
     local limit=$((SECONDS + 60))
     until "$@"; do
@@ -155,21 +178,23 @@ has_none() {
     services "$1"
     [ ${#kids[@]} = 0 ]
 }
+# replaced INIT COUNT PID: it has this number of children, and not this one
 replaced() {
-    has "$1" 10 && [[ " ${kids[*]} " != *" $2 "* ]]
+    has "$1" "$2" && [[ " ${kids[*]} " != *" $3 "* ]]
 }
 
-# begun INIT: its first process, whose number is `first`.
+# begun INIT: starts it and sets `first` to the number of its first process.
 begun() {
     local root=$own/$1 words
     rm -rf "$root"/tmp/* "$root"/run/*
     case $1 in
-    initd | bell) words=(init run --inittab /etc/inittab --initctl /run/ctl --state /run/state --level 3 --forever) ;;
+    initd | bell | watch) words=(init run --inittab /etc/inittab --initctl /run/ctl --state /run/state --level 3 --forever) ;;
     runit) words=(runsvdir -P /service) ;;
     s6) words=(s6-svscan -c 1000 /service) ;;
     *) words=(init) ;;
     esac
     [ "$1" != bell ] || words+=(--bell)
+    [ "$1" != watch ] || words+=(--bell --watch)
     PATH=/bin:/usr/bin:/sbin:/usr/sbin unshare --pid --mount --fork --kill-child \
         chroot "$root" "/bin/${words[0]}" "${words[@]:1}" </dev/null >"$own/said" 2>&1 &
     space=$!
@@ -182,10 +207,15 @@ over() {
 }
 now() { begin=${EPOCHREALTIME/./}; }
 since() { awk -v a="$begin" -v b="${EPOCHREALTIME/./}" 'BEGIN { print (b - a) / 1000 }'; }
-# processes INIT: init's own and those of a supervisor's helpers, in `kids`
+# processes INIT: sets `kids` to init's own process and those of a supervisor's helpers
 processes() {
     case $1 in
     runit | s6) kids "$first" ;;
+    watch)
+        kids "$first"
+        part_helpers
+        kids=("${helpers[@]}")
+        ;;
     *) kids=() ;;
     esac
     kids+=("$first")
@@ -196,9 +226,15 @@ used() {
     processes "$1"
     for process in "${kids[@]}"; do cat "/proc/$process/schedstat"; done | awk '{ sum += $1 } END { print sum / 1e6 }'
 }
+# switches INIT: how often they gave up the processor, each of which was a wake-up
+switches() {
+    local process
+    processes "$1"
+    for process in "${kids[@]}"; do cat "/proc/$process/status"; done | awk '/^voluntary_ctxt/ { sum += $2 } END { print sum }'
+}
 more_than() { awk -v a="$1" -v b="$2" 'BEGIN { print b - a }'; }
 
-# Each measure prints its number for one init, or - where the init has no such thing.
+# Each measure prints its number for one init, or - if the init has no such feature.
 chain() {
     case $1 in runit | s6) echo - && return ;; esac
     {
@@ -227,7 +263,7 @@ starts_cpu() {
     starts "$1" >/dev/null
     cat "$own/cpu"
 }
-# rests INIT COUNT: at rest over so many children
+# rests INIT COUNT: at rest with this number of children
 rests() {
     sleepers "$1" "$2" respawn >"$own/$1/etc/inittab"
     begun "$1"
@@ -236,30 +272,40 @@ rests() {
 }
 idle() {
     rests "$1" 10
-    local before
+    sleep 12
+    local before woken
     before=$(used "$1")
+    woken=$(switches "$1")
     sleep 10
     awk -v a="$before" -v b="$(used "$1")" 'BEGIN { print (b - a) / 10 }'
+    more_than "$woken" "$(switches "$1")" >>"$own/$1.woken"
     over
 }
+# What `idle` has counted.
+idle_switches() {
+    head -n 1 "$own/$1.woken"
+    sed -i 1d "$own/$1.woken"
+}
 respawn() {
-    rests "$1" 10
+    rests "$1" "$2"
     services "$1"
     local gone=${kids[4]}
     now
     kill -s KILL "$gone"
-    until_so replaced "$1" "$gone"
+    until_so replaced "$1" "$2" "$gone"
     since
     over
 }
-# asked INIT: tells it to go to level 4
+respawn_10() { respawn "$1" 10; }
+respawn_500() { respawn "$1" 500; }
+# asked INIT: asks it to go to level 4
 asked() {
     case $1 in
-    initd | bell) "$telinit" --initctl "$own/$1/run/ctl" -t 1 4 ;;
+    initd | bell | watch) "$telinit" --initctl "$own/$1/run/ctl" -t 1 4 ;;
     sysvinit) chroot "$own/sysvinit" /bin/telinit -t 1 4 ;;
     esac
 }
-# A level in which nothing runs, after one in which so many do.
+# A level in which nothing runs, after one with this number of children.
 stopped() {
     case $1 in busybox | runit | s6) echo - | tee "$own/cpu" && return ;; esac
     rests "$1" "$2"
@@ -287,7 +333,7 @@ memory() {
     over
 }
 
-# the least and the middle of the numbers, a line each
+# the minimum and the median of the numbers, one per line
 summed() { sort -n | awk '{ it[NR] = $1 } END { print it[1] == "-" ? "-" : it[1] "/" it[int((NR + 1) / 2)] }'; }
 measured() {
     local what=$1 measure=$2 round
@@ -302,7 +348,7 @@ measured() {
 
 echo "load $(cut -d ' ' -f 1-3 /proc/loadavg)"
 printf '| Least/middle of %d |' "$rounds"
-for init in $inits; do printf ' %s |' "${init/bell/with its bell}"; done
+for init in $inits; do printf ' %s |' "$(sed 's/bell/with --bell/; s/watch/with --bell and --watch/' <<<"$init")"; done
 printf '\n|---|'
 for init in $inits; do printf '%s|' ---; done
 echo
@@ -310,7 +356,9 @@ measured 'a chain of 100 waits, milliseconds' chain
 measured '500 started, milliseconds' starts
 measured '500 started, milliseconds of processor time' starts_cpu
 measured 'at rest over 10 children, milliseconds a second' idle
-measured 'a child that dies at rest is respawned, milliseconds' respawn
+measured 'wake-ups in those 10 seconds' idle_switches
+measured 'a child that dies at rest over 10 is respawned, milliseconds' respawn_10
+measured 'a child that dies at rest over 500 is respawned, milliseconds' respawn_500
 measured 'a level that stops 10, milliseconds' stops_10
 measured 'a level that stops 500, milliseconds' stops_500
 measured 'a level that stops 500, milliseconds of processor time' stops_cpu

@@ -1,6 +1,6 @@
 #!/bin/bash
-# What `initd run` costs at work, with default pauses: entries that wait for each other, children that sleep, requests
-# that come at once, requests while children die and are respawned, and rest over a bell.
+# Measures what `initd run` costs at work, with default pauses: entries that wait for each other, children that sleep,
+# requests that come at once, requests while children die and are respawned, and rest with a bell.
 # usage: bench/work.sh INITD TELINIT     (as `rt run` leaves them in crates/initd/out/initd, crates/telinit/out/telinit)
 set -eu
 initd=$(realpath "$1")
@@ -12,7 +12,7 @@ trap 'kill $(jobs -p) 2>/dev/null || true; rm -r "$folder"' EXIT
 # the milliseconds of processor time that a process has used, without its children
 used() { awk -v hertz="$(getconf CLK_TCK)" '{ print ($14 + $15) * 1000 / hertz }' "/proc/$1/stat"; }
 
-# ends init and the children that it has
+# ends init and its children
 end() {
     kill -s STOP $pid
     children=$(pgrep -P $pid || true)
@@ -21,7 +21,7 @@ end() {
     kill $children 2> /dev/null || true
 }
 
-# waits until the trace has this many lines of this kind
+# waits until the trace has this number of lines of this kind
 heard() { grep -c "^$1" trace 2> /dev/null || true; }
 until_heard() {
     until lines=$(heard "$1") && [ "${lines:-0}" -ge "$2" ]; do sleep 0.002; done
@@ -30,7 +30,7 @@ until_heard() {
 # the seconds since this time
 since() { awk -v a="$1" -v b="$(date +%s.%N)" 'BEGIN { print b - a }'; }
 
-# this many requests, of which no entry takes notice, as one append to the channel
+# this number of requests, which concern no entry, in a single append to the channel
 append() {
     "$telinit" --initctl one A 2> said.telinit
     for _ in $(seq 1 "$1"); do cat one; done > all
@@ -110,10 +110,10 @@ end
 echo "20000 requests while 200 children die five times: $(grep -c '^got ' trace) heard," \
     "$(grep -c '^birth ' trace) births, $("$initd" check trace)"
 
-# the middle of these numbers, a line each
+# the median of these numbers, one per line
 middle() { sort -n | awk '{ it[NR] = $1 } END { print it[int((NR + 1) / 2)] }'; }
 
-# at rest over ten children, with a bell and a brief trace
+# at rest with ten children, with a bell and a brief trace
 rm -f initctl trace
 awk 'BEGIN { for (i = 0; i < 10; i++) printf "%03x:3:respawn:sleep 600\n", i }' > inittab
 "$initd" run --level 3 --bell --trace trace --brief > said 2>&1 &

@@ -1,5 +1,6 @@
-# Makes a trace of the notes of the system (notes.awk), with the entries of the file `inittab`, and of the lines that
-# init prints, ours or sysvinit's. A moment is rounded down, that of a KILL up: init reads its clock in whole seconds too.
+# Makes a trace from the notes of the system (notes.awk), with the entries of the file `inittab`, and from the lines
+# that init prints, those of initd or of sysvinit. Times are rounded down, that of a KILL up, because init reads its
+# clock in whole seconds too.
 
 function is_action(word) {
     return word ~ /^(sysinit|boot|bootwait|initdefault|respawn|wait|once|off|ondemand|ctrlaltdel|kbrequest)$/ ||
@@ -62,7 +63,7 @@ function use(    i) {
 function announced(line, moment,    field) {
     if (line ~ /^INIT: Entering stage /) { split(line, field, " "); enter(field[4]) }
     else if (line ~ /^INIT: (Entering|Switching to) runlevel: /) { sub(/.*: /, "", line); enter(line) }
-    # sysvinit's own words.
+    # The messages of sysvinit.
     else if (line ~ /^INIT: version .* booting/) enter("sysinit")
     else if (line ~ /^INIT: version .* reloading/) return
     else if (line ~ /^INIT: Runlevel . settled/) { split(line, field, " "); print "settle", field[3] }
@@ -76,11 +77,11 @@ function enter(name) {
     stage = name
     print "enter", stage, grace
 }
-# An init that doesn't say so begins to boot with its first boot entry.
+# An init that does not announce it begins Boot with its first boot entry.
 function begin_boot(action) {
     if (stage == "sysinit" && action ~ /^(boot|bootwait)$/) enter("boot")
 }
-# The entry as a trace has it: its levels in order, all ten where none is named and the action goes by levels.
+# The entry as a trace has it: its levels in order, or all ten if none is named and its action depends on levels.
 function written(line,    field, levels, i, mark, process) {
     split(line, field, ":")
     process = substr(line, length(field[1] field[2] field[3]) + 4)

@@ -1,12 +1,12 @@
-# Reads the notes of strace -f -ttt -xx over a run of init. Prints what init did, a line each:
+# Reads the notes of strace -f -ttt -xx on a run of init. Prints what init did, one line each:
 #     born PID [WORD]..          a child that executes these words
-#     alive PID                  it was waited for without waiting, and had not ended
+#     alive PID                  a non-blocking wait found that it had not ended
 #     reaped PID exit N, killed  its status
 #     sent TERM PID              by init, or by the shell that it starts for the signals of a turn; or KILL
 #     got ..                     a block of 384 bytes of the channel, as a trace has it
-# With the variable `inittab` it prints nothing, and leaves these for what is read behind it, with the times. Init is the
-# first process; with the variable `program` the first one that executes that, and its children's numbers are those that
-# strace gives behind the ones of their own namespace.
+# With the variable `inittab` it prints nothing, and leaves these lines, with their times, for the file that is read
+# next. Init is the first process, or with the variable `program` the first one that executes that program; the numbers
+# of its children are then those that strace prints after the ones in their own namespace.
 
 function digit(of) { return index("0123456789abcdef", of) - 1 }
 function byte(digits) { return digit(substr(digits, 1, 1)) * 16 + digit(substr(digits, 2, 1)) }
@@ -31,7 +31,7 @@ function note(what, child, more) {
     by[events] = process
     at[events] = time
 }
-# A number of four bytes, the least first, behind so many of a block in hexadecimal.
+# A number of four bytes, the least significant first, after this number of bytes of a block in hexadecimal.
 function number(block, behind,    i, value) {
     value = 0
     for (i = 3; i >= 0; i--) {
@@ -63,7 +63,7 @@ function take_bytes(quoted) {
         note("got", "", request(number(block, 0), number(block, 4), character(number(block, 8)), number(block, 12)))
     }
 }
-# A line of init's, which may come in pieces.
+# A line that init prints, which may come in pieces.
 function announce(piece) {
     if (index(piece, "INIT: ")) announced_text = substr(piece, index(piece, "INIT: "))
     else if (announced_text != "") announced_text = announced_text piece
@@ -73,7 +73,7 @@ function announce(piece) {
         announced_text = ""
     }
 }
-# The number of a process that init names by this one, where a comment behind it or an earlier one gives it.
+# The number of the process that init calls by this number, if a comment after it or an earlier one has it.
 function outside(process_number, comment) {
     if (match(comment, /^ *\/\* [0-9]+ in strace/)) {
         sub(/^[^0-9]*/, "", comment)
@@ -92,7 +92,7 @@ function take(line,    name, result, parts, comment) {
     if (name == "execve") {
         split(line, parts, /\], /)
         sub(/^execve\("[^"]*", \[/, "", parts[1])
-        # What it is started with; what that executes later is its own.
+        # The words that it is started with; what it executes later does not matter.
         if (!(process in runs)) argv[process] = words(parts[1])
         if (result == 0) runs[process] = 1
         split(line, parts, "\"")
@@ -152,10 +152,11 @@ function take(line,    name, result, parts, comment) {
     }
     if (line ~ /\) += /) take(line)
 }
-# The shells that look for kill(1) and send the signals of a turn are no children of entries, but init's own.
-function is_helper(child) { return argv[child] ~ /^\[sh\] \[-c\] \[((true >\/dev\/null \|\| exit 2; )?command -v kill >|while read -r signal number group; do )/ }
+# The shells that look for kill(1), send the signals of a turn and watch children belong to init, and are not children of
+# entries.
+function is_helper(child) { return argv[child] ~ /^\[sh\] \[-c\] \[((true >\/dev\/null \|\| exit 2; )?command -v kill >|while read -r signal number group; do |LC_ALL=C; export LC_ALL; command -v waitpid >)/ }
 function is_born(child) { return child in is_child && !is_helper(child) }
-# A signal that a service sends is none of init's.
+# A signal that a service sends is not one of init's.
 function is_of_init(event) { return kind[event] !~ /^(sent|missed)$/ || by[event] == init || is_helper(by[event]) }
 END {
     for (i = 1; i <= events; i++) {
@@ -172,7 +173,7 @@ function print_all(    i) {
         else if (kind[i] == "born") print "born", of[i], argv[of[i]]
         else if (kind[i] == "reaped") {
             print "reaped", of[i], with[i]
-            # What init was told is what became of it.
+            # The end of the child must be what init was told.
             if (last[of[i]] != with[i]) print "but it ended with", last[of[i]]
         } else if (kind[i] == "alive") print "alive", of[i]
         else if (kind[i] == "sent" || kind[i] == "missed") print kind[i], with[i], of[i]

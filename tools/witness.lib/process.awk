@@ -1,5 +1,6 @@
-# The words with which a process text is started (inittab(5)), as `[one] [two]`: a shell executes it, where it has a
-# character that a shell reads, else its words are its own. The variable `shell` is its path where it isn't `sh`.
+# The words with which a process text is started (inittab(5)), as `[one] [two]`: a shell executes it if it contains a
+# character that the shell interprets, otherwise it is split into words. The variable `shell` is the path of the shell
+# if it is not `sh`.
 function words_of(process,    out, parts, count, i) {
     sub(/^\+/, "", process)
     if (process ~ /[]~`!$^&*()=|\\{}[;"'<>?]/) return "[" (shell == "" ? "sh" : shell) "] [-c] [exec " process "]"

@@ -1,4 +1,4 @@
-# Prints of a trace what the notes of the system have too, in their words (notes.awk).
+# Prints the part of a trace that the notes of the system contain too, in their words (notes.awk).
 
 left > 0 {
     left--
