@@ -1,4 +1,4 @@
--- What a host records about its calls, and when it may answer that a call failed.
+-- The record that a host keeps of its calls, and the conditions for reporting that a call failed.
 use Rattle.std.specs.Prelude.{◌≡◌, ◌<◌, ◌≤◌, ◌+◌, ◌-◌, ◌^◌, ◌⊎◌, min, ℕ, Bool, true, false, if◌then◌else◌}
 use Rattle.std.specs.Prelude.{List, ◌∷◌, take, Option, Some, None, IfSome, Result, Ok, Err}
 use Rattle.init_words.specs.declared.entries.Entry.{Entry}
@@ -22,7 +22,7 @@ TextRead = Result (List ℕ) HostFault
 abbrev pub PartsRead : Type 0
 PartsRead = Result (List NamedText) HostFault
 
--- if the host records its calls now, the newest first, it recorded them before, and this call was added
+-- if the host's record, newest call first, is complete now, it was complete before, and this call was added
 abbrev pub AddsCall : Option (List HostCall) → Option (List HostCall) → HostCall → Type 0
 AddsCall old new call = IfSome new (λ all. (before : List HostCall) × (old ≡ Some before) × (all ≡ call ∷ before))
 
@@ -62,7 +62,7 @@ abbrev pub parts_read : {T : Type 0} → (T → List NamedText) → Result T Hos
 parts_read parts (Ok held) = Ok (parts held)
 parts_read parts (Err fault) = Err fault
 
--- the text that a call left in the front of a buffer
+-- the text that a call wrote to the front of a buffer
 abbrev pub front_read : Result ℕ HostFault → List ℕ → TextRead
 front_read (Ok count) buffer = Ok (take count buffer)
 front_read (Err fault) buffer = Err fault

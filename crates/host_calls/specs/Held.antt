@@ -36,12 +36,12 @@ LookChangesHeld held now id (Now (Ended status)) = IsTrue (holds_child id held) 
 LookChangesHeld held now id (Now Alive) = IsTrue (holds_child id held) × (now ≡ held)
 LookChangesHeld held now id _ = now ≡ held
 
--- a signal can only hit a child that is held, and changes nothing
+-- a signal can only reach a child that is held, and does not change which children are held
 abbrev pub SignalChangesHeld : HeldChildren → HeldChildren → List ℕ → Reply → Type 0
 SignalChangesHeld held now id (Now Hit) = IsTrue (holds_child id held) × (now ≡ held)
 SignalChangesHeld held now id _ = now ≡ held
 
--- a call of a host that knows the children that it holds, and returns every answer at once
+-- the effect of a call on the held children, for a host that knows them and returns every answer at once
 abbrev pub CallChangesHeld : HostCall → HeldChildren → HeldChildren → Type 0
 CallChangesHeld (Start id command reply) held now = StartChangesHeld held now id reply
 CallChangesHeld (Look id reply) held now = LookChangesHeld held now id reply
@@ -49,14 +49,13 @@ CallChangesHeld (Signal id sent reply) held now = SignalChangesHeld held now id 
 CallChangesHeld (Late late) held now = (late ≡ None) × (now ≡ held)
 CallChangesHeld _ held now = now ≡ held
 
--- if the children that the host holds are known after a call, those before it were known, and the call changed these
--- into those
+-- if the children that the host holds are known after a call, they were known before it, and the call had exactly its
+-- effect on them
 abbrev pub HeldChildrenAfter : Option HeldChildren → Option HeldChildren → HostCall → Type 0
 HeldChildrenAfter old new call =
     IfSome new (λ now. (before : HeldChildren) × (old ≡ Some before) × CallChangesHeld call before now)
 
--- the calls, THE NEWEST FIRST, can be those of a host that held no child before them, and holds these children after
--- them
+-- the calls, newest first, are possible for a host that held no child before them and holds these children after them
 abbrev pub CallsLeaveHeld : List HostCall → HeldChildren → Type 0
 CallsLeaveHeld [] held = held ≡ []
 CallsLeaveHeld (call ∷ calls) held = (before : HeldChildren) × CallsLeaveHeld calls before

@@ -1,11 +1,11 @@
--- The calls of a host between two moments, the newest first, and what the host has recorded of them.
+-- The calls of a host between two moments, newest first, and the part of them that the host has recorded.
 use Rattle.std.specs.Prelude.{◌≡◌, List, ◌++◌, Option, Some, IfSome}
 
--- if the host records its calls now, it recorded them before, and these are the calls that it has recorded since
+-- if the host's record is complete now, it was complete before, and these are the calls that were added since
 abbrev pub AreNewCalls : {T : Type 0} → Option (List T) → Option (List T) → List T → Type 0
 AreNewCalls old new calls =
     IfSome new (λ all. (before : List _) × (old ≡ Some before) × (all ≡ calls ++ before))
 
--- some calls were made, which are those recorded since if the host records its calls, and they have the property P
+-- some calls with the property P were made; if the host's record is complete, they are the calls that were added to it
 abbrev pub NewCallsSatisfy : {T : Type 0} → Option (List T) → Option (List T) → (List T → Type 0) → Type 0
 NewCallsSatisfy old new P = (calls : List _) × AreNewCalls old new calls × P calls

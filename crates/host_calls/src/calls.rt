@@ -75,25 +75,25 @@ impl<A: Allocator> Bytes<A> {
 /// a table.
 #[derive(Drop)]
 pub enum Call<B = Bytes, T = Table, P = PartList> {
-    /// A child was to be started for the id, with this command.
+    /// Start a child for the id with this command.
     Start(Id, B, Reply),
-    /// The child of the id was looked at.
+    /// Look whether the child of the id has ended.
     Look(Id, Reply),
-    /// The child of the id was to be sent this signal.
+    /// Send this signal to the child of the id.
     Signal(Id, SignalKind, Reply),
-    /// An answer to an earlier order was asked for.
+    /// Return an answer to an earlier order, if one has come.
     Late(Option<(Id, Answer)>),
-    /// The clock was read, in seconds.
+    /// Read the clock, in seconds.
     Clock(Result<u64, HostFault>),
-    /// Bytes of requests were asked for, with room for this many.
+    /// Read bytes of requests into a buffer of this length.
     TakeBytes(usize, Result<B, HostFault>),
-    /// The files of the inittab were read.
+    /// Read the files of the inittab.
     ReadTables(Result<P, HostFault>),
-    /// The text of init's state was carried, and read back.
+    /// Carry this text of init's state to a new init, and return what that init receives.
     Carry(B, Result<B, HostFault>),
-    /// A happening was announced.
+    /// Announce this happening.
     Announce(Happening<T>),
-    /// The host paused.
+    /// Pause.
     Pause,
 }
 

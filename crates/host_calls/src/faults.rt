@@ -1,4 +1,4 @@
-//! Which answers report a fault, and how faults are counted.
+//! Recognizes the answers that report a fault, and counts faults.
 
 ghost use Rattle.std.specs.Prelude.{◌≡◌};
 ghost use Rattle.host_calls.specs.Calls.{FaultIsCounted, counted, is_failed_answer, is_failed_reply, is_failed_late};
@@ -33,7 +33,7 @@ pub fn is_failed_late(late: &Option<(Id, Answer)>) -> bool
     }
 }
 
-/// Returns the count of faults after a call, which stays at its maximum.
+/// Returns the count of faults after a call. The count stays at its maximum.
 pub fn counted(faults: u64, failed: bool) -> u64
     ensures value { result ≡ counted failed faults }
     ensures cause { FaultIsCounted faults result failed }

@@ -21,8 +21,7 @@ use trace_events::HappeningIn;
 /// are known, and by its count of faults. A host may record no calls at all; once it fails to record a call, it records
 /// none from then on.
 pub trait Host {
-    /// The calls so far with their answers, the newest first. None from the first call on that the host does not
-    /// record.
+    /// The calls so far with their answers, newest first. None once the host has failed to record a call.
     ghost told: { Self → Option (List HostCall) };
 
     /// The children that the host holds. None if they are not known.
@@ -34,8 +33,8 @@ pub trait Host {
     /// The settings of the host, which no call changes. None if they are not known.
     ghost settings: { Self → Option HostSettings };
 
-    /// Starts a child for the id with the command of an inittab(5) entry, which is its process without a leading `+`.
-    /// The answer is `Born` with the number of the child, or `NotBorn`.
+    /// Starts a child for the id with the command of an inittab(5) entry, which is its process field without a leading
+    /// `+`. The answer is `Born` with the number of the child, or `NotBorn`.
     fn start<A: Allocator + Copy>(&mut self, alloc: A, id: Id, command: &[u8]) -> Reply
         ensures adds { AddsCall (told self.old) (told self.new) (Call.Start id command.now result) }
         ensures children { HeldChildrenAfter (held self.old) (held self.new)
@@ -97,7 +96,8 @@ pub trait Host {
         ensures cause { FaultIsCounted (failures self.old) (failures self.new) (is_err result) }
         ensures settings { settings self.new ≡ settings self.old };
 
-    /// Carries the text of init's state to a new init, and returns what reaches it, in memory of `alloc`.
+    /// Carries the text of init's state to a new init, and returns the text that the new init receives, in memory of
+    /// `alloc`.
     fn carry<A: Allocator + Copy>(&mut self, alloc: A, text: &[u8]) -> Result<Vec<u8, A>, HostFault>
         ensures adds { AddsCall (told self.old) (told self.new)
             (Call.Carry text.now (text_read (λ back. back.items) result)) }
@@ -121,7 +121,7 @@ pub trait Host {
         ensures cause { FaultIsCounted (failures self.old) (failures self.new) false }
         ensures settings { settings self.new ≡ settings self.old };
 
-    /// Returns the count of faults, which stays at its maximum.
+    /// Returns the count of faults. The count stays at its maximum.
     fn faults(&self) -> u64
         ensures { result ≡ failures self.now };
 }

@@ -2,8 +2,8 @@
 //! reading requests and inittab, and carrying init's state to a new init. A host records its calls and counts its
 //! faults.
 //!
-//! `host_system` implements the trait for a machine, and `host_scripted` for tests; `test_hosts` tests both. A new call
-//! changes `Call`, `Reply`, both hosts, and what `supervisor` says about them.
+//! `host_system` implements the trait for a machine, and `host_scripted` for tests; `test_hosts` tests both. To add a
+//! call, change `Call`, `Reply`, both hosts, and the parts of `supervisor` that describe them.
 #![tactic(auto)]
 
 mod calls;

@@ -77,8 +77,8 @@ starts_by act.Powerfailnow levels (Run l) = names (At l) levels
 starts_by act.Ondemand levels (Run l) = not (same_level l level.S)
 starts_by _ levels stage = false
 
--- a child of such an entry may keep running in the stage: if the entry is started there, and that of boot and bootwait
--- also in every runlevel
+-- a child of an entry with this action and these runlevels may keep running in a stage in which the entry is started;
+-- a child of a boot or bootwait entry may also keep running in every runlevel
 abbrev pub lives_by : Act → List Mark → Stage → Bool
 lives_by act.Boot levels (Run l) = true
 lives_by act.Bootwait levels (Run l) = true
@@ -141,9 +141,9 @@ abbrev pub stays_called : Act → Bool
 stays_called act.Ondemand = true
 stays_called _ = false
 
--- an entry that starts in the stage is to be started now: a respawn entry if nothing of it runs (idle), an entry of
--- boot or of a level if no start of it was ordered (fresh), an entry for a power event if it was called, and an
--- ondemand entry if it was called and nothing of it runs
+-- an entry that starts in the stage is to be started now: a respawn entry if it has no child (idle), an entry of boot
+-- or of a level if no start of it was ordered (fresh), an entry for a power event if it was called, and an ondemand
+-- entry if it was called and has no child
 abbrev pub wanted_by : Act → Bool → Bool → Bool → Bool
 wanted_by act.Respawn idle fresh called = idle
 wanted_by act.Sysinit idle fresh called = fresh
@@ -164,8 +164,8 @@ is_limited act.Respawn = true
 is_limited act.Ondemand = true
 is_limited _ = false
 
--- an entry does not keep its level from being settled: a start of a wait or once entry was ordered (asked), a respawn
--- entry has a child or is held (kept_up); any other entry never does
+-- an entry no longer prevents its level from being settled: a wait or once entry once its start was ordered (asked), a
+-- respawn entry while it has a child or is held (kept_up), and any other entry always
 abbrev pub served_by : Act → Bool → Bool → Bool
 served_by act.Wait asked kept_up = asked
 served_by act.Once asked kept_up = asked

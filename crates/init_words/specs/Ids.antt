@@ -9,7 +9,7 @@ use Rattle.std.specs.Cmp.Lexicographic.{pointwise}
 abbrev pub is_id_byte : ℕ → Bool
 is_id_byte byte = nat_le 33 byte && nat_le byte 126 && not (byte == 58)
 
--- 1 to ID_LIMIT such bytes, the first of which is not '#'
+-- 1 to ID_LIMIT bytes that an id can have, the first of which is not '#'
 abbrev pub is_id : List ℕ → Bool
 is_id text =
     nat_le 1 (length text) && nat_le (length text) ID_LIMIT && not (slice_index text 0 == 35)

@@ -29,7 +29,7 @@ same_stage stage.Boot stage.Boot = true
 same_stage (stage.Run k) (stage.Run l) = same_level k l
 same_stage _ _ = false
 
--- the answer is one to an order of this kind
+-- the answer fits an order of this kind
 abbrev pub answers : Answer → OrderKind → Bool
 answers (Born n) Start = true
 answers NotBorn Start = true

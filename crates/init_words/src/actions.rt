@@ -100,7 +100,8 @@ impl Act {
         }
     }
 
-    /// Returns whether a child of such an entry may keep running in the stage; if not, it is stopped (init(8)).
+    /// Returns whether a child of an entry with this action and these runlevels may keep running in the stage; if not,
+    /// it is stopped (init(8)).
     pub fn lives(self, levels: &[Mark], stage: Stage) -> bool
         ensures { result ≡ lives_by self levels.now stage }
     {
@@ -183,9 +184,9 @@ impl Act {
         matches!(self, Act::Ondemand)
     }
 
-    /// Returns whether an entry with this action that starts in the stage is to be started now: a respawn entry if
-    /// nothing of it runs (`idle`), an entry of boot or of a level if no start of it was ordered there (`fresh`), an
-    /// entry for a power event if it was called, and an ondemand entry if it was called and nothing of it runs.
+    /// Returns whether an entry with this action that starts in the stage is to be started now: a respawn entry if it
+    /// has no child (`idle`), an entry of boot or of a level if no start of it was ordered there (`fresh`), an entry
+    /// for a power event if it was called, and an ondemand entry if it was called and has no child.
     pub fn is_wanted(self, idle: bool, fresh: bool, called: bool) -> bool
         ensures { result ≡ wanted_by self idle fresh called }
     {
@@ -205,8 +206,8 @@ impl Act {
         matches!(self, Act::Respawn | Act::Ondemand)
     }
 
-    /// Returns whether an entry with this action does not keep its level from being settled: a wait or once entry if a
-    /// start was ordered (`asked`), a respawn entry if it has a child or is held (`kept_up`), and any other entry
+    /// Returns whether an entry with this action no longer prevents its level from being settled: a wait or once entry
+    /// if a start was ordered (`asked`), a respawn entry if it has a child or is held (`kept_up`), and any other entry
     /// always.
     pub fn is_served(self, asked: bool, kept_up: bool) -> bool
         ensures { result ≡ served_by self asked kept_up }

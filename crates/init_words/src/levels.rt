@@ -68,7 +68,7 @@ impl Level {
         self != Level::S
     }
 
-    /// Returns the character of the level; that of single-user mode is the capital `S`.
+    /// Returns the character of the level, which is the capital `S` for single-user mode.
     pub fn code(self) -> u8
         ensures { result ≡ level_code self }
     {

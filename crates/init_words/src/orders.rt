@@ -5,7 +5,7 @@ ghost use Rattle.init_words.specs.Orders.{answers};
 
 use crate::children::{ChildNumber, Status};
 
-/// What init asks the system to do for an entry.
+/// The kind of an order: what init asks the system to do for an entry.
 #[derive(Clone, Copy, PartialEq, Eq)]
 pub enum OrderKind {
     Start,
@@ -14,7 +14,7 @@ pub enum OrderKind {
     Kill,
 }
 
-/// What the system answered to an order.
+/// The system's answer to an order.
 #[derive(Clone, Copy, PartialEq, Eq)]
 pub enum Answer {
     /// To a start: the child was started and has this number.
@@ -34,7 +34,7 @@ pub enum Answer {
 }
 
 impl Answer {
-    /// Returns whether this is an answer to an order of this kind.
+    /// Returns whether this answer fits an order of this kind.
     pub fn answers(self, ask: OrderKind) -> bool
         ensures { result ≡ answers self ask }
     {

@@ -1,4 +1,4 @@
-//! The reasons for which a call is rejected and changes nothing.
+//! The reasons why a call is rejected without changing anything.
 
 use std::alloc::{AllocError, AllocFailed};
 use std::error::Error;
@@ -37,7 +37,7 @@ impl<T: Drop> From<AllocFailed<T>> for Memory {
 pub enum Refusal {
     /// The id has no open order.
     NotAsked,
-    /// The id's open order is of another kind than the answer.
+    /// The answer does not fit the kind of the id's open order.
     WrongAnswer,
     /// A start or a signal has not been answered yet, so no table can be adopted.
     NotQuiet,

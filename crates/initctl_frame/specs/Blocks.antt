@@ -13,7 +13,7 @@ parts size (suc n) bytes = take size bytes ∷ parts size n (drop size bytes)
 abbrev pub blocks_of : List ℕ → List (List ℕ)
 blocks_of bytes = parts BLOCK (length bytes / BLOCK) bytes
 
--- the requests of a byte list: those of its blocks, in order
+-- the requests of a byte list: one for each of its blocks, in order
 abbrev pub requests_in_blocks : List ℕ → List HeardRequest
 requests_in_blocks bytes = map heard_of (blocks_of bytes)
 
@@ -21,7 +21,7 @@ requests_in_blocks bytes = map heard_of (blocks_of bytes)
 abbrev pub remainder_of : List ℕ → List ℕ
 remainder_of bytes = drop (BLOCK * (length bytes / BLOCK)) bytes
 
--- an unfinished block: the number of bytes received of it, and the first sixteen of them
+-- an unfinished block: the number of its bytes that were received, and the first sixteen of them
 pub record PartialBlock : Type 0 where
   pub count : ℕ
   pub front : List ℕ

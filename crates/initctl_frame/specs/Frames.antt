@@ -23,7 +23,7 @@ abbrev pub seconds_of : ℤ → ℕ
 seconds_of (pos seconds) = min seconds GRACE_LIMIT
 seconds_of (negsuc below) = 0
 
--- the request of a runlevel int: that of the character with this code; a negative one is ignored
+-- the request of a runlevel int: the int is the code of a character; a negative int is ignored
 abbrev pub heard_of_runlevel : ℤ → ℕ → HeardRequest
 heard_of_runlevel (pos code) seconds = heard_of_sign code seconds
 heard_of_runlevel (negsuc below) seconds = got.Nothing Character

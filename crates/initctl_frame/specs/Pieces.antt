@@ -2,7 +2,7 @@
 use Rattle.std.specs.Prelude.{◌≡◌, ℕ, List, ◌++◌, length, take, drop, min}
 use Rattle.initctl_frame.specs.declared.requests.HeardRequest.{HeardRequest}
 
--- the places, of which the first are replaced by these requests, as many as fit
+-- the places after these requests, as many as fit, have replaced the first ones
 abbrev pub filled : List HeardRequest → List HeardRequest → List HeardRequest
 filled places gots = take (length places) gots ++ drop (length gots) places
 

@@ -8,7 +8,7 @@ use Rattle.initctl_frame.specs.declared.requests.HeardRequest.{HeardRequest}
 use Rattle.initctl_frame.specs.declared.requests.HeardRequest.TheVariants as got
 use Rattle.initctl_frame.specs.declared.requests.Cause.TheVariants.{Character}
 
--- these characters, in ASCII
+-- the characters that telinit(8) accepts, in ASCII
 abbrev pub sign_codes : List ℕ
 sign_codes = codes "0123456789SsABCabcQqUu"
 
@@ -16,7 +16,7 @@ sign_codes = codes "0123456789SsABCabcQqUu"
 abbrev pub is_sign : ℕ → Bool
 is_sign code = list_any (λ listed. listed == code) sign_codes
 
--- the character as typed, if it is one of these
+-- the character as typed, if telinit(8) accepts it
 abbrev pub sign_read : ℕ → Option ℕ
 sign_read code = if is_sign code then Some code else None
 

@@ -17,14 +17,15 @@ pub(crate) const FRONT: usize = 16;
 /// The first int of every block (initreq.h).
 const MAGIC: i32 = 0x03091969;
 
-/// Decodes a request block (initreq.h). Each block is decoded by itself: a field is read only at its own position.
+/// Decodes a request block (initreq.h). The result depends on this block alone, and each field is read at its fixed
+/// position.
 pub fn decode(block: &[u8; BLOCK]) -> HeardRequest
     ensures { result ≡ heard_of block.now }
 {
     decode_front(block)
 }
 
-/// Encodes a request: its ints, followed by 368 zeros. A power event has 0 as runlevel and sleeptime.
+/// Encodes a request as four ints, followed by 368 zeros. The runlevel and the sleeptime of a power event are 0.
 pub fn encode(request: &Request) -> [u8; BLOCK]
     ensures bytes { result ≡ block_of request.now }
     ensures read_back { heard_of result ≡ meaning_of request.now }
@@ -35,7 +36,7 @@ pub fn encode(request: &Request) -> [u8; BLOCK]
     }
 }
 
-/// Returns what a request means to init: what decoding the request's block gives.
+/// Returns what a request means to init: the result of decoding the request's block.
 pub fn meaning(request: &Request) -> HeardRequest
     ensures { result ≡ meaning_of request.now }
 {

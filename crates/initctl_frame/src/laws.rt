@@ -4,7 +4,7 @@ ghost use Rattle.std.specs.Prelude.{◌≡◌, ◌++◌, ◌<◌, ℕ, List, All
 ghost use Rattle.initctl_frame.specs.declared.frames.TheConstants.{BLOCK};
 ghost use Rattle.initctl_frame.specs.Blocks.{blocks_of, remainder_of};
 
-/// States that the blocks of a byte list are its parts: each block has 384 bytes, fewer than 384 bytes are left over,
+/// States that a byte list consists of its blocks and a remainder: each block has 384 bytes, the remainder has fewer,
 /// and joined together they are the list. The function does nothing: its contract is the law.
 pub fn blocks_are_parts()
     ensures whole { (bytes : List ℕ) → All (λ block. length block ≡ BLOCK) (blocks_of bytes) }

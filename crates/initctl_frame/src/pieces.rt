@@ -24,8 +24,8 @@ pub fn read_pieces(pieces: &[&[u8]], room: &mut [HeardRequest]) -> usize
     count
 }
 
-/// Feeds the whole piece to `blocks`, and writes its requests after the first `count` ones. Returns the new number of
-/// requests.
+/// Feeds the whole piece to `blocks`, and writes the completed requests to `room` after the first `count` ones.
+/// Returns the new number of requests.
 fn read_piece(blocks: &mut Blocks, piece: &[u8], room: &mut [HeardRequest], count: usize) -> usize
     requires { count ≤ length room.old }
     ensures within { result ≤ length room.new }

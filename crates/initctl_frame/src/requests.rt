@@ -1,4 +1,4 @@
-//! The requests that init receives, and why one is ignored.
+//! The requests that init receives, and the reasons for ignoring one.
 
 use crate::signs::Sign;
 use init_words::{Letter, Level, PowerKind};
@@ -25,11 +25,11 @@ pub enum HeardRequest {
 pub enum Cause {
     /// The first int is not the magic number.
     Magic,
-    /// The command is not one of initreq.h.
+    /// The command is not defined in initreq.h.
     Unknown,
-    /// The command is one of initreq.h that this init does not support.
+    /// The command is defined in initreq.h, but this init does not support it.
     LeftOut,
-    /// The block asks for a runlevel, but the character is not one of telinit(8).
+    /// The block is a RUNLVL request, but telinit(8) does not accept its character.
     Character,
 }
 

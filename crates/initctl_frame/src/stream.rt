@@ -9,8 +9,8 @@ use arrayvec::ArrayVec;
 use std::alloc::AllocError;
 use std::marker::Model;
 
-/// Reads requests from a stream of bytes that arrives in arbitrary pieces. Of an unfinished block, it keeps only the
-/// first sixteen bytes and the number of bytes received.
+/// Reads requests from a stream of bytes that arrives in arbitrary pieces. It keeps only the first sixteen bytes of an
+/// unfinished block, and the number of bytes received.
 #[derive(Drop)]
 pub struct Blocks {
     front: ArrayVec<u8, FRONT>,
@@ -50,7 +50,7 @@ impl Blocks {
         ensures taken { result.0 ≡ min (length piece.now) (BLOCK - self.old.count) }
         ensures progress { 0 < length piece.now → 0 < result.0 }
 
-        // A request is returned exactly if the block is complete, and it is the next request of all bytes so far.
+        // A request is returned if and only if the block is complete; it is the next request of all bytes so far.
         ensures full { IsSome result.1 ↔ (BLOCK ≤ self.old.count + length piece.now) }
         ensures stands { (bytes : List ℕ) → ReaderAfter self.old bytes
             → ReaderAfter self.new (bytes ++ take result.0 piece.now) }
@@ -73,7 +73,7 @@ impl Blocks {
         (taken, Some(got))
     }
 
-    /// Returns the number of bytes received of the unfinished block, 0 to 383.
+    /// Returns how many bytes of the unfinished block were received, 0 to 383.
     pub fn rest(&self) -> usize
         ensures count { result ≡ self.now.count }
         ensures partial { result < BLOCK }

@@ -1,4 +1,4 @@
--- The texts at paths, as far as they are known.
+-- The known texts at paths.
 use Rattle.std.specs.Prelude.{◌≡◌, ℕ, if◌then◌else◌, List, [], ◌∷◌, Option, Some, None, IfSome}
 use Rattle.std.specs.Str.{bytes_eq}
 
@@ -6,7 +6,7 @@ use Rattle.std.specs.Str.{bytes_eq}
 abbrev pub KnownTexts : Type 0
 KnownTexts = List ℕ → Option (List ℕ)
 
--- the text is the one at the path; if that is not known, any text is
+-- this is the text at the path, if that text is known; if it is not known, this may be any text
 abbrev pub IsTextAt : KnownTexts → List ℕ → List ℕ → Type 0
 IsTextAt text_at path text = IfSome (text_at path) (λ known. text ≡ known)
 

@@ -41,7 +41,7 @@ pub fn unread_status(error: &io::Error) -> u8
     }
 }
 
-/// Reports that memory ran out while the arguments were read, or the usage for any other error. Returns
+/// Reports why the arguments could not be read: that memory ran out, or the usage for any other error. Returns
 /// `unread_status`.
 pub fn report_unread_words<E: Reporter>(
     name: &str,

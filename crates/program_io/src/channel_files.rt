@@ -18,10 +18,11 @@ pub const REQUEST: usize = 384;
 /// The mode of a new channel: only its owner can read and write it.
 const MODE: u32 = 0o600;
 
-/// How often `lock_channel` tries to take the lock, because `is_read` holds it for a moment, too.
+/// The number of times `lock_channel` tries to take the lock. It retries because `is_read` also holds the lock
+/// briefly.
 const LOCK_TRIES: u32 = 100;
 
-/// A channel that is open for appending. One that was opened to be locked is also open for reading.
+/// A channel that is open for appending. If it was opened to take its lock, it is also open for reading.
 #[derive(Drop)]
 pub struct OpenChannel {
     file: File,
@@ -64,7 +65,7 @@ impl OpenChannel {
 /// The lock of the initd that reads a channel. It is released when this value is dropped.
 #[derive(Drop)]
 pub struct ChannelLock {
-    /// Stays open, so that no other file gets its inode number.
+    /// The locked file, which stays open so that no other file can get its inode number.
     channel: OpenChannel,
     /// The device and the inode number of the file.
     file: (u64, u64),
@@ -76,7 +77,7 @@ impl ChannelLock {
         self.channel.was_made
     }
 
-    /// Returns whether this is the lock of the file that was found at the channel's path.
+    /// Returns whether this lock is on the file that was found at the channel's path.
     pub fn is_of(&self, found: &Metadata) -> bool {
         self.file == (found.dev(), found.ino())
     }
@@ -102,8 +103,8 @@ pub fn read_request(mut file: &File, position: u64, request: &mut [u8; REQUEST])
     file.read_exact(request)
 }
 
-/// Takes the lock of a channel, which is created if it does not exist, as by `OpenChannel::open`. Returns `None` if
-/// another process holds the lock.
+/// Takes the lock of a channel, and creates the channel if it does not exist, as `OpenChannel::open` does. Returns
+/// `None` if another process holds the lock.
 pub fn lock_channel<R: Files<File = File>>(rt: &R, path: &str) -> io::Result<Option<ChannelLock>> {
     let channel = open_or_make(rt, path, true)?;
     for _ in 0..LOCK_TRIES {
@@ -133,7 +134,7 @@ pub fn is_read<R: Files<File = File>>(rt: &R, path: &str) -> io::Result<bool> {
     open_old(rt, path, false)?.is_read()
 }
 
-/// Opens a channel, for reading too if `reads` is set, and creates an empty one if it does not exist.
+/// Opens a channel for appending, and also for reading if `reads` is set. Creates an empty one if it does not exist.
 fn open_or_make<R: Files<File = File>>(rt: &R, path: &str, reads: bool) -> io::Result<OpenChannel>
     ensures made { IfOk result (λ channel. channel.was_made ≡ true → channel.length ≡ 0) }
 {
@@ -167,8 +168,8 @@ fn is_there<R: Files>(rt: &R, path: &str) -> io::Result<bool> {
     }
 }
 
-/// Opens a channel whose path exists after all: it was created in the meantime, or is a symbolic link. If the link
-/// leads to a file that does not exist, that file is created. The channel counts as created if it is empty.
+/// Opens a channel whose path turned out to exist: it was created in the meantime, or it is a symbolic link. If the
+/// link leads to a file that does not exist, that file is created. The channel counts as created if it is empty.
 fn open_linked<R: Files<File = File>>(rt: &R, path: &str, reads: bool) -> io::Result<OpenChannel>
     ensures made { IfOk result (λ channel. channel.was_made ≡ true → channel.length ≡ 0) }
 {

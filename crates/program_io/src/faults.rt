@@ -9,7 +9,7 @@ use crate::reports::Reporter;
 use crate::statuses::DEVICE_FAULT;
 use std::io;
 
-/// The report after the program's name if memory ran out.
+/// The text after the program's name in the report that memory ran out.
 const NO_MEMORY: &str = "out of memory: nothing was written; free some memory and try again";
 
 /// Reports the line `NAME: FAULT`, and returns the exit status.
@@ -43,7 +43,7 @@ pub fn report_failure<E: Reporter>(
     report_reason(name, act, path, reason_text(error).as_str(), more, err)
 }
 
-/// Does what `report_failure` does, with the reason as a text.
+/// Does the same as `report_failure`, with the reason given as text.
 fn report_reason<E: Reporter>(
     name: &str,
     act: &str,

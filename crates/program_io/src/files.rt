@@ -10,7 +10,7 @@ use std::os::unix::fs::MetadataExt;
 use std::rt::Files;
 use std::{fs, io};
 
-/// The maximum number of reads by which a reader is read to its end.
+/// The maximum number of reads that `read_all` makes.
 pub const READS_LIMIT: u32 = 1_000_000;
 
 /// Reads all remaining bytes of a reader. If its end is not reached after 1,000,000 reads of up to 8,192 bytes, the
@@ -35,7 +35,8 @@ pub fn read_all<R: Read, A: Allocator>(alloc: A, from: &mut R) -> io::Result<Vec
 /// Returns the error `InvalidInput` for a FIFO, a device or a socket, so that none is opened: opening a FIFO would
 /// block until its other end is opened.
 ///
-/// A plain file, a directory and a path that does not exist are left to the call that opens them.
+/// A plain file, a directory and a path that does not exist are not rejected here; the call that opens the path
+/// handles them.
 pub fn refuse_special<R: Files>(rt: &R, path: &str) -> io::Result<()> {
     match fs::metadata(rt, path) {
         Ok(found) if !found.is_file() && !found.is_dir() => {

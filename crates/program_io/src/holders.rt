@@ -1,4 +1,4 @@
-//! Which process holds the lock of a file, as far as the system reports it.
+//! Finds the process that holds the lock of a file, if the system reports it.
 
 use crate::files::read_file;
 use std::alloc::Allocator;
@@ -31,7 +31,7 @@ pub fn lock_holder<R: Files, A: Allocator + Copy>(
     None
 }
 
-/// Returns the name and number of the process with this number.
+/// Returns the name of the process with this number, followed by the number.
 fn named<R: Files, A: Allocator + Copy>(rt: &R, alloc: A, number: u32) -> Option<String<A>> {
     let path = format!(in alloc; "/proc/{number}/comm").ok()?;
     match read_file(rt, alloc, path.as_str()) {

@@ -1,4 +1,4 @@
-//! Texts in memory by their paths, for tests and examples.
+//! Texts in memory, each stored under a path, for tests and examples.
 
 ghost use Rattle.std.specs.Prelude.{◌≡◌, ◌∷◌, ◌++◌, [], OnOk, OnErr};
 ghost use Rattle.program_io.specs.Known.{kept_at};
@@ -26,7 +26,7 @@ impl<A: Allocator> Model for KeptText<A> {
     ghost view = { λ k. record { path = string_bytes k.path; text = k.text.items } };
 }
 
-/// Texts in memory, each under a path. All of them are known. They are for tests: no program uses them.
+/// Texts in memory, each stored under a path. Contracts know all of them. They are for tests: no program uses them.
 #[derive(Drop)]
 pub struct KeptTexts<A: Allocator = Global> {
     texts: Vec<KeptText<A>, A>,
@@ -42,7 +42,7 @@ impl<A: Allocator> Model for KeptTexts<A> {
 }
 
 impl<A: Allocator + Copy> KeptTexts<A> {
-    /// Returns a value without texts. It allocates no memory.
+    /// Creates an empty collection. This allocates no memory.
     pub fn new(alloc: A) -> KeptTexts<A>
         ensures { result ≡ [] }
     {
@@ -51,7 +51,7 @@ impl<A: Allocator + Copy> KeptTexts<A> {
         }
     }
 
-    /// Adds a text. If two texts have the same path, the first one counts. If memory runs out, nothing changes.
+    /// Adds a text. If two texts have the same path, the first one is used. If memory runs out, nothing changes.
     pub fn keep(&mut self, path: &str, text: &[u8]) -> Result<(), AllocError>
         ensures ok { OnOk result (self.new ≡ self.old ++ kept_at path.now text.now ∷ []) }
         ensures err { OnErr result (self.new ≡ self.old) }
@@ -106,7 +106,7 @@ impl<A: Allocator> Texts for KeptTexts<A> {
         self.read(alloc, path)
     }
 
-    /// Hands the text over as one piece. If there is none, the error is `NotFound`.
+    /// Passes the text under the path to the taker as one piece. If there is none, the error is `NotFound`.
     fn read_pieces<P: PieceTaker>(&self, path: &str, taker: &mut P) -> io::Result<()>
         ensures text { OnOk result ((text : List ℕ) × (length text < 2 ^ 64)
             × (text_in self.now path.now ≡ Some text)

@@ -1,4 +1,4 @@
-//! The file size limit (RLIMIT_FSIZE, getrlimit(2)). A write beyond it ends a program by SIGXFSZ.
+//! The file size limit (RLIMIT_FSIZE, getrlimit(2)). A program that writes beyond it is killed by SIGXFSZ.
 
 ghost use Rattle.std.specs.Prelude.{◌≡◌, ◌+◌, nat_lt};
 
@@ -8,11 +8,11 @@ use std::fs::{File, Metadata};
 use std::io;
 use std::io::{Error, ErrorKind};
 
-/// The number of RLIMIT_FSIZE.
+/// The resource number of RLIMIT_FSIZE.
 const FILE_SIZE: i32 = 1;
 
-/// Returns the maximum length in bytes of a file that is written to; `None` if there is no limit or the system does not
-/// report it.
+/// Returns the maximum length in bytes that a write can give to a file; `None` if there is no limit or the system does
+/// not report it.
 pub fn file_size_limit() -> Option<u64> {
     let mut limit = rlimit {
         rlim_cur: u64::MAX,
@@ -25,7 +25,7 @@ pub fn file_size_limit() -> Option<u64> {
 }
 
 /// Returns the error `FileTooLarge` if writing this many bytes at this offset of a plain file would exceed the file
-/// size limit. So the caller gets an error, as from a full device, and not a signal.
+/// size limit. The caller then gets an error, as from a full device, instead of a signal.
 pub fn refuse_too_large(file: &File, offset: u64, count: usize) -> io::Result<()> {
     match file_size_limit() {
         Some(limit) if is_beyond(limit, offset, count) => refuse_plain(&file.metadata()?),
@@ -44,7 +44,7 @@ pub(crate) fn refuse_plain(found: &Metadata) -> io::Result<()> {
     Ok(())
 }
 
-/// Returns whether this many bytes at this offset go beyond the limit.
+/// Returns whether writing this many bytes at this offset would go beyond the limit.
 pub(crate) fn is_beyond(limit: u64, offset: u64, count: usize) -> bool
     ensures { result ≡ nat_lt limit (offset + count) }
 {

@@ -1,20 +1,20 @@
-//! Values that only proofs can read: a struct keeps the part of its past that its contracts refer to, and nothing is
-//! done for it when a program runs.
+//! Values that only proofs can read. A struct uses them to record the part of its past that its contracts refer to; a
+//! running program spends nothing on them.
 
 ghost use Rattle.std.specs.Prelude.{◌≡◌};
 ghost use base.Fml.{ftrue};
 
 use std::marker::{Model, PhantomData};
 
-/// How a value of `T` is read off one of `X`, for proofs only.
+/// A way to derive a value of type `T` from one of type `X`, for proofs only.
 pub trait Reads<X, T> {
     ghost value: { X → T };
 }
 
 /// A value that only proofs can read. It has no bytes.
 ///
-/// What the value is follows only from the contracts of the calls that make it. So it describes code that is generic
-/// over a trait and reads the value through a ghost member.
+/// The value is determined only by the contracts of the calls that create it. It describes code that is generic over a
+/// trait and reads the value through a ghost member.
 pub struct Noted<T> {
     marker: PhantomData<T>,
     pub ghost value: { T },
@@ -25,7 +25,7 @@ impl<T> Model for Noted<T> {
 }
 
 impl<T> Noted<T> {
-    /// Notes the value that `M` reads off `x`. It does nothing when a program runs.
+    /// Notes the value that `M` derives from `x`. It does nothing when a program runs.
     pub fn of<X, M: Reads<X, T>>(x: &X) -> Noted<T>
         ensures { result.value ≡ M.value x.now }
     {
@@ -43,7 +43,7 @@ impl<T> Noted<T> {
     }
 }
 
-/// Marks the note of a value that was noted before.
+/// Derives the value of an existing note.
 struct Same;
 
 impl<T> Reads<Noted<T>, T> for Same {

@@ -1,4 +1,4 @@
-//! Where the reports of a program are written.
+//! Destinations for the reports of a program.
 
 ghost use Rattle.std.specs.Prelude.{List, ℕ, [], Option, flat_map, unwrap_or};
 ghost use Rattle.program_io.specs.Reports.{AppendsReport, ReportList};
@@ -20,12 +20,12 @@ pub trait Reporter {
     /// The bytes that were written, if they are known.
     ghost written: { Self → Option (List ℕ) };
 
-    /// Writes a report, or as much of it as is accepted.
+    /// Writes a report, or as much of it as the destination accepts.
     fn report(&mut self, text: &[u8])
         ensures reported { AppendsReport (reports self.old) (reports self.new) text.now }
         ensures part { AppendsPrefix (written self.old) (written self.new) text.now };
 
-    /// Writes a report that is given in pieces.
+    /// Writes a report whose text is given in pieces.
     fn report_texts(&mut self, texts: &[&str])
         ensures reported { AppendsReport (reports self.old) (reports self.new)
             (flat_map (λ text. text.now) texts.now) }
@@ -38,7 +38,7 @@ pub trait Reporter {
             (unwrap_or (D.output text) []) };
 }
 
-/// A list of reports, newest first. It is the type of a note, and no value of it is ever created.
+/// A list of reports, newest first. It only serves as the type of a `Noted` value; no list is ever created.
 pub struct ReportList {
     marker: PhantomData<()>,
 }
@@ -51,7 +51,7 @@ impl Model for ReportList {
     ghost view = { λ _. [] };
 }
 
-/// Marks the note of no reports.
+/// Derives the empty list of reports.
 struct Empty;
 
 impl Reads<(), ReportList> for Empty {
@@ -60,7 +60,7 @@ impl Reads<(), ReportList> for Empty {
     ghost value = { λ _. [] };
 }
 
-/// Marks the note of a record with one more report.
+/// Derives a list with one more report.
 struct Whole;
 
 impl<'a> Reads<(&'a Noted<ReportList>, &'a [u8]), ReportList> for Whole {
@@ -69,7 +69,7 @@ impl<'a> Reads<(&'a Noted<ReportList>, &'a [u8]), ReportList> for Whole {
     ghost value = { λ added. added.1.now ∷ added.0.now.value };
 }
 
-/// Marks the note of a record with one more report, given in pieces.
+/// Derives a list with one more report, whose text is given in pieces.
 struct Pieces;
 
 impl<'a> Reads<(&'a Noted<ReportList>, &'a [&'a str]), ReportList> for Pieces {
@@ -78,7 +78,7 @@ impl<'a> Reads<(&'a Noted<ReportList>, &'a [&'a str]), ReportList> for Pieces {
     ghost value = { λ added. flat_map (λ text. text.now) added.1.now ∷ added.0.now.value };
 }
 
-/// Marks the note of a record with one more report, given formatted.
+/// Derives a list with one more report, whose text is given formatted.
 struct Formatted;
 
 impl<'a, D: Display> Reads<(&'a Noted<ReportList>, &'a D), ReportList> for Formatted {
@@ -103,7 +103,7 @@ impl<W: Drop> Reports<W> {
         }
     }
 
-    /// Returns the writer, with what was written to it.
+    /// Returns the writer that receives the reports.
     pub fn writer(&self) -> &W {
         &self.to
     }

@@ -15,16 +15,16 @@ const LAST_STANDARD: i32 = 2;
 
 /// The null device in place of those of standard input, output and error that were closed when the program started.
 ///
-/// It is kept open as long as the program runs; otherwise a file that the program opens would take the free descriptor,
-/// and messages would be written into that file. It is open for reading only, so that writing to it is a fault of the
-/// output.
+/// It stays open until the program exits. Otherwise, a file that the program opens would get the free descriptor, and
+/// messages would be written into that file. It is open for reading only, so that writing to it fails.
 #[derive(Drop)]
 pub struct StandardFiles {
     _files: [Option<File>; 3],
 }
 
 impl StandardFiles {
-    /// Fills the free descriptors. If there is no null device, they stay free.
+    /// Opens the null device on each of the three descriptors that is closed. If there is no null device, they stay
+    /// closed.
     pub fn hold<R: Files<File = File>>(rt: &R) -> StandardFiles {
         StandardFiles {
             _files: [filler(rt), filler(rt), filler(rt)],
@@ -32,7 +32,7 @@ impl StandardFiles {
     }
 }
 
-/// Returns the null device, if it took one of the three descriptors.
+/// Opens the null device, and returns it if it got one of the three descriptors.
 fn filler<R: Files<File = File>>(rt: &R) -> Option<File> {
     let null = File::open(rt, "/dev/null").ok()?;
     if null.as_raw_fd() <= LAST_STANDARD {
@@ -60,7 +60,7 @@ impl StandardOutput {
         }
     }
 
-    /// Returns the path that the system gives it.
+    /// Returns its path in `/dev`.
     fn path(self) -> &'static str {
         match self {
             StandardOutput::Output => "/dev/stdout",
@@ -71,7 +71,8 @@ impl StandardOutput {
     /// Returns an error if writing this many bytes would block or exceed the file size limit.
     ///
     /// The error is `WouldBlock` if nobody reads the pipe or the terminal, and `FileTooLarge` if the bytes would go
-    /// beyond the file size limit. If there is no error, a pipe has room for a page, 4,096 bytes.
+    /// beyond the file size limit. If there is no error and the output is a pipe, the pipe has room for a page of
+    /// 4,096 bytes.
     pub fn refuse_waiting<R: Files>(self, rt: &R, count: usize) -> io::Result<()> {
         let mut asked = [pollfd {
             fd: self.number(),

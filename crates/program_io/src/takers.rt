@@ -22,11 +22,11 @@ pub trait PieceTaker {
 /// The maximum length of a piece in bytes.
 pub const PIECE_LIMIT: usize = 65_536;
 
-/// The maximum number of reads by which a text is handed over: with pieces of full size, about 281 terabytes.
+/// The maximum number of reads that `hand_over` makes. With pieces of full size, they cover about 281 terabytes.
 pub const PIECES_LIMIT: u64 = 4_294_967_296;
 
-/// Hands all remaining bytes of a reader to a taker that has received none. If the end of the reader is not reached
-/// after 4,294,967,296 reads, the error is `FileTooLarge`.
+/// Passes all remaining bytes of a reader to a taker that has received nothing yet. If the end of the reader is not
+/// reached after 4,294,967,296 reads, the error is `FileTooLarge`.
 pub fn hand_over<R: Read, P: PieceTaker>(from: &mut R, to: &mut P) -> io::Result<()>
     ensures { OnOk result ((text : List ℕ) × (length text < 2 ^ 64)
         × IfSome (R.remaining from.old) (λ left. text ≡ left)

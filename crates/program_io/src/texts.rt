@@ -1,4 +1,4 @@
-//! Sources from which programs read the texts at paths.
+//! Sources of the texts that programs read by path.
 
 ghost use Rattle.std.specs.Prelude.{◌≡◌, ◌^◌, ◌<◌, [], List, ℕ, length, IfOk, IfErr, IsSome, OnOk};
 ghost use Rattle.std.specs.IoError.{error_kind};
@@ -25,14 +25,14 @@ pub trait Texts {
         ensures refused { IfErr result (λ why. IsSome (text_at self.now path.now)
             → error_kind why ≡ ErrorKind.OutOfMemory) };
 
-    /// Does the same as `read`, but for files only: `-` is the name of a file.
+    /// Does the same as `read`, but takes `-` as the name of a file, not as standard input.
     fn read_file<A: Allocator>(&self, alloc: A, path: &str) -> io::Result<Vec<u8, A>>
         ensures text { IfOk result (λ text. IsTextAt (text_at self.now) path.now text.items) }
         ensures refused { IfErr result (λ why. IsSome (text_at self.now path.now)
             → error_kind why ≡ ErrorKind.OutOfMemory) };
 
-    /// Hands the text at a path, in pieces, to a taker that has received none. If the text is known, the only error is
-    /// lack of memory.
+    /// Passes the text at a path, in pieces, to a taker that has received nothing yet. If the text is known, the only
+    /// error is lack of memory.
     fn read_pieces<P: PieceTaker>(&self, path: &str, taker: &mut P) -> io::Result<()>
         ensures text { OnOk result ((text : List ℕ) × (length text < 2 ^ 64)
             × IsTextAt (text_at self.now) path.now text
@@ -41,8 +41,8 @@ pub trait Texts {
             → error_kind why ≡ ErrorKind.OutOfMemory) };
 }
 
-/// Opens a file. A path below `/dev/` may be anything, because the system or a shell provides it; any other file has to
-/// be a plain one, because opening a FIFO would block until it has a writer.
+/// Opens a file. A path below `/dev/` may lead to any kind of file, because the system or a shell provides it; any
+/// other path must lead to a plain file, because opening a FIFO would block until it has a writer.
 fn open_file<R: Files>(rt: &R, path: &str) -> io::Result<R::File> {
     if path.starts_with("/dev/") {
         File::open(rt, path)
@@ -51,7 +51,7 @@ fn open_file<R: Files>(rt: &R, path: &str) -> io::Result<R::File> {
     }
 }
 
-/// Opens what a path names: standard input for `-`, otherwise a file.
+/// Opens standard input for the path `-`, and the file at any other path.
 fn open<R: Files>(rt: &R, path: &str) -> io::Result<R::File> {
     match path {
         "-" => File::open(rt, "/dev/stdin"),

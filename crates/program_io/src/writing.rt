@@ -7,8 +7,8 @@ ghost use Rattle.program_io.specs.Writing.{AppendsFront, AppendsPrefix};
 use std::io;
 use std::io::{ErrorKind, Write};
 
-/// Writes the whole text, by as many writes as necessary. If a write fails or accepts no byte, it returns the error,
-/// and a proper prefix of the text was written.
+/// Writes the whole text, in as many writes as necessary. If a write fails or accepts no bytes, it returns the error;
+/// by then, it has written a proper prefix of the text.
 pub fn write_text<W: Write>(out: &mut W, text: &[u8]) -> io::Result<()>
     ensures ok { OnOk result (Appends (W.contents out.old) (W.contents out.new) text.now) }
     ensures err { OnErr result (AppendsFront (W.contents out.old) (W.contents out.new) text.now) }
