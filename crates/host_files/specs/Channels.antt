@@ -1,4 +1,4 @@
--- What a channel's file answers, and at which position its requests are read (initreq.h).
+-- The answers of a channel's file, and the positions at which its requests are read (initreq.h).
 use Rattle.std.specs.Prelude.{◌≡◌, ℕ, ◌+◌, ◌-◌, ◌%◌, ◌==◌, nat_lt, Bool, true, false, ◌&&◌, ◌||◌, not, if◌then◌else◌}
 use Rattle.std.specs.Prelude.{List, [], ◌∷◌, ◌++◌, length, Option, Some, None, ⊤}
 use Rattle.std.specs.Option.{option_map_or}
@@ -18,7 +18,7 @@ abbrev pub is_another : Progress → FoundFile → Bool
 is_another progress file = option_map_or
     (λ known. progress.missing || not (known.0 == file.device && known.1 == file.number)) progress.file false
 
--- the channel was created anew: it is a different file, or shorter than what was read of it
+-- the channel was created anew: it is a different file, or shorter than the part already read
 abbrev pub is_replaced : Progress → FoundFile → Bool
 is_replaced progress file = is_another progress file || nat_lt file.length progress.heard
 
@@ -26,12 +26,12 @@ is_replaced progress file = is_another progress file || nat_lt file.length progr
 abbrev pub whole_length : ℕ → ℕ
 whole_length size = size - size % REQUEST
 
--- where the first request is read: at the first byte, or, if earlier requests are skipped, after the whole requests
--- that are there
+-- the position of the first request to read: the first byte, or, if earlier requests are skipped, the end of the whole
+-- requests that the file has
 abbrev pub first_offset : Bool → Option FoundFile → ℕ
 first_offset fresh file = if fresh then whole_length (option_map_or (λ f. f.length) file 0) else 0
 
--- the first look sets the position to where the first request is read
+-- the first look sets the position to that of the first request to read
 abbrev pub begun : Bool → Option FoundFile → Progress → Progress
 begun fresh file progress = if progress.begun then progress
     else record progress { begun = true; heard = first_offset fresh file }
@@ -57,8 +57,8 @@ progress_of fresh (found file ∷ told) = progress_after fresh file (progress_of
 progress_of fresh (read position block ∷ told) =
     let progress = progress_of fresh told in record progress { heard = progress.heard + REQUEST }
 
--- each request was read whole, at the position reached before it: where the request before it ended, unless the channel
--- was begun or created anew in between
+-- each request was read whole, at the current position: the end of the request before it, unless reading began, or the
+-- channel was created anew, in between
 abbrev pub ReadsConsecutively : Bool → List ChannelCall → Type 0
 ReadsConsecutively fresh [] = ⊤
 ReadsConsecutively fresh (found file ∷ told) = ReadsConsecutively fresh told
@@ -72,15 +72,15 @@ bytes_read (found file ∷ told) = bytes_read told
 bytes_read (read position block ∷ told) = bytes_read told ++ block
 
 -- The state of a channel:
--- - `fresh`: requests that are there before the first reading are skipped
--- - `told`: what its file answered, newest first
--- - `rest`: the bytes that were read, and not handed on yet
+-- - `fresh`: requests that the channel has before the first reading are skipped
+-- - `told`: the answers of its file, newest first
+-- - `rest`: the bytes that were read but not handed on yet
 pub record ChannelState : Type 0 where
   pub fresh : Bool
   pub told : List ChannelCall
   pub rest : List ℕ
 
--- exactly these bytes were handed on so far: those that were read, except the rest
+-- exactly these bytes were handed on so far: all bytes that were read, except the rest
 abbrev pub HandedBytes : ChannelState → List ℕ → Type 0
 HandedBytes channel handed = handed ++ channel.rest ≡ bytes_read channel.told
 

@@ -20,31 +20,31 @@ is_name_byte byte = is_ascii_alphanumeric byte || byte == 46 || byte == 95 || by
 abbrev pub ends_in_tab : List ℕ → Bool
 ends_in_tab name = ends_with (λ a b. a == b) name (codes ".tab")
 
--- the name of a part: it does not begin with a dot, has only such characters, and ends in .tab
+-- the name of a part: it does not begin with a dot, has only letters, digits and . _ -, and ends in .tab
 abbrev pub is_part_name : List ℕ → Bool
 is_part_name name = not (is_hidden name) && list_all is_name_byte name && ends_in_tab name
 
--- the path is that of the folder, or of a name in it
+-- the path is the folder, or a name in the folder
 abbrev pub IsWithin : List ℕ → List ℕ → Type 0
 IsWithin folder path = (path ≡ folder) ⊎ ((name : List ℕ) × (path ≡ folder ++ (codes "/" ++ name)))
 
--- memory ran out, or the folder, or a file in it, was not read
+-- memory ran out, or the folder or a file in it could not be read
 abbrev pub IsFaultIn : {A : Type 0} → List ℕ → FolderFault A → Type 0
 IsFaultIn folder (fault.Unread path error) = IsWithin folder (string_bytes path)
 IsFaultIn folder fault.Memory = ⊤
 
--- memory ran out, or there is a folder, and it, or a file in it, was not read
+-- memory ran out, or there is a folder and it, or a file in it, could not be read
 abbrev pub IsFolderFault : {A : Type 0} → Option (List ℕ) → FolderFault A → Type 0
 IsFolderFault folder (fault.Unread path error) =
     (at : List ℕ) × (folder ≡ Some at) × IsWithin at (string_bytes path)
 IsFolderFault folder fault.Memory = ⊤
 
--- the text that was read of a file, if it could be read
+-- the text of a file, if it could be read
 abbrev pub text_of : {A E : Type 0} → Result (Vec ℕ A) E → Option (List ℕ)
 text_of (Ok text) = Some text.items
 text_of (Err why) = None
 
--- the first part is the file at the path, with the text that was read of it; false if it could not be read
+-- the first part is the file at the path, with this text; false if the file could not be read
 abbrev pub IsOwnFirst : List ℕ → Option (List ℕ) → List NamedText → Type 0
 IsOwnFirst path None parts = ⊥
 IsOwnFirst path (Some text) parts =

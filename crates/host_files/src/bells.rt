@@ -1,4 +1,5 @@
-//! The bell of a channel: a FIFO beside it. A program that appends a request can ring it, so that a pause ends at once.
+//! The bell of a channel: a FIFO next to it. A program that appends a request can ring the bell by writing a byte to
+//! it, so that init's pause ends at once.
 
 use crate::boxes::boxed;
 use host_lines::{Doing, HostLine, MessageSink, Power, Trouble};
@@ -16,16 +17,16 @@ use std::{fs, io};
 /// The microseconds in a millisecond, the unit of poll(2).
 const MILLISECOND: u64 = 1_000;
 
-/// No descriptor, which poll(2) ignores.
+/// A value in place of a descriptor, which poll(2) ignores.
 const NONE: RawFd = -1;
 
-/// How many rings are read at once.
+/// The maximum number of rings that one read removes.
 const RINGS: usize = 512;
 
 /// The bell of a channel.
 #[derive(Drop)]
 pub(crate) struct Bell<A: Allocator> {
-    /// Empty if there is no channel; then nothing is looked for.
+    /// The path of the bell. It is empty if there is no channel; then the bell is not looked for.
     path: String<A>,
     open: Option<File>,
     /// The device and the inode number of the FIFO that is open.
@@ -58,11 +59,11 @@ impl<A: Allocator + Copy> Bell<A> {
         }
     }
 
-    /// Waits for this many microseconds, or until the bell is rung or the other descriptor is ready, and returns whether
-    /// that is ready.
+    /// Waits for this many microseconds, or until the bell is rung or the other descriptor is ready, and returns
+    /// whether that descriptor is ready.
     ///
-    /// It does not wait, and returns `None`, if there is no bell, or if the time is shorter than a millisecond. If the
-    /// bell cannot be listened to, that is reported once.
+    /// It does not wait, and returns `None`, if there is no bell, or if the time is shorter than a millisecond. If
+    /// listening to the bell fails, that is reported once.
     pub(crate) fn wait<R: Files<File = File> + MessageSink>(
         &mut self,
         rt: &R,
@@ -160,7 +161,7 @@ fn ready(first: RawFd, second: RawFd, limit: i32) -> io::Result<(bool, bool)> {
     Ok((waited[0].revents != 0, waited[1].revents != 0))
 }
 
-/// Returns the question to poll(2) whether a descriptor can be read.
+/// Returns the argument for poll(2) that asks whether a descriptor can be read.
 fn polled(fd: RawFd) -> pollfd {
     pollfd {
         fd,

@@ -1,6 +1,6 @@
-//! Values on the heap, which are one word to their owners.
+//! Moves values to the heap, so that they are one word to their owners.
 //!
-//! A function that has a channel or a bell in its own stack frame costs the prover minutes, so such values are created
+//! The prover needs minutes for a function that has a channel or a bell in its stack frame, so such values are created
 //! here.
 
 ghost use Rattle.std.specs.Prelude.{◌≡◌, IfOk};

@@ -1,4 +1,4 @@
-//! The file of a request channel, as it is found at its path and read.
+//! Finds the file of a request channel at its path, and reads it.
 
 ghost use Rattle.std.specs.Prelude.{◌≡◌, ◌∷◌, [], List, length, IfOk, OnErr, OnOk};
 ghost use Rattle.program_io.specs.declared.channel_files.TheConstants.{REQUEST};
@@ -41,13 +41,13 @@ impl FoundFile {
 
 /// The file at the path of a channel.
 ///
-/// A contract sees what was found at the path, and what was read of the file. Code that knows the channel only through
-/// this trait has no other way to read its requests.
+/// A contract sees what was found at the path, and what was read from the file. Code that knows the channel only
+/// through this trait has no other way to read its requests.
 pub trait ChannelFile {
-    /// What it answered, newest first.
+    /// The answers of its calls, newest first.
     ghost told: { Self → List ChannelCall };
 
-    /// Returns a file that was not looked at yet.
+    /// Returns a value for which no file was looked up yet.
     fn unread() -> Self
         ensures { told result ≡ [] };
 
@@ -55,12 +55,12 @@ pub trait ChannelFile {
     fn calls(&self) -> Noted<ChannelCallList>
         ensures { result.value ≡ told self.now };
 
-    /// Starts to hold the lock of each file that is found, beginning with the file of this lock.
+    /// Makes this value hold the lock of each file that it finds from now on, beginning with this lock.
     fn hold(&mut self, lock: ChannelLock)
         ensures { told self.new ≡ told self.old };
 
-    /// Returns the plain file at the path; `None` if there is nothing. If a lock is held, the lock of the file is
-    /// taken; if another initd holds that, it is an error.
+    /// Returns the plain file at the path; `None` if there is nothing. If a lock is held, this takes the lock of the
+    /// file that is found; if another initd holds that lock, it is an error.
     fn find<R: Files<File = File>>(&mut self, rt: &R, path: &str) -> io::Result<Option<FoundFile>>
         // what was found is recorded
         ensures ok { IfOk result (λ file. told self.new ≡ found file ∷ told self.old) }
@@ -84,8 +84,8 @@ pub trait ChannelFile {
         ensures err { OnErr result (told self.new ≡ told self.old) };
 }
 
-/// A list of what a channel's file answered, newest first. It is the type of a note, and no value of it is ever
-/// created.
+/// A list of the answers of a channel's file, newest first. It only serves as the type of a `Noted` value; no list is
+/// ever created.
 pub struct ChannelCallList {
     marker: PhantomData<()>,
 }
@@ -99,7 +99,7 @@ impl Model for ChannelCallList {
     ghost view = { λ _. [] };
 }
 
-/// Marks the note of no answers.
+/// Derives the empty list of answers.
 struct Empty;
 
 impl Reads<(), ChannelCallList> for Empty {
@@ -115,7 +115,7 @@ pub fn nothing_read() -> Noted<ChannelCallList>
     Noted::of::<(), Empty>(&())
 }
 
-/// Marks what was found at the path.
+/// Derives a list with one more answer: the file that was found at the path.
 struct Found;
 
 impl<'a> Reads<(&'a Noted<ChannelCallList>, &'a Option<FoundFile>), ChannelCallList> for Found {
@@ -125,7 +125,7 @@ impl<'a> Reads<(&'a Noted<ChannelCallList>, &'a Option<FoundFile>), ChannelCallL
     ghost value = { λ said. found said.1.now ∷ said.0.now.value };
 }
 
-/// Marks a request that was read at a position.
+/// Derives a list with one more answer: a request that was read at a position.
 struct ReadAt;
 
 impl<'a> Reads<(&'a Noted<ChannelCallList>, u64, &'a [u8; REQUEST]), ChannelCallList> for ReadAt {
@@ -144,7 +144,7 @@ pub struct OsChannelFile {
 }
 
 impl OsChannelFile {
-    /// Takes the lock of the file that was found, if the lock that is held is that of another file.
+    /// Takes the lock of the file that was found, if the held lock is on a different file.
     fn lock_found<R: Files<File = File>>(
         &mut self,
         rt: &R,

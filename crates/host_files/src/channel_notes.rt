@@ -1,4 +1,4 @@
-//! What is remembered about a channel in order to report what is wrong with it.
+//! Records the observations of a channel that are needed to report what is wrong with it.
 
 use crate::channel_files::FoundFile;
 use crate::channel_progress::Progress;
@@ -10,38 +10,40 @@ use std::io;
 use std::rt::Clock;
 use std::time::{Duration, Instant};
 
-/// After how many microseconds a write that was begun counts as finished. It is also the time between two looks at the
+/// The number of microseconds after which a write counts as finished. It is also the time between two looks at the
 /// channel during a pause.
 pub(crate) const LOOK: u64 = 40_000;
 
-/// After how many microseconds without another byte a request that was begun counts as torn.
+/// The number of microseconds without another byte after which an incomplete request counts as torn.
 const TORN: u64 = 3_000_000;
 
-/// How many ignored requests are reported one by one.
+/// The number of ignored requests that are reported individually.
 const TOLD_LIMIT: u32 = 10;
 
-/// What is remembered about a channel.
+/// The observations of a channel.
 #[derive(Drop)]
 pub(crate) struct ChannelNotes {
     /// The user that owns it.
     owner: Option<u32>,
-    /// Its length, and when it was last written to, in seconds and nanoseconds, when it was found read to this end.
+    /// Its length and the time of its last write, in seconds and nanoseconds, when it was last seen to be read to its
+    /// end.
     end: Option<(u64, i64, i64)>,
     /// When its length was last found to have changed.
     resized: Option<Instant>,
-    /// Since when each look has found it written to after it was read to its end, with its length unchanged.
+    /// The time since which every look has found that it was written to after it was read to its end, with its length
+    /// unchanged.
     changed: Option<Instant>,
     hearing: Trouble,
-    /// How many requests that init ignores were reported.
+    /// The number of ignored requests that were reported.
     passed_over: u32,
-    /// Its length when it was last read to an end that is not that of a request, and since when.
+    /// Its length when it was last read to an end within a request, and the time since which it has had this length.
     torn: u64,
     torn_since: Option<Instant>,
     told_torn: bool,
 }
 
 impl ChannelNotes {
-    /// Returns a value with nothing remembered.
+    /// Creates a value without observations.
     pub fn new() -> ChannelNotes {
         ChannelNotes {
             owner: None,
@@ -61,7 +63,7 @@ impl ChannelNotes {
         self.hearing.tell(rt, path, taken);
     }
 
-    /// Reports that the channel has bytes before its first reading, if it has.
+    /// Reports the bytes that the channel has before its first reading, if there are any.
     pub fn tell_first(rt: &impl MessageSink, path: &str, found: Option<FoundFile>, fresh: bool) {
         match found {
             Some(found) if found.length > 0 => rt.tell(&HostLine::Old {
@@ -73,7 +75,7 @@ impl ChannelNotes {
         }
     }
 
-    /// Forgets an incomplete request at the end if the position of reading has changed.
+    /// Forgets an incomplete request at the end if the reading position has changed.
     pub fn note_progress(&mut self, before: &Progress, now: &Progress) {
         if before.heard != now.heard {
             self.torn = 0;
@@ -106,7 +108,7 @@ impl ChannelNotes {
         }
     }
 
-    /// Remembers a channel that was read to its end, and reports what is wrong with that end.
+    /// Records that the channel was read to its end, and reports what is wrong with that end.
     pub fn note_end<R: Clock + MessageSink>(&mut self, rt: &R, path: &str, found: &FoundFile) {
         self.note_written(rt, path, found);
         self.note_torn(rt, path, found.length);
@@ -136,8 +138,8 @@ impl ChannelNotes {
         self.end = Some(end);
     }
 
-    /// Reports, once until it is over, that the channel ends within a request, if nothing was added for some time,
-    /// because a writer may be in the middle of it; and reports when that is over.
+    /// Reports once that the channel ends within a request, and reports when that is over. It first waits until
+    /// nothing was added for some time, because a writer may still be writing the request.
     fn note_torn(&mut self, rt: &(impl Clock + MessageSink), path: &str, length: u64) {
         let over = length % REQUEST as u64;
         if over == 0 {
@@ -184,7 +186,7 @@ impl ChannelNotes {
     }
 }
 
-/// Returns whether at least this many microseconds have passed since then; `true` if there is no such moment.
+/// Returns whether at least this many microseconds have passed since this time; `true` if no time is given.
 fn is_past(rt: &impl Clock, since: Option<Instant>, length: u64) -> bool {
     let Some(since) = since else {
         return true;

@@ -12,7 +12,7 @@ use program_io::REQUEST;
 pub(crate) struct Progress {
     /// Whether the channel was looked at.
     pub begun: bool,
-    /// How many of its bytes were read or skipped; they are those of whole requests.
+    /// The number of its bytes that were read or skipped, always a whole number of requests.
     pub heard: u64,
     /// Whether there was no file at the path at the last look.
     pub missing: bool,
@@ -33,8 +33,8 @@ impl Progress {
         }
     }
 
-    /// Returns the position after a look that found this file at the path, or none. With `fresh`, the first reading
-    /// begins after the whole requests that are there at the first look.
+    /// Returns the position after a look that found this file at the path, or none. With `fresh`, reading begins after
+    /// the whole requests that the channel has at the first look.
     pub fn after(self, fresh: bool, found: Option<FoundFile>) -> Progress
         ensures { result ≡ progress_after fresh found self }
     {
@@ -103,8 +103,8 @@ impl Progress {
     }
 }
 
-/// Returns where the first request is read: at the first byte, or, if earlier requests are skipped, after the whole
-/// requests that are there.
+/// Returns the position of the first request to read: the first byte, or, if earlier requests are skipped, the end of
+/// the whole requests that the file has.
 fn first_offset(fresh: bool, found: Option<FoundFile>) -> u64
     ensures { result ≡ first_offset fresh found }
 {

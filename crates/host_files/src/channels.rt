@@ -1,7 +1,7 @@
-//! The request channel: which bytes of its file are read, and which are handed on.
+//! Reads the request channel, and hands its bytes on.
 //!
-//! The clauses say which bytes of the file are handed on. The messages about the file are tested by
-//! `tools/pages.d/channel` and `edges`, over real files, and by `test_turns`. Their words are in `host_messages`.
+//! The contracts state which bytes of the file are handed on. `tools/pages.d/channel` and `edges`, which use real
+//! files, and `test_turns` test the messages about the file. The wording of the messages is in `host_messages`.
 
 ghost use Rattle.std.specs.Prelude.{◌≡◌, ◌≤◌, [], length, take, IfOk, OnErr};
 ghost use Rattle.host_files.specs.Channels.{HandsOverNothing, HandsOn, ReadsConsecutively, bytes_read};
@@ -26,11 +26,11 @@ use std::{io, thread};
 #[derive(Drop)]
 pub struct Channel<F: ChannelFile + Drop, A: Allocator> {
     path: String<A>,
-    /// Whether requests that are there before the first reading are skipped.
+    /// Whether requests that the channel has before the first reading are skipped.
     fresh: bool,
     file: F,
     progress: Progress,
-    /// The request that was read last, and how many of its bytes were handed on.
+    /// The request that was read last, and the number of its bytes that were handed on.
     request: [u8; REQUEST],
     handed: usize,
     notes: ChannelNotes,
@@ -54,8 +54,8 @@ impl<F: ChannelFile + Drop, A: Allocator> Model for Channel<F, A> {
 }
 
 impl<F: ChannelFile + Drop, A: Allocator + Copy> Channel<F, A> {
-    /// Returns the channel at this path, of which nothing was read. With `fresh`, the first reading begins after the
-    /// whole requests that are there then.
+    /// Returns the channel at this path, before anything is read. With `fresh`, reading begins after the whole
+    /// requests that the channel has at the first look.
     pub fn new(alloc: A, path: &str, fresh: bool) -> Result<Box<Channel<F, A>, A>, AllocError>
         ensures { IfOk result (λ made.
             made.value ≡ record { fresh = fresh; told = []; rest = [] }) }
@@ -79,8 +79,9 @@ impl<F: ChannelFile + Drop, A: Allocator + Copy> Channel<F, A> {
         self.bell.missing_path(rt)
     }
 
-    /// Sleeps for this many microseconds, or until the bell is rung or the other descriptor is ready, and returns whether
-    /// that is ready. If there is no bell, it looks at the channel meanwhile, and returns when the channel has news.
+    /// Sleeps for this many microseconds, or until the bell is rung or the other descriptor is ready, and returns
+    /// whether that descriptor is ready. If there is no bell, it looks at the channel meanwhile, and returns when
+    /// `has_news` is true.
     pub fn rest<R: Files<File = File> + Clock + MessageSink>(
         &mut self,
         rt: &R,
@@ -103,7 +104,7 @@ impl<F: ChannelFile + Drop, A: Allocator + Copy> Channel<F, A> {
         nap(rt, length % LOOK, other)
     }
 
-    /// Starts to hold the lock of the file at the channel's path, and of each other file that appears there.
+    /// Makes the channel hold this lock of its file, and the lock of each other file that appears at its path.
     pub fn hold(&mut self, lock: ChannelLock)
         ensures { self.new ≡ self.old }
     {
@@ -115,7 +116,7 @@ impl<F: ChannelFile + Drop, A: Allocator + Copy> Channel<F, A> {
         self.path.as_str()
     }
 
-    /// Returns the record of what its file answered.
+    /// Returns the record of the answers of its file.
     pub fn told(&self) -> Noted<ChannelCallList>
         ensures value { result.value ≡ self.now.told }
         ensures read_on { ReadsConsecutively self.now.fresh self.now.told }
@@ -123,7 +124,7 @@ impl<F: ChannelFile + Drop, A: Allocator + Copy> Channel<F, A> {
         self.file.calls()
     }
 
-    /// Returns whether the channel has a request that was not read, or is shorter than what was read.
+    /// Returns whether the channel has a request that was not read, or is shorter than the part already read.
     ///
     /// If the lock of the file is held, and the file was at its path when it was last read, only its length is checked:
     /// a different file at the path is noticed at the next reading.
@@ -145,9 +146,9 @@ impl<F: ChannelFile + Drop, A: Allocator + Copy> Channel<F, A> {
     ///
     /// - Only whole requests are read, so that no part of a torn one is left if the channel is created anew.
     /// - A channel that does not exist has no bytes.
-    /// - If a different file is at the path, or the file is shorter than what was read, the channel was created anew,
-    ///   and is read from its first byte on. If a lock is held, the lock of that file is taken first; if another initd
-    ///   holds it, that is an error.
+    /// - If a different file is at the path, or the file is shorter than the part already read, the channel was
+    ///   created anew, and is read from its first byte on. If a lock is held, the lock of that file is taken first; if
+    ///   another initd holds it, that is an error.
     /// - Anything but a plain file is not opened, because opening a FIFO would block until it has a writer.
     pub fn take_bytes<R: Files<File = File> + Clock + MessageSink>(
         &mut self,
@@ -157,7 +158,7 @@ impl<F: ChannelFile + Drop, A: Allocator + Copy> Channel<F, A> {
         // the buffer has room for these bytes
         ensures within { IfOk result (λ count. count ≤ length buffer.old) }
         ensures fresh { self.new.fresh ≡ self.old.fresh }
-        // they are the next bytes that were read of the file, after all those handed on before
+        // they are the next bytes that were read from the file, after all those handed on before
         ensures handed { IfOk result (λ count.
             HandsOn self.old self.new (take count buffer.new)) }
         // if there is an error, no byte is handed on, and none is lost

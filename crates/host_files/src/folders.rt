@@ -59,8 +59,8 @@ pub fn is_hidden(name: &[u8]) -> bool
     }
 }
 
-/// Returns whether the name is that of a part of an inittab: it has only the characters A-Z a-z 0-9 . _ -, ends in
-/// `.tab` and does not begin with a dot.
+/// Returns whether a file with this name is a part of an inittab: the name has only the characters A-Z a-z 0-9 . _ -,
+/// ends in `.tab` and does not begin with a dot.
 fn is_part_name(name: &[u8]) -> bool
     ensures { result ≡ is_part_name name.now }
 {
@@ -101,7 +101,7 @@ pub trait SkippedFileListener<R> {
     fn hear(&mut self, rt: &R, folder: &str, name: &[u8]);
 }
 
-/// Reports no ignored files.
+/// A listener that reports no ignored files.
 #[derive(Clone, Copy)]
 pub struct IgnoringListener;
 
@@ -109,7 +109,7 @@ impl<R> SkippedFileListener<R> for IgnoringListener {
     fn hear(&mut self, _rt: &R, _folder: &str, _name: &[u8]) {}
 }
 
-/// The names of ignored files in an inittab's folder. Each is reported once on standard error, if that is asked for.
+/// The names of ignored files in an inittab's folder. Each is reported once on standard error, if reports are enabled.
 #[derive(Drop)]
 pub(crate) struct SkippedNames<A: Allocator> {
     alloc: A,
@@ -118,8 +118,8 @@ pub(crate) struct SkippedNames<A: Allocator> {
 }
 
 impl<A: Allocator + Copy> SkippedNames<A> {
-    /// Returns a value for which no name was reported; `is_asked` says whether names are to be reported. It allocates
-    /// no memory.
+    /// Creates a value for which no name was reported. Reports are enabled if `is_asked` is set. This allocates no
+    /// memory.
     pub(crate) fn new(alloc: A, is_asked: bool) -> SkippedNames<A> {
         SkippedNames {
             alloc,
@@ -128,7 +128,7 @@ impl<A: Allocator + Copy> SkippedNames<A> {
         }
     }
 
-    /// Starts to report names, except those that are in the folder now.
+    /// Enables reports, except of the names that are in the folder now.
     pub(crate) fn tell_further<R: Files>(&mut self, rt: &R, folder: &str) {
         self.is_asked = true;
         let Ok(list) = listed(rt, self.alloc, folder) else {
@@ -139,8 +139,7 @@ impl<A: Allocator + Copy> SkippedNames<A> {
         }
     }
 
-    /// Notes the name as reported, and returns whether it was not noted before; also `true` if there is no memory to
-    /// keep it.
+    /// Notes the name as reported. Returns `true` if it was not noted before, or if there is no memory to note it.
     fn note(&mut self, name: &[u8]) -> bool {
         let Ok(name) = Vec::from_slice(self.alloc, name) else {
             return true;
@@ -150,7 +149,7 @@ impl<A: Allocator + Copy> SkippedNames<A> {
 }
 
 impl<R: MessageSink, A: Allocator + Copy> SkippedFileListener<R> for SkippedNames<A> {
-    /// Reports a name, if it is not empty, reports are asked for, and it was not reported before.
+    /// Reports a name, if it is not empty, reports are enabled, and it was not reported before.
     fn hear(&mut self, rt: &R, folder: &str, name: &[u8]) {
         if self.is_asked && !name.is_empty() && self.note(name) {
             rt.tell(&HostLine::PassedFile { folder, name });
@@ -198,7 +197,7 @@ fn names_in<R: Files, A: Allocator + Copy, P: SkippedFileListener<R>>(
     Ok(names)
 }
 
-/// Reads the parts of an inittab: its own file, followed by the files of a folder, if there is one, in the order of
+/// Reads the parts of an inittab: its main file, followed by the files of a folder, if there is one, in the order of
 /// their names.
 ///
 /// A file of the folder is a part if its name ends in `.tab`, does not begin with a dot, and has only the characters

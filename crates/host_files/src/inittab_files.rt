@@ -34,7 +34,7 @@ impl<A: Allocator> Model for InittabFiles<A> {
 }
 
 impl<A: Allocator + Copy> InittabFiles<A> {
-    /// Returns the inittab with its own file at this path, and its further files in this folder.
+    /// Returns the inittab with its main file at this path, and its further files in this folder.
     pub fn new(
         alloc: A,
         path: &str,
@@ -56,14 +56,14 @@ impl<A: Allocator + Copy> InittabFiles<A> {
         boxed(alloc, files)
     }
 
-    /// Returns the path of the inittab's own file.
+    /// Returns the path of the inittab's main file.
     pub fn path(&self) -> &str
         ensures { result.now ≡ self.now }
     {
         self.path.as_str()
     }
 
-    /// Starts to report ignored files that appear in the folder.
+    /// Enables reports of ignored files that appear in the folder from now on.
     pub fn tell_all<R: Files>(&mut self, rt: &R)
         ensures { self.new ≡ self.old }
     {
@@ -72,8 +72,8 @@ impl<A: Allocator + Copy> InittabFiles<A> {
         }
     }
 
-    /// Returns the parts of the inittab: its own file, of which this was read, and those of its folder, if it has one,
-    /// which are read anew.
+    /// Returns the parts of the inittab: its main file, with this text or read error, and the files of its folder, if
+    /// it has one, which are read now.
     pub fn read<R: Files + MessageSink, B: Allocator + Copy>(
         &mut self,
         rt: &R,
@@ -100,7 +100,7 @@ impl<A: Allocator + Copy> InittabFiles<A> {
         }
     }
 
-    /// Reports why the parts have no table.
+    /// Reports why no table could be read from the parts.
     pub fn tell_no_table(&mut self, rt: &impl MessageSink, fault: TableFault)
         ensures { self.new ≡ self.old }
     {

@@ -1,4 +1,4 @@
-//! The state file, which has the text of init's state, as a host writes it and reads it back.
+//! Writes the state file, which contains the text of init's state, and reads it back.
 
 use crate::boxes::boxed;
 use host_lines::{Doing, MessageSink, Trouble};
@@ -10,7 +10,7 @@ use std::os::unix::fs::OpenOptionsExt;
 use std::rt::Files;
 use std::{fs, io};
 
-/// The mode of a new file: only its owner and its group can read it, because it has the commands of entries.
+/// The mode of a new file: only its owner and its group can read it, because it contains the commands of entries.
 const MODE: u32 = 0o640;
 
 /// The state file.
@@ -19,13 +19,13 @@ pub struct StateFile<A: Allocator> {
     path: String<A>,
     /// The path that a text is written to first.
     beside: String<A>,
-    /// The path of a further file that the state does not replace.
+    /// The path of a further file that the state must not replace.
     spared: String<A>,
     carrying: Trouble,
 }
 
 impl<A: Allocator + Copy> StateFile<A> {
-    /// Returns the state file at this path. The state does not replace the file at `spared`.
+    /// Returns the state file at this path. The state must not replace the file at `spared`.
     pub fn new(alloc: A, path: &str, spared: &str) -> Result<Box<StateFile<A>, A>, AllocError> {
         let state = StateFile {
             path: String::from_str(alloc, path)?,
@@ -36,9 +36,9 @@ impl<A: Allocator + Copy> StateFile<A> {
         boxed(alloc, state)
     }
 
-    /// Returns an error, and reports it, if the state could not be written as things are: at its path, or at the path
-    /// that it is written to first, there is something other than a plain file, or another file of the run, such as the
-    /// inittab or the channel.
+    /// Returns an error, and reports it, if the state could not be written now: its path, or the path that it is
+    /// written to first, has something other than a plain file, or another file of the run, such as the inittab or the
+    /// channel.
     pub fn tell_blocked<R: Files + MessageSink>(
         &mut self,
         rt: &R,

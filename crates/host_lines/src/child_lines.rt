@@ -1,4 +1,4 @@
-//! What a host reports about a child.
+//! The messages of a host about a child.
 
 use crate::costs::ChildLine;
 use init_words::{ChildNumber, SignalKind};
@@ -18,7 +18,7 @@ pub enum ChildEnd {
 /// What a child did, what was sent to it, or what went wrong with it.
 #[derive(Clone, Copy)]
 pub enum ChildMessage<'a> {
-    /// It was started. `start` counts the starts of its id from 1; it is `None` if that is not known.
+    /// It was started. `start` counts the starts of its id from 1; it is `None` if the count is not known.
     Started {
         number: ChildNumber,
         start: Option<u64>,
@@ -27,7 +27,7 @@ pub enum ChildMessage<'a> {
     Delayed(u16),
     Ended(ChildEnd),
     Sent(SignalKind),
-    /// It was to execute this program, and could not be started.
+    /// The child, which was to execute this program, could not be started.
     NotBorn {
         program: &'a [u8],
         error: &'a Error,
@@ -39,14 +39,14 @@ pub enum ChildMessage<'a> {
     },
     /// It can be waited for again.
     Waited(ChildNumber),
-    /// It cannot be sent KILL, and is waited for until it ends by itself.
+    /// KILL cannot be sent to it, so init waits until it ends without a signal.
     Unkilled {
         number: ChildNumber,
         error: &'a Error,
     },
     /// How the last child of an id that is started too often ended.
     LastEnd(ChildEnd),
-    /// It is stopped because the inittab that was read again has this line for it.
+    /// It is stopped because of its line in the inittab that was read again.
     Stopped {
         number: ChildNumber,
         line: ChildLine,

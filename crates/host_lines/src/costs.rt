@@ -5,21 +5,21 @@ ghost use Rattle.host_lines.specs.Costs.{stops_child, line_of};
 
 use init_words::{Act, Entry, Stage, lives};
 
-/// What an inittab that was read again has for a child, in the stage in which it was read.
+/// The effect on a child of an inittab that was read again, in the stage in which it was read.
 #[derive(Clone, Copy, PartialEq)]
 pub enum ChildLine {
     /// The table has no line with its id.
     Gone,
     /// Its line has the action `off`.
     Off,
-    /// Its line may run in the stage, so the child is stopped only if the line has another action now.
+    /// Its line may run in the stage, so the child is stopped only if the action of the line has changed.
     ActionChanged,
     /// Its line may not run in the stage.
     NotInLevel,
 }
 
 impl ChildLine {
-    /// Returns what a table has for a child, given the entry of its id, if there is one.
+    /// Returns the effect of a table on a child, given the table's entry with the child's id, if there is one.
     pub fn of(entry: Option<&Entry>, stage: Stage) -> ChildLine
         ensures { result ≡ line_of (option_copied entry.entry) stage }
     {

@@ -1,6 +1,6 @@
-//! The lines that a host reports, as values: which line it is, and its parameters. The wording is not part of this
-//! crate. The host is given whoever words and prints the lines from above (`host_messages`), so no host has to be
-//! proved again when the wording changes.
+//! The lines that a host reports, as values: the kind of each line, and its parameters. The wording is not part of
+//! this crate: the caller passes a reporter to the host, which words and prints the lines (`host_messages`). So no
+//! host has to be proved again when the wording changes.
 #![tactic(auto)]
 
 mod child_lines;

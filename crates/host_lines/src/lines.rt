@@ -5,7 +5,7 @@ use init_words::Id;
 use initctl_frame::Cause;
 use std::io::Error;
 
-/// An operation that may fail, and then work again.
+/// An operation that may fail and later work again.
 #[derive(Clone, Copy, PartialEq)]
 pub enum Doing {
     /// Listening to a bell.
@@ -22,19 +22,19 @@ pub enum Doing {
     Watch,
 }
 
-/// What a user who can write to a file can make init do.
+/// What a user can make init do by writing to a file.
 #[derive(Clone, Copy)]
 pub enum Power {
     /// Go to another level, by a request in the channel.
     Ask,
-    /// End its pause, by the bell.
+    /// End its pause, by ringing the bell.
     Wake,
 }
 
 /// A line that a host reports, without the name of the program in front.
 #[derive(Clone, Copy)]
 pub enum HostLine<'a> {
-    /// This operation failed on the thing of this name, for this reason.
+    /// This operation failed on the file or other object of this name, for this reason.
     Fails {
         doing: Doing,
         what: &'a str,
@@ -68,7 +68,7 @@ pub enum HostLine<'a> {
         id: Id,
         log: &'a str,
     },
-    /// There is no bell.
+    /// The bell at this path could not be created.
     NoBell {
         path: &'a str,
         error: &'a Error,
@@ -79,7 +79,7 @@ pub enum HostLine<'a> {
         length: u64,
         fresh: bool,
     },
-    /// The channel is another file than before, or shorter than what was read of it.
+    /// The channel is a different file than before, or shorter than the part already read.
     MadeAnew {
         path: &'a str,
     },
@@ -109,7 +109,7 @@ pub enum HostLine<'a> {
         number: u64,
         cause: Cause,
     },
-    /// Further requests are ignored, which is not reported any more.
+    /// Further ignored requests will not be reported.
     MorePassedOver {
         path: &'a str,
     },
@@ -126,12 +126,12 @@ pub enum HostLine<'a> {
     TooMany {
         path: &'a str,
     },
-    /// The inittab has faulty lines, and is rejected for that.
+    /// The inittab is rejected because it has faulty lines.
     Refused {
         path: &'a str,
     },
-    /// The text of init's state came back cut, with this length in bytes.
+    /// The text of init's state was truncated when it was read back, to this length in bytes.
     HandedCut(u64),
-    /// The text of init's state that came back is that of this other generation.
+    /// The text of init's state that was read back belongs to this other generation.
     HandedOlder(u64),
 }

@@ -13,7 +13,7 @@ use std::rt::{Clock, Files};
 use std::time::Duration;
 use trace_events::HappeningIn;
 
-/// The files and the clock of a runtime, combined with something that reports and prints.
+/// The files and the clock of a runtime, combined with a reporter, which words and prints lines.
 #[derive(Drop)]
 pub struct TellingRuntime<R, T> {
     rt: R,
@@ -21,7 +21,7 @@ pub struct TellingRuntime<R, T> {
 }
 
 impl<R, T> TellingRuntime<R, T> {
-    /// Combines the two.
+    /// Combines a runtime with a reporter.
     pub fn new(rt: R, teller: T) -> TellingRuntime<R, T> {
         TellingRuntime { rt, teller }
     }

@@ -1,4 +1,4 @@
-//! The trait of what reports the lines of a host.
+//! The trait of reporters, which word and print the lines of a host.
 
 use crate::lines::HostLine;
 use init_words::Part;
@@ -7,13 +7,13 @@ use std::alloc::Allocator;
 use std::io;
 use trace_events::HappeningIn;
 
-/// A reporter, which words and prints what a host reports.
+/// A reporter, which words and prints the lines of a host.
 pub trait MessageSink {
     /// Reports a line on standard error.
     fn tell(&self, line: &HostLine<'_>);
 
-    /// Prints on standard output, at once, what init announces of a happening, if anything. Returns the length in
-    /// bytes.
+    /// Prints init's announcement of a happening, if it has one, on standard output without delay. Returns the length
+    /// of the announcement in bytes.
     fn announce<A: Allocator, B: Allocator>(
         &self,
         alloc: A,

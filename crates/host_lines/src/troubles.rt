@@ -1,4 +1,4 @@
-//! Faults that are reported once, until they are over or change.
+//! Reports each fault once, until it is over or changes.
 
 use crate::lines::{Doing, HostLine};
 use crate::tellers::MessageSink;
@@ -6,7 +6,7 @@ use std::hash::{FoldHasher, Hasher};
 use std::io;
 use std::io::{Error, ErrorKind};
 
-/// The fault of an operation that was reported and is not over.
+/// An operation, and the fault reported for it that is not over yet.
 #[derive(Drop)]
 pub struct Trouble {
     /// The operation.
@@ -14,10 +14,10 @@ pub struct Trouble {
     told: Option<Fault>,
 }
 
-/// A fault, by the properties in which it can differ from another one: what it concerns, and why.
+/// The properties that distinguish one fault from another: the object that it concerns, and the kind of error.
 #[derive(Clone, Copy, PartialEq)]
 struct Fault {
-    /// The hash of the name of what it concerns, which may be a long path.
+    /// The hash of the object's name, which may be a long path.
     what: u64,
     kind: ErrorKind,
     code: Option<i32>,
@@ -41,8 +41,8 @@ impl Trouble {
         Trouble { doing, told: None }
     }
 
-    /// Reports that the operation failed, unless the same fault was reported last, and that it works again, if a fault
-    /// was.
+    /// Reports that the operation failed, unless the same fault was reported last; or that it works again, if a fault
+    /// was reported.
     pub fn tell<'a, T>(
         &mut self,
         rt: &impl MessageSink,

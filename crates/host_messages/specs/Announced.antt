@@ -1,4 +1,4 @@
--- What init prints about the happenings that it announces; it prints nothing about any other.
+-- The lines that init prints about the happenings that it announces; it prints nothing about any other.
 use Rattle.std.specs.Prelude.{ℕ, List, [], ◌∷◌, ◌++◌, codes}
 use Rattle.init_words.specs.declared.stages.Stage.{Stage}
 use Rattle.init_words.specs.declared.stages.Stage.TheVariants as stage
@@ -14,7 +14,7 @@ entered stage.Sysinit = codes "INIT: Entering stage sysinit\n"
 entered stage.Boot = codes "INIT: Entering stage boot\n"
 entered (stage.Run level) = codes "INIT: Entering runlevel: " ++ level_code level ∷ codes "\n"
 
--- the line for a hand-over that was not taken over
+-- the line for a hand-over; empty if the whole state was handed over
 abbrev pub handed_over : HandOver → List ℕ
 handed_over handed.Whole = []
 handed_over _ = codes "initd: re-execution refused\n"

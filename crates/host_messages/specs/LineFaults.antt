@@ -1,4 +1,4 @@
--- What is printed about the faulty lines of an inittab's files.
+-- The lines that report the faulty lines of an inittab's files.
 use Rattle.std.specs.Prelude.{ℕ, if◌then◌else◌, ◌==◌, List, [], ◌++◌, flat_map, codes, decimal, Option, Some, None}
 use Rattle.std.specs.Prelude.{slice_get}
 use Rattle.init_words.specs.Parts.{NamedText}
@@ -11,7 +11,7 @@ abbrev pub name_text : Option NamedText → List ℕ
 name_text None = []
 name_text (Some part) = part.name ++ codes " "
 
--- the file of a fault, given by its number; nothing for the first file
+-- the name of the file with this number, in which a fault is; nothing for the first file
 abbrev pub place_text : List NamedText → ℕ → List ℕ
 place_text parts number = if number == 0 then [] else name_text (slice_get parts number)
 

@@ -1,4 +1,4 @@
-//! What init announces about what it did.
+//! The lines by which init announces what it did.
 
 ghost use Rattle.std.specs.Prelude.{◌≡◌, ◌++◌, IfOk};
 ghost use Rattle.host_messages.specs.Announced.{announcement};

@@ -30,7 +30,7 @@ pub(crate) fn tell_old(rt: &impl Eprint, path: &str, length: u64, fresh: bool) {
     };
 }
 
-/// Reports that the channel is another file than before, or shorter than what was read of it.
+/// Reports that the channel is another file than before, or shorter than the part already read.
 pub(crate) fn tell_made_anew(rt: &impl Eprint, path: &str) {
     let _ = eprintln!(rt; "initd: {path} was replaced or truncated; reading it from the start");
 }

@@ -7,7 +7,7 @@ use program_io::Reason;
 use std::fmt;
 use std::io::{Error, ErrorKind};
 
-/// The error number with which waitpid(2) reports that there is no such child, or no longer (ECHILD).
+/// The error number with which waitpid(2) reports that the child does not exist, or no longer exists (ECHILD).
 const NO_CHILD: i32 = 10;
 
 /// Reports what the id's child did, what was sent to it, or what went wrong with it.
@@ -30,7 +30,7 @@ pub(crate) fn tell_of_child(
     }
 }
 
-/// The text after the id.
+/// The text of a message after the id.
 #[derive(Clone, Copy)]
 struct Words<'a> {
     program: &'a str,
@@ -95,7 +95,7 @@ fn add_not_born<W: fmt::Write>(
     }
 }
 
-/// Writes why a child cannot be waited for, and what that means.
+/// Writes why a child cannot be waited for, and the consequence.
 fn add_unwaited<W: fmt::Write>(
     f: &mut fmt::Formatter<W>,
     program: &str,
@@ -142,7 +142,7 @@ impl fmt::Display for LastEndWords {
     }
 }
 
-/// Returns what an inittab has for a child that is stopped because of it.
+/// Returns the reason why an inittab that was read again stops a child, as text.
 fn line_words(line: ChildLine) -> &'static str {
     match line {
         ChildLine::Gone => "its line was removed",

@@ -7,7 +7,7 @@ use init_words::Part;
 use inittab_text::{LineKind, PartFault};
 use std::alloc::{AllocError, Allocator};
 
-/// Returns the lines that report the faulty lines of an inittab's parts, one per fault. The name of the part is given,
+/// Returns the lines that report the faulty lines of an inittab's parts, one per fault. Each line names the part,
 /// except for the first part.
 pub fn faults_text<A: Allocator + Copy, B: Allocator>(
     alloc: A,
@@ -38,7 +38,7 @@ fn add_fault<A: Allocator + Copy, B: Allocator>(
     Ok(())
 }
 
-/// Returns the number of a line and the check that it fails.
+/// Returns the text that gives the number of a line and the check that the line fails.
 fn line_text<A: Allocator + Copy>(
     alloc: A,
     line: u32,
@@ -93,7 +93,7 @@ pub(crate) fn tell_too_many(rt: &impl Eprint, path: &str) {
     );
 }
 
-/// Reports that the inittab has faulty lines and is rejected for that.
+/// Reports that the inittab is rejected because it has faulty lines.
 pub(crate) fn tell_refused(rt: &impl Eprint, path: &str) {
     let _ = eprintln!(rt;
         "initd: {path} has faulty lines, so the previous table stays in force (--strict); fix them and run telinit q"

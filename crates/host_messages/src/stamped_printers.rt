@@ -42,7 +42,8 @@ impl<R: Clone + Drop> StampedPrinter<R> {
     }
 }
 
-/// The number of lines dropped from an output since the last one that was printed there, and the reason for the last.
+/// The number of lines dropped from an output since a line was last printed there, and the reason for dropping the
+/// last one.
 #[derive(Clone, Drop)]
 struct LeftOut {
     lines: Cell<u64>,
@@ -65,8 +66,8 @@ impl LeftOut {
             .set(error.kind() == ErrorKind::FileTooLarge);
     }
 
-    /// Returns the message about the dropped lines of the output of this name, or `None` if there are none, and resets
-    /// their number.
+    /// Returns the message about the dropped lines of the output with this name, or `None` if there are none, and
+    /// resets their count.
     fn told(&self, name: &'static str) -> Option<LeftOutLine> {
         match self.lines.replace(0) {
             0 => None,

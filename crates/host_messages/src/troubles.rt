@@ -4,7 +4,7 @@ use host_lines::Doing;
 use program_io::Reason;
 use std::io::{Error, ErrorKind};
 
-/// Reports that the operation failed on the thing of this name, and why.
+/// Reports that the operation failed on the file or other object of this name, and why.
 pub(crate) fn tell_failure(
     rt: &impl Eprint,
     program: &'static str,
@@ -58,14 +58,14 @@ pub(crate) fn tell_uncounted(rt: &impl Eprint, program: &'static str) {
     let _ = eprintln!(rt; "{program}: out of memory: the starts of further ids are not counted");
 }
 
-/// Reports that the text of init's state came back cut.
+/// Reports that the text of init's state was truncated when it was read back.
 pub(crate) fn tell_cut(rt: &impl Eprint, length: u64) {
     let _ = eprintln!(rt;
         "initd: the saved state was read back incomplete, {length} bytes long; init continues with its current state"
     );
 }
 
-/// Reports that the text of init's state that came back is that of another generation.
+/// Reports that the text of init's state that was read back belongs to another generation.
 pub(crate) fn tell_older(rt: &impl Eprint, generation: u64) {
     let _ = eprintln!(rt;
         "initd: the saved state that was read back has generation {generation}; give each init its own --state file"

@@ -28,21 +28,22 @@ first (item ∷ items) = Some item
 abbrev pub Becomes : Script → Script → Type 0
 Becomes new expected = new ≡ record expected { told = new.told }
 
--- the record of the calls, given oldest first: the calls newest first, or none once a call could not be recorded
+-- the record of these calls, which are given oldest first: the calls newest first, or none if one could not be
+-- recorded
 abbrev pub tale : Bool → List HostCall → Option (List HostCall)
 tale true calls = Some (reverse calls)
 tale false calls = None
 
--- the rest of a piece of bytes, after as many as there is room for
+-- the rest of a piece of bytes, after the bytes that fit in this much room
 abbrev pub left_of : ℕ → TextRead → List TextRead
 left_of room (Ok bytes) = if nat_lt room (length bytes) then Ok (drop room bytes) ∷ [] else []
 left_of room (Err fault) = []
 
--- what a call with this much room takes of a piece
+-- the part of a piece that fits in this much room
 abbrev pub taken_of : ℕ → TextRead → TextRead
 taken_of room (Ok bytes) = Ok (take room bytes)
 taken_of room (Err fault) = Err fault
 
--- the pieces, of which the first was taken up to a position
+-- the pieces, after the first one was taken up to a position
 abbrev pub pieces_from : ℕ → List ℕ → List TextRead → List TextRead
 pieces_from position under_way pieces = left_of position (Ok under_way) ++ pieces

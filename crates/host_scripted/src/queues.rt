@@ -30,7 +30,7 @@ pub(crate) fn next_or<T: Drop, A: Allocator>(queue: &mut VecDeque<T, A>, empty: 
     }
 }
 
-/// Copies as much of the text to the front of the buffer as there is room for. Returns the number of bytes.
+/// Copies as much of the text as fits to the front of the buffer. Returns the number of bytes.
 fn copy_front(text: &[u8], buffer: &mut [u8]) -> usize
     ensures count { result ≡ min (length text.now) (length buffer.old) }
     ensures copied { take result buffer.new ≡ take (length buffer.old) text.now }
@@ -40,8 +40,8 @@ fn copy_front(text: &[u8], buffer: &mut [u8]) -> usize
     count
 }
 
-/// Copies as much of the text to the buffer as there is room for, after the bytes taken before. Returns the number of
-/// bytes.
+/// Copies as much of the text as fits to the buffer, beginning after the bytes of the text that were taken before.
+/// Returns the number of bytes.
 fn take_from(text: &[u8], taken: &mut usize, buffer: &mut [u8]) -> usize
     requires { taken.old ≤ length text.now }
     ensures within { result ≤ length buffer.old }
@@ -55,7 +55,7 @@ fn take_from(text: &[u8], taken: &mut usize, buffer: &mut [u8]) -> usize
     count
 }
 
-/// Pieces of bytes, with faults between them. The first piece may have been taken in part.
+/// A queue of pieces of bytes, with faults between them. Part of the first piece may have been taken already.
 #[derive(Drop)]
 pub(crate) struct Pieces<A: Allocator> {
     under_way: Bytes<A>,
@@ -99,7 +99,7 @@ impl<A: Allocator> Pieces<A> {
 }
 
 impl<A: Allocator + Copy> Pieces<A> {
-    /// Takes as much of the first piece as the buffer has room for. The rest stays the first piece.
+    /// Takes as much of the first piece as fits in the buffer. The rest becomes the first piece.
     pub(crate) fn take(&mut self, buffer: &mut [u8]) -> Result<usize, HostFault>
         ensures within { IfOk result (λ count. count ≤ length buffer.old) }
         ensures taken { front_read result buffer.new

@@ -16,9 +16,9 @@ use trace_events::HappeningIn;
 
 /// A host that answers from a script, and records its calls until there is no memory for one.
 ///
-/// Each call that answers has a queue of answers, and takes the first one; bytes for which there is no room stay for
-/// the next call. With an empty queue, no child is born, none has ended, each signal is sent, no answer comes late, the
-/// clock reads 0, there are no bytes, the inittab has no files, and a text is carried whole.
+/// Each call that returns an answer takes the first one from its queue; bytes that do not fit in the buffer stay for
+/// the next call. With an empty queue, no child is born, none has ended, each signal is sent, no answer comes late,
+/// the clock reads 0, there are no bytes, the inittab has no files, and a text is carried whole.
 #[derive(Drop)]
 pub struct MemoryHost<A: Allocator = Global> {
     starts: VecDeque<Reply, A>,
@@ -165,7 +165,7 @@ impl<A: Allocator> MemoryHost<A> {
         give(&mut self.tables, parts)
     }
 
-    /// Appends what is read back when a text is carried.
+    /// Appends the text, or the fault, that a later call of `carry` returns.
     pub fn give_carry(&mut self, back: Result<Bytes<A>, HostFault>) -> Result<(), Memory>
         ensures ok { OnOk result (self.new
             ≡ record self.old { carries = self.old.carries ++ back ∷ [] }) }
@@ -322,7 +322,7 @@ impl<A: Allocator + Copy> Host for MemoryHost<A> {
         ensures taken { front_read result buffer.new
             ≡ taken_of (length buffer.old) (unwrap_or (first self.old.pieces) (Ok [])) }
 
-        // The part for which there is no room stays at the front of the queue.
+        // The bytes that do not fit stay at the front of the queue.
         ensures state { Becomes self.new (record self.old {
           pieces = left_of (length buffer.old) (unwrap_or (first self.old.pieces) (Ok []))
               ++ drop 1 self.old.pieces;

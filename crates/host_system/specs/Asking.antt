@@ -1,5 +1,5 @@
--- What a host asks of the system for each of its calls, and how its answer follows from that. It makes at most one call
--- to the system for each of its own.
+-- What a host asks of the system for each call that it receives, and how its answer follows from that. It makes at
+-- most one call to the system for each call that it receives.
 use Rattle.std.specs.Prelude.{◌≡◌, ◌⊎◌, ℕ, Bool, false, List, [], ◌∷◌, ◌++◌, map, Option, Some, None}
 use Rattle.std.specs.Prelude.{◌/◌, Result, Ok, IfOk, IsErr}
 use Rattle.std.specs.Map.{lookup}
@@ -22,7 +22,7 @@ use Rattle.host_system.specs.Systems.{SystemCall, Waited, look_answer, sent, sig
 use Rattle.host_system.specs.Systems.SystemCall.{read_clock, read_file, run, spawn, try_wait}
 
 -- The arguments start the process text of the id after a delay in seconds. If there is a folder of logs, the output
--- goes to the id's log there, or the process is started as without logs, as the host does if it cannot open the log. If
+-- goes to the id's log there, or, if the host cannot open the log, the process is started as if there were no logs. If
 -- children have groups, the process is started in a session of its own.
 abbrev pub AreStarted : Option (List ℕ) → Bool → ℕ → List ℕ → List ℕ → List (List ℕ) → Type 0
 AreStarted None groups delay id text words = words ≡ launched groups delay (words_run text)
@@ -58,18 +58,18 @@ abbrev pub LookRequest : Option ℕ → Answer → List SystemCall → List Syst
 LookRequest child answer old new = (outcome : Waited) × WaitRequest child outcome old new
     × (answer ≡ look_answer outcome)
 
--- the process with the number, or its group, was sent the signal once, and was reached or not; if there is no number,
--- nothing was asked, and it was not reached
+-- the signal was sent once to the process with the number, or to its group, and either reached it or did not; if there
+-- is no number, nothing was asked, and the signal reached no process
 abbrev pub SendRequest : Bool → Option ℕ → SignalKind → Bool → List SystemCall → List SystemCall → Type 0
 SendRequest groups (Some number) signal reached old new = new ≡ sent groups signal number reached ∷ old
 SendRequest groups None signal reached old new = (new ≡ old) × (reached ≡ false)
 
--- A signal to the child with the number: the answer says whether it was reached.
+-- A signal to the child with the number: the answer says whether the signal reached it.
 abbrev pub SignalRequest : Bool → Option ℕ → SignalKind → Answer → List SystemCall → List SystemCall → Type 0
 SignalRequest groups child signal answer old new =
     (reached : Bool) × SendRequest groups child signal reached old new × (answer ≡ signal_answer reached)
 
--- the answer came at once, and the property holds for it
+-- the host answered at once, and the property holds for the answer
 abbrev pub AnsweredNow : Reply → (Answer → Type 0) → Type 0
 AnsweredNow (Now answer) P = P answer
 AnsweredNow Later P = ⊥
@@ -93,8 +93,8 @@ abbrev pub TablesRequest : List ℕ → PartsRead → List SystemCall → List S
 TablesRequest path parts old new =
     (text : Option (List ℕ)) × (new ≡ read_file path text ∷ old) × IfOk parts (IsOwnFirst path text)
 
--- what a call asked of the system, for a host with these settings that had these calls, newest first, and held these
--- children before the call: exactly this, and nothing else
+-- exactly what a call asks of the system, if the host has these settings, and had received these calls, newest first,
+-- and held these children before the call
 abbrev pub SystemCallsForCall : HostSettings → HostCall → List HostCall → HeldChildren → List SystemCall
     → List SystemCall → Type 0
 SystemCallsForCall settings (Start id text reply) calls held old new = AnsweredNow reply (λ answer. StartRequests

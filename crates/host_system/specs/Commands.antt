@@ -6,7 +6,7 @@ use Rattle.std.specs.Process.{command_program, command_args}
 use Rattle.std.specs.declared.process.command.Command.{Command}
 use Rattle.text_lines.specs.Lines.{words_of}
 
--- a character for which a process text is executed by a shell
+-- a character that makes a shell execute a process text
 abbrev pub is_shell_byte : ℕ → Bool
 is_shell_byte byte = list_any (λ b. b == byte) (codes "~`!$^&*()=|\\{}[];\"'<>?")
 
@@ -24,7 +24,7 @@ words_run text =
 abbrev pub words_in : {A : Type 0} → Command A → List (List ℕ)
 words_in command = command_program command ∷ command_args command
 
--- the same; none if there is no command
+-- the same for a command on the heap; none if there is no command
 abbrev pub words_at : {A : Type 0} → Option (Box (Command A) A) → List (List ℕ)
 words_at (Some command) = words_in command.value
 words_at None = []
@@ -34,7 +34,7 @@ abbrev pub in_session : Bool → List (List ℕ) → List (List ℕ)
 in_session true (program ∷ args) = codes "setsid" ∷ codes "--" ∷ program ∷ args
 in_session _ words = words
 
--- The script of a shell that sleeps for as many seconds as its first argument says, and then becomes the program that
+-- The script of a shell that sleeps for the number of seconds in its first argument, and then becomes the program that
 -- the other arguments start. TERM ends it at once, with its sleep(1).
 abbrev pub waiting : List ℕ
 waiting = codes "trap '{ kill -KILL $!; wait; } 2>/dev/null; trap - TERM; kill $$' TERM; "

@@ -1,4 +1,4 @@
--- Events that are followed by a deadline when they have reached an age, such as the grace after a SIGTERM.
+-- Deadlines that follow events after a fixed time, such as the end of the grace period after a SIGTERM.
 use Rattle.std.specs.Prelude.{ℕ, ◌≤◌, ◌<◌, ◌+◌, Option, IsSomeAnd}
 use Rattle.host_system.specs.declared.deadlines.Span.{Span}
 
@@ -6,7 +6,7 @@ use Rattle.host_system.specs.declared.deadlines.Span.{Span}
 abbrev pub Covers : Option Span → ℕ → Type 0
 Covers span time = IsSomeAnd span (λ known. (known.first ≤ time) × (time ≤ known.last))
 
--- this deadline is not later than that of any event which has not reached the age by now
+-- this deadline is not later than that of any event that has not reached the age yet
 abbrev pub IsNextDeadline : Option Span → ℕ → ℕ → Option ℕ → Type 0
 IsNextDeadline span age now deadline =
     (time : ℕ) → Covers span time → now < time + age → IsSomeAnd deadline (λ next. next ≤ time + age)

@@ -1,8 +1,8 @@
 -- Delays of starts (`--respawn-delay`): how many seconds a child waits before it runs its process.
 --
 -- A start is delayed if it follows the last start of its id too soon: by one second, then by twice the last delay, up
--- to the longest delay. It is not delayed if the last child had the longest delay or more to run, if that child was
--- sent a signal, or if init has entered a stage since.
+-- to the longest delay. It is not delayed if at least the longest delay has passed since the last child began to run,
+-- if that child was sent a signal, or if init has entered a stage since.
 use Rattle.std.specs.Prelude.{◌≡◌, ◌<◌, ℕ, Bool, true, false, ◌+◌, ◌-◌, ◌*◌, ◌&&◌, min, max, nat_lt, if◌then◌else◌}
 use Rattle.std.specs.Prelude.{List, [], ◌∷◌, Option, Some, None, IsSome, Ok}
 use Rattle.std.specs.Map.{lookup}
@@ -25,9 +25,9 @@ time_of [] = 0
 time_of (Clock (Ok time) ∷ calls) = time
 time_of (_ ∷ calls) = time_of calls
 
--- The delay of a start at this time, given the last start that counts. If starts are delayed at all, that is twice the
--- last delay, but at least one second and at most the longest delay; but there is none if there is no such start, or if
--- the longest delay or more has passed since its own delay was over.
+-- The delay of a start at this time, given the last start that counts. If starts are delayed at all, it is twice the
+-- last delay, but at least one second and at most the longest delay. It is zero if no such start exists, or if at
+-- least the longest delay has passed since the delay of that start was over.
 abbrev pub delay_after : Option ℕ → ℕ → Option LastStart → ℕ
 delay_after (Some longest) time (Some last) =
     if nat_lt (time - last.at) (last.delay + longest) then min longest (max 1 (2 * last.delay)) else 0
@@ -62,7 +62,7 @@ last_start longest id (_ ∷ calls) = last_start longest id calls
 abbrev pub start_delay : Option ℕ → List ℕ → List HostCall → ℕ
 start_delay longest id calls = delay_after longest (time_of calls) (last_start longest id calls)
 
--- What delays depend on:
+-- The state on which delays depend:
 -- - `longest`: the longest delay in seconds, if starts are delayed
 -- - `time`: the time of the last reading of the clock, in seconds
 -- - `starts`: the ids with a last start that counts, each with that start
@@ -78,11 +78,11 @@ delay_state delays = record {
   starts = delays.starts.entries;
 }
 
--- one more start can be noted without memory being allocated, if starts are noted
+-- if starts are recorded, one more can be recorded without allocating memory
 abbrev pub HasRoom : {A : Type 0} → Delays A → Type 0
 HasRoom delays = IsSome delays.longest → 0 < spare delays.starts
 
--- the state of the delays is that after these calls; starts are noted only if they are delayed
+-- this is the state of the delays after these calls; starts are recorded only if starts are delayed
 abbrev pub AreDelaysAfter : DelayState → List HostCall → Type 0
 AreDelaysAfter delays calls = (delays.time ≡ time_of calls)
     × (IsSome delays.longest

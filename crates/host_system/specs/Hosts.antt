@@ -12,13 +12,13 @@ use Rattle.host_system.specs.Delays.{DelayState}
 use Rattle.host_system.specs.Systems.{SystemCall}
 
 -- The state of a host:
--- - `faults`: how many of its calls failed
+-- - `faults`: the number of its calls that failed
 -- - `strict`: init rejects an inittab with a faulty line
 -- - `verbose`: the host reports what children do
 -- - `inittab`: the path of its inittab
--- - `logs`: the folder of the children's output, if that goes to logs
+-- - `logs`: the folder of the logs, if the children's output goes to logs
 -- - `groups`: each child has a session of its own, and signals go to its process group
--- - `delays`: what the delays of starts depend on
+-- - `delays`: the state on which the delays of starts depend
 -- - `channel`: the request channel
 -- - `held`: the children that it holds
 -- - `calls`: its calls, newest first
@@ -65,7 +65,7 @@ is_signal_answer Hit = true
 is_signal_answer Miss = true
 is_signal_answer _ = false
 
--- the reply is an answer of this kind, which came at once
+-- the host replied at once, with an answer of this kind
 abbrev pub answers_with : (Answer → Bool) → Reply → Bool
 answers_with kinds (Now answer) = kinds answer
 answers_with kinds Later = false

@@ -8,7 +8,7 @@ use Rattle.host_files.specs.Folders.{is_hidden}
 abbrev pub is_log_byte : ℕ → Bool
 is_log_byte byte = nat_le 33 byte && nat_le byte 126 && not (byte == 47)
 
--- the id can be the name of a file, and not of a hidden one
+-- the id followed by `.log` can be the name of a file that is not hidden
 abbrev pub is_log_name : List ℕ → Bool
 is_log_name id = not (is_hidden id) && list_all is_log_byte id
 

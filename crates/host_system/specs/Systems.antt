@@ -1,5 +1,5 @@
--- What a host asks of the system: processes (fork(2), execve(2), waitpid(2), kill(2)), the clock and the file of the
--- inittab; and what the system answers.
+-- The calls of a host to the system, with their answers: processes (fork(2), execve(2), waitpid(2), kill(2)), the
+-- clock and the file of the inittab.
 use Rattle.std.specs.Prelude.{ℕ, Bool, if◌then◌else◌, ◌==◌, ◌%◌, ◌/◌, List, ◌∷◌, Option, Some, None, Result, Ok, Err}
 use Rattle.std.specs.Process.{status_bits}
 use Rattle.std.specs.declared.process.status.ExitStatus.{ExitStatus}
@@ -19,11 +19,11 @@ waited (Ok ended) = Some ended
 waited (Err why) = None
 
 -- A call to the system, with its answer:
--- - `spawn`: a program was to be started with these arguments, its name first. It is the process with this number, or
---   could not be started.
+-- - `spawn`: a program was to be started with these arguments, its name first. It became the process with this number,
+--   or could not be started.
 -- - `try_wait`: the process with this number was waited for, without blocking.
--- - `send`: the process with this number was sent this signal (kill(2)), and was reached or not.
--- - `send_group`: the same of its process group.
+-- - `send`: this signal was sent to the process with this number (kill(2)), and reached it or not.
+-- - `send_group`: the same for the process group of the process.
 -- - `run`: a program was run to its end.
 -- - `read_clock`: the clock was read. It returned the time since the beginning of 1970 in nanoseconds, or failed.
 -- - `read_file`: the file at this path was read, and had this text, or could not be read.
@@ -36,7 +36,7 @@ pub data SystemCall : Type 0 where
   read_clock : Option ℕ → SystemCall
   read_file : List ℕ → Option (List ℕ) → SystemCall
 
--- the newest call, which starts a process, with this number as its answer
+-- the calls, the newest of which started a process, with this number as its answer
 abbrev pub born : ℕ → List SystemCall → List SystemCall
 born number (spawn words answer ∷ calls) = spawn words (Some number) ∷ calls
 born number calls = calls

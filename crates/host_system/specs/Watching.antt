@@ -1,4 +1,4 @@
--- When the children that a helper watches are no longer those of the host.
+-- The answers after which a helper no longer watches all children of the host.
 use Rattle.std.specs.Prelude.{Bool, true, false}
 use Rattle.init_words.specs.declared.orders.Answer.TheVariants.{Born, Ended}
 use Rattle.host_calls.specs.declared.calls.Reply.{Reply}

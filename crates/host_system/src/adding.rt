@@ -1,5 +1,5 @@
-//! A record of calls that only proofs can read, and how one more call with its answer is added. Each kind of call has
-//! its own type.
+//! A record of calls that only proofs can read, and the types that add a call with its answer to it, one for each kind
+//! of call.
 
 ghost use Rattle.std.specs.Prelude.{◌≡◌, ◌∷◌, []};
 
@@ -10,7 +10,7 @@ use std::alloc::Allocator;
 use std::marker::{Model, PhantomData};
 use trace_events::HappeningIn;
 
-/// A list of calls, newest first. It is the type of a note, and no value of it is ever created.
+/// A list of calls, newest first. It only serves as the type of a `Noted` value; no list is ever created.
 pub struct CallList {
     calls: Vec<Call>,
 }
@@ -24,7 +24,7 @@ impl Model for CallList {
     ghost view = { λ list. list.calls.items };
 }
 
-/// Marks the note of no calls.
+/// Derives the empty list of calls.
 struct Empty;
 
 impl Reads<(), CallList> for Empty {
@@ -40,7 +40,7 @@ pub fn no_calls() -> Noted<CallList>
     Noted::of::<(), Empty>(&())
 }
 
-/// Marks the note of a record with one more call, given how the call is read.
+/// Derives a list with one more call, which `M` derives.
 struct ByCall<M> {
     marker: PhantomData<M>,
 }
@@ -51,14 +51,14 @@ impl<'a, X, M: Reads<X, Call>> Reads<(&'a Noted<CallList>, X), CallList> for ByC
     ghost value = { λ added. M.value added.1 ∷ added.0.now.value };
 }
 
-/// Returns the record with one more call: what the host was asked, and what it answered.
+/// Returns the record with one more call: its arguments and its answer.
 pub fn and_call<X: Copy, M: Reads<X, Call>>(before: &Noted<CallList>, call: X) -> Noted<CallList>
     ensures { result.value ≡ M.value call ∷ before.now.value }
 {
     Noted::of::<(&Noted<CallList>, X), ByCall<M>>(&(before, call))
 }
 
-/// Marks a start.
+/// Derives the call of a start.
 pub struct Start;
 
 impl<'a> Reads<(&'a Id, &'a [u8], &'a Reply), Call> for Start {
@@ -67,7 +67,7 @@ impl<'a> Reads<(&'a Id, &'a [u8], &'a Reply), Call> for Start {
     ghost value = { λ made. Start made.0.now made.1.now made.2.now };
 }
 
-/// Marks a look.
+/// Derives the call of a look.
 pub struct Look;
 
 impl<'a> Reads<(&'a Id, &'a Reply), Call> for Look {
@@ -76,7 +76,7 @@ impl<'a> Reads<(&'a Id, &'a Reply), Call> for Look {
     ghost value = { λ made. Look made.0.now made.1.now };
 }
 
-/// Marks a signal.
+/// Derives the call of a signal.
 pub struct Signal;
 
 impl<'a> Reads<(&'a Id, SignalKind, &'a Reply), Call> for Signal {
@@ -85,7 +85,7 @@ impl<'a> Reads<(&'a Id, SignalKind, &'a Reply), Call> for Signal {
     ghost value = { λ made. Signal made.0.now made.1 made.2.now };
 }
 
-/// Marks a call for a late answer.
+/// Derives the call for a late answer.
 pub struct Late;
 
 impl<'a> Reads<&'a Option<(Id, Answer)>, Call> for Late {
@@ -94,7 +94,7 @@ impl<'a> Reads<&'a Option<(Id, Answer)>, Call> for Late {
     ghost value = { λ made. Late made.now };
 }
 
-/// Marks a reading of the clock.
+/// Derives the call that read the clock.
 pub struct Clock;
 
 impl Reads<Result<u64, HostFault>, Call> for Clock {
@@ -103,7 +103,7 @@ impl Reads<Result<u64, HostFault>, Call> for Clock {
     ghost value = { λ made. Clock made };
 }
 
-/// Marks bytes that were taken into the front of a buffer.
+/// Derives the call that read bytes into the front of a buffer.
 pub struct TakeBytes;
 
 impl<'a> Reads<(&'a [u8], Result<usize, HostFault>), Call> for TakeBytes {
@@ -114,7 +114,7 @@ impl<'a> Reads<(&'a [u8], Result<usize, HostFault>), Call> for TakeBytes {
     ghost value = { λ made. TakeBytes (length made.0.now) (front_read made.1 made.0.now) };
 }
 
-/// Marks a reading of the inittab's files.
+/// Derives the call that read the files of the inittab.
 pub struct ReadTables;
 
 impl<'a, A: Allocator> Reads<&'a Result<Vec<Part<A>, A>, HostFault>, Call> for ReadTables {
@@ -124,7 +124,7 @@ impl<'a, A: Allocator> Reads<&'a Result<Vec<Part<A>, A>, HostFault>, Call> for R
     ghost value = { λ made. ReadTables (parts_read (λ parts. parts.items) made.now) };
 }
 
-/// Marks a text that was carried, and what came back.
+/// Derives the call that carried a text, with the text that was read back.
 pub struct Carry;
 
 impl<'a, A: Allocator> Reads<(&'a [u8], &'a Result<Vec<u8, A>, HostFault>), Call> for Carry {
@@ -134,7 +134,7 @@ impl<'a, A: Allocator> Reads<(&'a [u8], &'a Result<Vec<u8, A>, HostFault>), Call
     ghost value = { λ made. Carry made.0.now (text_read (λ back. back.items) made.1.now) };
 }
 
-/// Marks the announcement of a happening.
+/// Derives the call that announced a happening.
 pub struct Announce;
 
 impl<'a, A: Allocator> Reads<&'a HappeningIn<A>, Call> for Announce {
@@ -143,7 +143,7 @@ impl<'a, A: Allocator> Reads<&'a HappeningIn<A>, Call> for Announce {
     ghost value = { λ made. Announce made.now };
 }
 
-/// Marks a pause.
+/// Derives the call of a pause.
 pub struct Pause;
 
 impl Reads<(), Call> for Pause {

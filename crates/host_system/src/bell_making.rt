@@ -1,4 +1,4 @@
-//! Creating the bell of a channel, by mkfifo(1).
+//! Creates the bell of a channel with mkfifo(1).
 
 ghost use Rattle.host_system.specs.Asking.{RunsHelpers};
 
@@ -36,7 +36,7 @@ pub(crate) fn make_bell<R: Files + MessageSink, S: System, A: Allocator + Copy>(
     }
 }
 
-/// Creates a FIFO at the path, which only the user of initd may open.
+/// Creates a FIFO at the path that only the user of initd may open.
 fn made_at<S: System, A: Allocator + Copy>(system: &mut S, alloc: A, path: &str) -> io::Result<()>
     ensures { RunsHelpers (S.told system.old) (S.told system.new) }
 {

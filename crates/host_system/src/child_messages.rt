@@ -1,4 +1,4 @@
-//! What a host reports about its children, and what it remembers for that.
+//! The reports of a host about its children, and the records that they need.
 
 use host_lines::{ChildEnd, ChildMessage, HostLine, MessageSink};
 use indexmap::IndexMap;
@@ -17,22 +17,22 @@ fn end_of(status: &ExitStatus) -> ChildEnd {
     }
 }
 
-/// What was reported about the children of a host, on standard error.
+/// Reports about the children of a host, on standard error.
 #[derive(Drop)]
 pub(crate) struct ChildMessages<A: Allocator> {
     /// Whether starts, ends and signals are reported.
     verbose: bool,
-    /// How the last child of each id ended, as far as memory allowed.
+    /// How the last child of each id ended. An id may be missing because memory ran out.
     ends: IndexMap<Id, ChildEnd, BuildHasherDefault<FoldHasher>, A>,
-    /// How many children were born for each id.
+    /// The number of children born for each id.
     starts: IndexMap<Id, u64, BuildHasherDefault<FoldHasher>, A>,
     /// Whether an id was not counted because memory allocation failed.
     is_short: bool,
 }
 
 impl<A: Allocator + Copy> ChildMessages<A> {
-    /// Returns a value for which nothing was reported. If `verbose` is set, starts, ends and signals are reported;
-    /// otherwise only how the last child of an id ended. It allocates no memory.
+    /// Creates a value before anything is reported. If `verbose` is set, starts, ends and signals are reported;
+    /// otherwise only how the last child of an id ended. This allocates no memory.
     pub(crate) fn new(alloc: A, verbose: bool) -> ChildMessages<A> {
         ChildMessages {
             verbose,
@@ -68,8 +68,8 @@ impl<A: Allocator + Copy> ChildMessages<A> {
 
     /// Counts a birth, and returns how many children of the id were born so far, including this one.
     ///
-    /// Returns `None` if ids were not counted for lack of memory and this may be one of them. The first time that there
-    /// is no memory for an id is reported on standard error.
+    /// Returns `None` if some ids were not counted for lack of memory and this may be one of them. The first time that
+    /// memory for an id is lacking is reported on standard error.
     fn count_start(&mut self, rt: &impl MessageSink, id: Id) -> Option<u64> {
         if let Some(count) = self.starts.get_mut(&id) {
             *count = count.saturating_add(1);
@@ -86,7 +86,7 @@ impl<A: Allocator + Copy> ChildMessages<A> {
         None
     }
 
-    /// Remembers how the id's child ended, and reports it if `verbose` is set.
+    /// Records how the id's child ended, and reports it if `verbose` is set.
     pub(crate) fn note_end(&mut self, rt: &impl MessageSink, id: &Id, status: &ExitStatus) {
         let end = end_of(status);
         if self.ends.insert(*id, end).is_err() {

@@ -37,12 +37,12 @@ use text_lines::next_word;
 pub(crate) struct Children<S: System, A: Allocator> {
     alloc: A,
     handles: IndexMap<Id, HeldChild<S>, BuildHasherDefault<FoldHasher>, A>,
-    /// The current stage, and the stage in which an inittab was last read again.
+    /// The current stage, and the stage in which inittab was last read again.
     stage: Option<Stage>,
     read_in: Option<Stage>,
-    /// Whether the level is announced settled; also `true` before the first stage.
+    /// Whether the level was announced as settled; also `true` before the first stage.
     is_settled: bool,
-    /// What is reported about the children.
+    /// The reports about the children.
     messages: ChildMessages<A>,
     left: LeftProcesses<A>,
 }
@@ -92,8 +92,8 @@ impl<S: System, A: Allocator + Copy> Children<S, A> {
         }
     }
 
-    /// Starts a child for an id that has none, with its output in the logs, if there are any, and returns its number.
-    /// It executes the process text after the delay, in seconds.
+    /// Starts a child for an id that has none, and returns its number. The child executes the process text after the
+    /// delay, in seconds. Its output goes to the logs, if there are any.
     pub(crate) fn start<R: Files + MessageSink, B: Allocator + Copy>(
         &mut self,
         rt: &R,
@@ -126,7 +126,7 @@ impl<S: System, A: Allocator + Copy> Children<S, A> {
         self.handles.len()
     }
 
-    /// Starts the helper of a system that watches them.
+    /// Starts the helper of a system that watches the children.
     pub(crate) fn watch(&self, system: &mut S) -> io::Result<()>
         ensures { S.told system.new ≡ S.told system.old }
     {
@@ -145,7 +145,8 @@ impl<S: System, A: Allocator + Copy> Children<S, A> {
         self.handles.contains_key(id)
     }
 
-    /// Starts a child by the command, and returns its number. Room for its handle is reserved before the child is born.
+    /// Starts a child with the command, and returns its number. Room for its handle is reserved before the child is
+    /// born.
     fn spawn<B: Allocator + Copy>(
         &mut self,
         system: &mut S,
@@ -224,7 +225,7 @@ impl<S: System, A: Allocator + Copy> Children<S, A> {
         self.messages.tell_last_end(rt, id);
     }
 
-    /// Notes that the stage was entered.
+    /// Records that the stage was entered.
     pub(crate) fn enter(&mut self, stage: Stage)
         ensures { self.new ≡ self.old }
     {
@@ -232,7 +233,7 @@ impl<S: System, A: Allocator + Copy> Children<S, A> {
         self.is_settled = false;
     }
 
-    /// Notes that the level is settled.
+    /// Records that the level is settled.
     pub(crate) fn settle<R: Files + MessageSink>(&mut self, rt: &R)
         ensures { self.new ≡ self.old }
     {
@@ -240,7 +241,7 @@ impl<S: System, A: Allocator + Copy> Children<S, A> {
         self.left.tell_all(rt);
     }
 
-    /// Notes what an inittab that was read again has for each child.
+    /// Records how an inittab that was read again affects each child.
     pub(crate) fn note_lines<B: Allocator>(&mut self, table: &Table<B>)
         ensures { self.new ≡ self.old }
     {
@@ -248,8 +249,8 @@ impl<S: System, A: Allocator + Copy> Children<S, A> {
             return;
         };
         self.read_in = Some(stage);
-        // `retain` keeps all children. It is used because its contract says what is written to each, which that of
-        // `iter_mut` does not.
+        // `retain` keeps all children. It is used because its contract says what is written to each child, and the
+        // contract of `iter_mut` does not.
         self.handles.retain(
             |id: &Id, held: &mut HeldChild<S>| -> bool
                 ensures { (result ≡ true) × (held.new ≡ held.old) }
@@ -298,7 +299,7 @@ fn status_of(status: &ExitStatus) -> Status
     }
 }
 
-/// Reports why the id's child, which was to execute this process text, was not born.
+/// Reports why no child was born for the id to execute this process text.
 pub(crate) fn tell_not_born<'a>(
     rt: &impl MessageSink,
     launch: Launch,

@@ -1,4 +1,4 @@
-//! How a process text is executed: by `sh`, or directly, split into words.
+//! Builds the command that executes a process text: by `sh`, or directly, split into words.
 
 ghost use Rattle.std.specs.Prelude.{◌≡◌, ◌++◌, ◌∷◌, [], codes, IfOk, OnOk};
 ghost use Rattle.std.specs.Str.{IsUtf8};

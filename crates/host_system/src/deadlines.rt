@@ -1,7 +1,7 @@
-//! When init may have to act although nothing has happened but the passing of time.
+//! The times at which init may have to act although nothing has happened.
 //!
-//! A host sees enough to know these times: the signals that it sends, the stages and holds that are announced to it, and
-//! the seconds of its clock, by which init decides. A pause that ends for no reason costs one turn.
+//! A host can compute these times from the signals that it sends, the stages and holds that are announced to it, and
+//! the seconds of its clock, by which init decides. A pause that ends without need costs only one turn.
 
 ghost use Rattle.std.specs.Prelude.{◌≤◌, ◌<◌, ◌+◌, IsSomeAnd, ℕ};
 ghost use Rattle.host_system.specs.Deadlines.{Covers, IsNextDeadline};
@@ -16,7 +16,7 @@ use std::rt::Clock;
 use std::time::{Duration, Instant};
 use trace_events::{Happening, HappeningIn};
 
-/// After how many seconds in a stage that is not settled it is reported what init waits for.
+/// The number of seconds in an unsettled stage after which init reports what it waits for.
 const MINUTE: u64 = 60;
 
 /// The microseconds that are added to a pause, so that it ends after its deadline: poll(2) counts milliseconds.
@@ -36,7 +36,7 @@ struct Reading {
     at: Instant,
 }
 
-/// What init may have to do later.
+/// The deadlines at which init may have to act.
 #[derive(Drop)]
 pub(crate) struct Deadlines {
     /// Whether pauses end at deadlines.
@@ -49,7 +49,7 @@ pub(crate) struct Deadlines {
     terms: Option<Span>,
     /// When entries were held.
     holds: Option<Span>,
-    /// Since when the stage has not been settled, in steps of a minute.
+    /// The time since which the stage has not been settled, in steps of a minute.
     unsettled: Option<u64>,
 }
 
@@ -115,7 +115,7 @@ impl Deadlines {
         }
     }
 
-    /// Returns the length of a pause, in microseconds, that lasts at most this long and ends when a deadline has passed.
+    /// Returns the length of a pause in microseconds: this length, or less if a deadline passes earlier.
     pub(crate) fn bounded(&mut self, rt: &impl Clock, length: u64) -> u64 {
         match self.until_next(rt) {
             Some(time) => length.min(time),
@@ -134,7 +134,7 @@ impl Deadlines {
         Some(rest.saturating_add(MILLISECOND))
     }
 
-    /// Returns the next deadline, in seconds of the clock, for init that has acted at this time.
+    /// Returns the next deadline after init has acted at this time, in seconds of the clock.
     fn next(&mut self, now: u64) -> Option<u64>
         ensures kill { IsNextDeadline self.old.terms self.old.grace now result }
         ensures start { IsNextDeadline self.old.holds HOLD now result }
@@ -145,7 +145,7 @@ impl Deadlines {
         earlier(earlier(kill, start), report)
     }
 
-    /// Returns when it is next reported what init waits for.
+    /// Returns the time at which init next reports what it waits for.
     fn next_report(&mut self, now: u64) -> Option<u64> {
         let since = self.unsettled?;
         let since = if now.saturating_sub(since) < MINUTE {
@@ -170,8 +170,8 @@ fn add(span: &mut Option<Span>, time: u64)
     *span = Some(Span { first, last });
 }
 
-/// Returns when the next of some events is this many seconds old. All are removed when they are. If some are, and others
-/// are not, it is the next second, because only the first and the last of them are known.
+/// Returns the time at which the next event in the span is this many seconds old. If all events are that old, the span
+/// is removed. If only some are, the time is the next second, because only the first and the last event are known.
 fn due(span: &mut Option<Span>, age: u64, now: u64) -> Option<u64>
     ensures next { IsNextDeadline span.old age now result }
     ensures kept { (time : ℕ) → Covers span.old time → now < time + age → Covers span.new time }

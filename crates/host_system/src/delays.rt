@@ -23,19 +23,19 @@ struct LastStart {
     delay: u16,
 }
 
-/// What the delays of starts depend on.
+/// The state on which the delays of starts depend.
 #[derive(Drop)]
 pub(crate) struct Delays<A: Allocator> {
     /// The longest delay in seconds, if starts are delayed.
     longest: Option<u16>,
     /// The time of the last reading of the clock, in seconds.
     time: u64,
-    /// The last start of each id, if it counts: no stage was entered since, and the child was sent no signal.
+    /// The last start of each id, if it counts: no stage was entered since, and no signal was sent to the child.
     starts: IndexMap<Id, LastStart, BuildHasherDefault<FoldHasher>, A>,
 }
 
 impl<A: Allocator + Copy> Delays<A> {
-    /// Returns the delays of a host to which no call was made yet.
+    /// Returns the delays of a host before its first call.
     pub(crate) fn new(alloc: A, longest: Option<u16>) -> Delays<A>
         ensures { delay_state result
             ≡ record { longest = longest; time = 0; starts = [] } }
@@ -90,7 +90,7 @@ impl<A: Allocator + Copy> Delays<A> {
         };
     }
 
-    /// Notes that the id's child was sent a signal, or was to be.
+    /// Records that a signal was sent to the id's child, or could not be sent.
     pub(crate) fn note_signal(&mut self, id: &Id)
         ensures longest { self.new.longest ≡ self.old.longest }
         ensures noted { (calls : List HostCall) (signal : SignalKind) (reply : Reply)
@@ -123,7 +123,7 @@ impl<A: Allocator + Copy> Delays<A> {
     }
 }
 
-/// Returns the delay of a start at this time, in seconds, if the id was last started like this.
+/// Returns the delay of a start at this time, in seconds, given the last start of the id.
 fn delay_after(longest: u16, time: u64, last: &LastStart) -> u16
     ensures { result ≡ delay_after (Some longest) time (Some last.now) }
 {

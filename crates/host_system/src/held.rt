@@ -1,4 +1,4 @@
-//! A child that a host holds: it was started, and not reaped.
+//! A child that a host holds: it was started and has not been reaped.
 
 ghost use Rattle.std.specs.Prelude.{◌≡◌, ◌∷◌};
 ghost use Rattle.host_system.specs.Systems.{sent, waited};
@@ -14,10 +14,10 @@ use std::process::ExitStatus;
 use std::rt::Clock;
 use std::time::{Duration, Instant};
 
-/// After how many seconds it is reported again that a child cannot be waited for.
+/// The number of seconds after which it is reported again that a child cannot be waited for.
 const AGAIN: u64 = 60;
 
-/// A child with the number that it was born with, and what was reported about it.
+/// A child with the number that it was born with, and a record of the reports about it.
 #[derive(Drop)]
 pub(crate) struct HeldChild<S: System> {
     number: ChildNumber,
@@ -28,7 +28,7 @@ pub(crate) struct HeldChild<S: System> {
     /// Whether it is reported that the child cannot be waited for, and when it was last reported.
     is_unwaited: bool,
     told: Option<Instant>,
-    /// What an inittab that was read since the child's birth has for it.
+    /// How an inittab that was read since the child's birth affects the child.
     line: Option<ChildLine>,
 }
 
@@ -166,15 +166,15 @@ impl<S: System> HeldChild<S> {
         }
     }
 
-    /// Notes what an inittab that was read has for the child.
+    /// Records how an inittab that was read affects the child.
     pub(crate) fn note(&mut self, line: ChildLine)
         ensures { self.new ≡ self.old }
     {
         self.line = Some(line);
     }
 
-    /// Reports on standard error, once, that the child, which is being sent a signal, is stopped because of an inittab
-    /// that was read again, if that is so.
+    /// If the child, which is being sent a signal, is stopped because inittab was read again, reports that on standard
+    /// error, once.
     pub(crate) fn tell_cost(&mut self, rt: &impl MessageSink, id: &Id, is_same_stage: bool)
         ensures { self.new ≡ self.old }
     {
@@ -191,7 +191,7 @@ impl<S: System> HeldChild<S> {
     }
 }
 
-/// Returns whether the last report is long enough ago to report again.
+/// Returns whether enough time has passed since the last report to report again.
 fn is_past(rt: &impl Clock, told: Option<Instant>) -> bool {
     let Some(told) = told else {
         return false;

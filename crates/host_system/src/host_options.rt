@@ -1,11 +1,11 @@
-//! The options of a host over the operating system: its paths, and what it does in addition to its calls.
+//! The options of a host over the operating system: its paths and its behaviour.
 
 ghost use Rattle.std.specs.Prelude.{◌≡◌, false};
 
 /// How long a host pauses.
 #[derive(Clone, Copy)]
 pub enum Pace {
-    /// One second each.
+    /// One second.
     Second,
     /// A tenth of the sum of the pauses since something last happened, between 100 microseconds and a second. Something
     /// happened if a child was born or had ended, a signal was sent, or bytes were read from the channel.
@@ -20,7 +20,7 @@ pub enum Pace {
     UpTo { hundredths: u64, by_cost: bool },
 }
 
-/// The paths of a host, and what it does in addition to its calls.
+/// The options of a host: its paths and its behaviour.
 #[derive(Clone, Copy)]
 pub struct HostOptions<'a> {
     /// The path of the inittab, and the path of the folder with its further files, which `with_folder` reads.
@@ -31,23 +31,24 @@ pub struct HostOptions<'a> {
     /// The path of the state file. A text is first written to this path followed by `.new`, and then renamed. If
     /// anything but a plain file exists at one of the two paths, the text is rejected.
     pub state: &'a str,
-    /// The path of a further file that the state must not replace; the host's own other files are never replaced. If it
-    /// is given, it is also reported on standard error, at the start, if the state could not be written as things are.
+    /// The path of a further file that the state must not replace; the host's own other files are never replaced. If
+    /// it is given, the host also checks at the start whether the state could be written, and reports on standard
+    /// error if not.
     pub spared: Option<&'a str>,
     /// The folder in which the output of each child is appended to `ID.log`. If the id begins with a dot or has a
     /// slash, the file is `_.log`, which is reported.
     ///
     /// With logs, children have no input. Each is started by `sh`, which becomes the process, or, if the program is
-    /// missing, writes that to the log and exits with a status. If a log cannot be opened, that is reported, and the
-    /// child is started as without logs.
+    /// missing, reports that in the log and exits with an error status. If a log cannot be opened, that is reported,
+    /// and the child is started as if there were no logs.
     pub logs: Option<&'a str>,
-    /// Whether each child is started in a session of its own, by setsid(1), which becomes the program. A signal then
-    /// goes to the child's process group, or to the child if it has no group of its own yet.
+    /// Whether each child is started in a session of its own, by setsid(1), which becomes the program. A signal is
+    /// then sent to the child's process group, or to the child if it has no group of its own yet.
     pub groups: bool,
-    /// The longest delay of a start in seconds, if starts are delayed. A child is then started by `sh`, which waits and
-    /// becomes the program, if its id was started before and, since that child began to run, less than this time has
-    /// passed. The delay is one second, and then twice the last one, up to the longest. It begins anew after a signal
-    /// to the child, and in each stage.
+    /// The longest delay of a start in seconds, if starts are delayed. A child is then started by `sh`, which waits
+    /// and becomes the program, if its id was started before and, since that child began to run, less than this time
+    /// has passed. The delay is one second, and then twice the last one, up to the longest. The delays start again
+    /// from zero after a signal to the child, and in each stage.
     pub respawn_delay: Option<u16>,
     pub pace: Pace,
     /// Whether the bell is created at the start, by mkfifo(1), if nothing exists at its path. A failure is reported,
@@ -58,14 +59,15 @@ pub struct HostOptions<'a> {
     /// on the cost of a turn; while it does not, which is reported, they last at most a second.
     pub watch: bool,
     /// Whether requests that are in the channel when it is first read are skipped: reading then begins after the last
-    /// whole one. If the channel does not exist at that time, nothing is skipped.
+    /// whole request. If the channel does not exist at that time, nothing is skipped.
     pub fresh: bool,
-    /// Whether each birth, each end and each signal of a child is reported on standard error; and each ignored file in
-    /// the inittab's folder, once, except those that are there at the start.
+    /// Whether each birth, each end and each signal of a child is reported on standard error; and also, once, each
+    /// ignored file that appears in the inittab's folder after the start.
     pub verbose: bool,
     /// Whether init rejects an inittab that has a faulty line, which the host then reports.
     pub strict: bool,
-    /// Whether it is reported on standard error, before the first start, that no child can be sent TERM, if that is so.
+    /// Whether the host checks, before the first start, that children can be sent TERM, and reports on standard error
+    /// if not.
     pub sends_term: bool,
 }
 

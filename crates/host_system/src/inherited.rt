@@ -1,5 +1,5 @@
-//! What a process inherits from the process that started it: which signals it ignores, and whether it can wait for
-//! children.
+//! Settings that a process inherits from the process that started it: which signals it ignores, and whether it can
+//! wait for children.
 
 use crate::commands::shell_command;
 use crate::launches::AT_ONCE;
@@ -29,9 +29,9 @@ pub fn ignored_signals<R: Files, A: Allocator + Copy>(rt: &R, alloc: A) -> Optio
     None
 }
 
-/// Returns whether children cannot be waited for, because CHLD is ignored and the system reaps each child by itself
-/// (wait(2)). If the system does not report which signals are ignored, this starts a shell that does nothing, and waits
-/// for it.
+/// Returns whether children cannot be waited for, because CHLD is ignored and the system therefore reaps each child
+/// itself (wait(2)). If the system does not report which signals are ignored, this starts a shell that does nothing,
+/// and waits for it.
 pub fn ignores_children<R: Files + Processes, A: Allocator + Copy>(rt: &R, alloc: A) -> bool {
     match ignored_signals(rt, alloc) {
         Some(ignored) => ignored & CHLD != 0,

@@ -1,4 +1,4 @@
-//! What is put in front of a child's program: setsid(1), and a shell that waits.
+//! The commands in front of a child's program: setsid(1), and a shell that waits.
 
 ghost use Rattle.std.specs.Prelude.{◌≡◌, ◌∷◌, [], codes, decimal, IfOk};
 ghost use Rattle.host_system.specs.Commands.{in_session, launched, words_in};
@@ -11,7 +11,7 @@ use std::alloc::{AllocError, Allocator};
 pub(crate) struct Launch {
     /// Whether it is started in a session of its own.
     pub(crate) groups: bool,
-    /// After how many seconds it is executed; 0 if at once.
+    /// The number of seconds after which it is executed; 0 means at once.
     pub(crate) delay: u16,
 }
 
@@ -21,14 +21,14 @@ pub(crate) const AT_ONCE: Launch = Launch {
     delay: 0,
 };
 
-/// The script of the shell that waits for as many seconds as its first argument says, and then becomes the program that
-/// the other arguments start. TERM ends it at once: it kills its sleep(1), waits for that, and ends by TERM itself.
-/// KILL is used because a shell that was forked, and is not sleep(1) yet, would ignore TERM. The program has the
-/// standard input of the shell, and ignores the signals that were ignored before.
+/// The script of the shell that waits for the number of seconds in its first argument, and then becomes the program
+/// that the other arguments start. TERM ends it at once: it kills its sleep(1), waits for that to end, and then ends
+/// by TERM. KILL is used because a shell that was forked, and is not sleep(1) yet, would ignore TERM. The program gets
+/// the standard input of the shell, and ignores the signals that the shell was started with as ignored.
 const WAITER: &str = "trap '{ kill -KILL $!; wait; } 2>/dev/null; trap - TERM; kill $$' TERM; \
     sleep \"$1\" & wait; trap - TERM; shift; exec \"$@\"";
 
-/// Returns the command of a program without arguments, with what is put in front of it.
+/// Returns the command of a program without arguments, with the commands in front of it.
 pub(crate) fn first_command<A: Allocator + Copy>(
     alloc: A,
     launch: Launch,

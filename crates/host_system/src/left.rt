@@ -1,5 +1,5 @@
-//! Processes that a stopped entry left running: its child had started them, the signals to the child do not reach them,
-//! and they are still running after it has ended.
+//! Processes that a stopped entry left running: its child had started them, the signals to the child do not reach
+//! them, and they are still running after the child has ended.
 
 use host_lines::{ChildMessage, HostLine, MessageSink};
 use init_words::{ChildNumber, Id};
@@ -37,14 +37,14 @@ impl<A: Allocator + Copy> LeftProcesses<A> {
         }
     }
 
-    /// Notes that a signal is about to be sent to the id's child, or to its group: finds anew the processes that the
-    /// child had started and the signal does not reach, as far as /proc and memory allow.
+    /// Looks again, before a signal is sent to the id's child or its group, for the processes that the child had
+    /// started and the signal does not reach, as far as /proc and memory allow.
     pub(crate) fn note<R: Files>(&mut self, rt: &R, groups: bool, id: &Id, child: ChildNumber) {
         self.found.retain(|process| process.id != *id);
         let _ = self.find(rt, groups, id, child.0);
     }
 
-    /// Finds the processes that a process had started, those that these had started, and so on.
+    /// Finds the processes that a process had started, the processes that these had started, and so on.
     fn find<R: Files>(
         &mut self,
         rt: &R,
@@ -79,14 +79,14 @@ impl<A: Allocator + Copy> LeftProcesses<A> {
         Ok(())
     }
 
-    /// Reports what the id's child, which has ended, left running, and then forgets it.
+    /// Reports the processes that the id's child, which has ended, left running, and then forgets them.
     pub(crate) fn tell<R: Files + MessageSink>(&mut self, rt: &R, id: &Id) {
         self.pass_ended(rt);
         let _ = self.print(rt, id);
         self.found.retain(|process| process.id != *id);
     }
 
-    /// Reports what each child left running, because the level is settled, and then forgets all of it.
+    /// Reports the processes that each child left running, because the level is settled, and then forgets them all.
     pub(crate) fn tell_all<R: Files + MessageSink>(&mut self, rt: &R) {
         self.pass_ended(rt);
         let mut told = None;
@@ -146,9 +146,9 @@ fn standing_of<R: Files, A: Allocator + Copy>(rt: &R, alloc: A, number: u32) -> 
     standing_in(&stat)
 }
 
-/// Reads both from the line of `stat`. The name is in parentheses and may have any byte. The state follows it, the
-/// group is the second word after that, and the start is the seventeenth after the group. A process that has ended and
-/// was not waited for yet counts as not running.
+/// Reads the process group and the start time from the line of `stat`. The name is in parentheses and may have any
+/// byte. The state follows the name, the group is the second word after the state, and the start time is the
+/// seventeenth word after the group. A process that has ended but has not been waited for counts as not running.
 fn standing_in(stat: &[u8]) -> Option<(u32, u64)> {
     let end = stat.iter().rposition(|byte| *byte == b')')?;
     let mut words = str::from_utf8(stat.get(end + 1..)?)

@@ -1,8 +1,8 @@
 //! A host that asks the operating system: real children, the request channel, the files of the inittab, and the state
 //! file. It reports values (`host_lines`) to a crate that words them (`host_messages`).
 //!
-//! `adding` keeps, for proofs alone, the list of calls that were made of the host, with its answers. The list has no
-//! bytes, and nothing is done for it when a program runs.
+//! `adding` keeps, for proofs alone, the list of calls that were made to the host, with its answers. The list has no
+//! bytes, and a running program spends nothing on it.
 #![tactic(auto)]
 
 mod adding;

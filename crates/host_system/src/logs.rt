@@ -25,8 +25,8 @@ use std::{io, str};
 /// The mode of a new log: only its owner and its group can read it.
 const MODE: u32 = 0o640;
 
-/// The folder of the files for the output of the children, if that goes to logs; and whether each child has a session
-/// of its own.
+/// The folder of the logs, if the output of the children goes to logs; and whether each child has a session of its
+/// own.
 #[derive(Drop)]
 pub(crate) struct Logs<A: Allocator> {
     pub(crate) folder: Option<String<A>>,
@@ -36,7 +36,7 @@ pub(crate) struct Logs<A: Allocator> {
 }
 
 impl<A: Allocator + Copy> Logs<A> {
-    /// Returns the logs in this folder, or without one, of children that have sessions of their own, or do not.
+    /// Returns the logs in this folder, if there is one. `groups` says whether children have sessions of their own.
     pub(crate) fn new(alloc: A, folder: Option<&str>, groups: bool) -> Result<Logs<A>, Memory>
         ensures folder { IfOk result (λ logs.
             option_map string_bytes logs.folder ≡ option_map (λ path. path.now) folder.entry) }
@@ -78,7 +78,8 @@ impl<A: Allocator + Copy> Logs<A> {
     }
 
     /// Returns the command that starts a process text, with its output in the id's log and no input if there are logs.
-    /// If the log cannot be opened, that is reported on standard error, and the process is started as without logs.
+    /// If the log cannot be opened, that is reported on standard error, and the process is started as if there were no
+    /// logs.
     fn logged<R: Files + MessageSink, B: Allocator + Copy>(
         &mut self,
         rt: &R,

@@ -1,5 +1,5 @@
-//! A record of the calls to the system, which only proofs can read, and the marks that add a call to it, one type for
-//! each kind of call.
+//! A record of the calls to the system, which only proofs can read, and the types that add a call to it, one for each
+//! kind of call.
 
 ghost use Rattle.std.specs.Prelude.{◌≡◌, []};
 
@@ -11,7 +11,7 @@ use std::marker::{Model, PhantomData};
 use std::process::{Command, ExitStatus};
 use std::time::Duration;
 
-/// A list of calls, newest first. It is the type of a note, and no value of it is ever created.
+/// A list of calls, newest first. It only serves as the type of a `Noted` value; no list is ever created.
 pub struct SystemCallList {
     marker: PhantomData<()>,
 }
@@ -25,7 +25,7 @@ impl Model for SystemCallList {
     ghost view = { λ _. [] };
 }
 
-/// Marks the note of no calls.
+/// Derives the empty list of calls.
 struct Empty;
 
 impl Reads<(), SystemCallList> for Empty {
@@ -41,7 +41,7 @@ pub fn nothing_asked() -> Noted<SystemCallList>
     Noted::of::<(), Empty>(&())
 }
 
-/// Returns the earlier record with the call noted.
+/// Returns the record with one more call, which `M` derives.
 pub(crate) fn noted<'a, X: Copy, M: Reads<(&'a Noted<SystemCallList>, X), SystemCallList>>(
     before: &'a Noted<SystemCallList>,
     call: X,
@@ -51,7 +51,7 @@ pub(crate) fn noted<'a, X: Copy, M: Reads<(&'a Noted<SystemCallList>, X), System
     Noted::of::<(&'a Noted<SystemCallList>, X), M>(&(before, call))
 }
 
-/// Marks a program that is to be started by a command. It is noted as not started, until it was.
+/// Derives a list with the start of a program. The start is recorded as failed until `Started` records its success.
 pub(crate) struct Spawned;
 
 impl<'a, A: Allocator> Reads<(&'a Noted<SystemCallList>, &'a Command<A>), SystemCallList>
@@ -63,7 +63,7 @@ impl<'a, A: Allocator> Reads<(&'a Noted<SystemCallList>, &'a Command<A>), System
     ghost value = { λ asked. spawn (words_in asked.1.now) None ∷ asked.0.now.value };
 }
 
-/// Marks that the program was started, as the process with this number.
+/// Derives a list in which the newest call started the process with this number.
 pub(crate) struct Started;
 
 impl<'a> Reads<(&'a Noted<SystemCallList>, u32), SystemCallList> for Started {
@@ -72,7 +72,7 @@ impl<'a> Reads<(&'a Noted<SystemCallList>, u32), SystemCallList> for Started {
     ghost value = { λ asked. born asked.1 asked.0.now.value };
 }
 
-/// Marks a wait for the process with a number.
+/// Derives a list with a wait for the process with a number.
 pub(crate) struct Waited;
 
 impl<'a> Reads<
@@ -89,7 +89,7 @@ impl<'a> Reads<
     ghost value = { λ asked. try_wait asked.1.0 (waited asked.1.1.now) ∷ asked.0.now.value };
 }
 
-/// Marks a KILL that was sent to it.
+/// Derives a list with a KILL to the process with a number.
 pub(crate) struct Killed;
 
 impl<'a> Reads<(&'a Noted<SystemCallList>, (u32, &'a io::Result<()>)), SystemCallList> for Killed {
@@ -100,7 +100,7 @@ impl<'a> Reads<(&'a Noted<SystemCallList>, (u32, &'a io::Result<()>)), SystemCal
     ghost value = { λ asked. send Kill asked.1.0 (is_ok asked.1.1.now) ∷ asked.0.now.value };
 }
 
-/// Marks a TERM that was sent to it.
+/// Derives a list with a TERM to the process with a number.
 pub(crate) struct Terminated;
 
 impl<'a> Reads<(&'a Noted<SystemCallList>, (u32, &'a io::Result<()>)), SystemCallList>
@@ -112,7 +112,7 @@ impl<'a> Reads<(&'a Noted<SystemCallList>, (u32, &'a io::Result<()>)), SystemCal
     ghost value = { λ asked. send Term asked.1.0 (is_ok asked.1.1.now) ∷ asked.0.now.value };
 }
 
-/// Marks a signal that was sent to its process group.
+/// Derives a list with a signal to a process group.
 pub(crate) struct GroupSent;
 
 impl<'a> Reads<
@@ -129,7 +129,7 @@ impl<'a> Reads<
         send_group asked.1.0 asked.1.1 (is_ok asked.1.2.now) ∷ asked.0.now.value };
 }
 
-/// Marks a program that is run to its end by a command.
+/// Derives a list with a program that was run to its end.
 pub(crate) struct Ran;
 
 impl<'a, A: Allocator> Reads<(&'a Noted<SystemCallList>, &'a Command<A>), SystemCallList> for Ran {
@@ -140,7 +140,7 @@ impl<'a, A: Allocator> Reads<(&'a Noted<SystemCallList>, &'a Command<A>), System
     ghost value = { λ asked. run (words_in asked.1.now) ∷ asked.0.now.value };
 }
 
-/// Marks a reading of the clock.
+/// Derives a list with a reading of the clock.
 pub(crate) struct ClockRead;
 
 impl<'a> Reads<(&'a Noted<SystemCallList>, &'a io::Result<Duration>), SystemCallList>
@@ -154,7 +154,7 @@ impl<'a> Reads<(&'a Noted<SystemCallList>, &'a io::Result<Duration>), SystemCall
         read_clock (option_map as_nanos (result_ok asked.1.now)) ∷ asked.0.now.value };
 }
 
-/// Marks a reading of the file at a path.
+/// Derives a list with a reading of the file at a path.
 pub(crate) struct FileRead;
 
 impl<'a, A: Allocator> Reads<

@@ -41,28 +41,28 @@ use std::rt::{Clock, Files};
 use std::time::Duration;
 use trace_events::{Handed, Happening, HappeningIn};
 
-/// A host that asks the operating system. It answers each order at once. It records its calls, and those that it makes
-/// to the system for them; only proofs can read these records.
+/// A host that asks the operating system. It answers each order at once. It records its calls, and the calls that it
+/// makes to the system to answer them; only proofs can read these records.
 ///
 /// - Starts: a process text is executed by `sh` if it has a character that a shell interprets; any other text is split
 ///   at blanks and tabs and started directly. A start for an id that has a child fails.
 /// - Looks: a child is looked at by waitpid(2) with WNOHANG.
 /// - Signals: SIGTERM is sent by kill(1), in one `sh` for all of a turn; SIGKILL is sent directly. With groups, both
 ///   are sent by kill(1) to the child's process group.
-/// - Pauses: a pause starts nothing but the helper that watches the children, if they are watched, and does not fail. It
-///   ends early when a request comes. If there is a FIFO with the name of the channel followed by `.bell`, that is when a
-///   byte is written to it; otherwise the channel is looked at during the pause, and it ends when the channel has grown.
-///   It also ends when a watched child ends.
-/// - Requests: they are read from the first byte of the channel's file on. Reading begins anew if the file is shorter
-///   than what was read, or another file is at its path.
-/// - Clock: it returns the seconds since the beginning of 1970 at its first reading, and continues from there by the
+/// - Pauses: a pause does not fail, and starts nothing except the helper that watches the children, if they are
+///   watched. It ends early when a request comes: if there is a FIFO with the name of the channel followed by `.bell`,
+///   when a byte is written to the FIFO; otherwise when a look at the channel during the pause finds that it has
+///   grown. It also ends when a watched child ends.
+/// - Requests: they are read from the first byte of the channel's file on. Reading starts again from the first byte if
+///   the file is shorter than the part already read, or another file is at its path.
+/// - Clock: it returns the seconds since the beginning of 1970 at its first reading, and continues from there with the
 ///   monotonic clock.
 ///
-/// Failures are reported on standard error, once when they begin and once when they are over. The host also reports
-/// requests that are in the channel before its first reading, requests that are ignored, and a channel that ends within
-/// a request. At each reading of the inittab, the faults of its lines are printed. If a child is stopped because an
-/// inittab that was read again has no line for it, or has one that is `off`, does not run in the level or has another
-/// action, that is reported on standard error.
+/// Failures are reported on standard error, once when they begin and once when they end. The host also reports
+/// requests that are in the channel before its first reading, requests that are ignored, and a channel that ends
+/// within a request. At each reading of the inittab, the faults of its lines are printed. If a child is stopped
+/// because an inittab that was read again has no line for it, or because its line is `off`, does not run in the level
+/// or has another action, that is reported on standard error.
 #[derive(Drop)]
 pub struct OsHost<
     R: Files<File = File> + Clock + MessageSink + Drop,
@@ -149,7 +149,7 @@ impl<
     ghost use Rattle.host_system.specs.Hearing.{AreBytesOfChannel};
     ghost use Rattle.host_system.specs.Hosts.{settings_of};
 
-    /// Returns a host without children, with a system of its own over the source.
+    /// Returns a host without children, with a new system over the source.
     pub fn new(
         rt: R,
         source: S::Source,
@@ -158,8 +158,8 @@ impl<
     ) -> Result<OsHost<R, S, A>, Memory>
         // before the first call, the system was asked to run helpers, and nothing else
         ensures asked { IfOk result (λ host. RunsHelpers [] host.asked) }
-        // the host has the settings of the options; it has no fault, no child and no calls, and has read nothing of its
-        // channel
+        // the host has the settings of the options; it has no fault, no child and no calls, and has read nothing from
+        // its channel
         ensures value { IfOk result (λ host. host ≡ record {
           faults = 0;
           strict = options.now.strict;
@@ -220,8 +220,8 @@ impl<
     /// Returns the record of the calls made to the host.
     pub fn calls(&self) -> Noted<CallList>
         ensures value { result.value ≡ self.now.calls }
-        // the calls are those of a host that held no child before them; for them, in their order, the system was asked
-        // exactly what is recorded, after helpers that were run before the first call
+        // the calls are those of a host that held no child before them; for these calls, in their order, the system
+        // was asked exactly what is recorded, after helpers that were run before the first call
         ensures own { AreSystemCallsFor (settings_of self.now) self.now.calls self.now.held
             self.now.asked }
     {
@@ -240,16 +240,16 @@ impl<
     /// Returns the record of what the host read from its channel's file.
     pub fn heard(&self) -> Noted<ChannelCallList>
         ensures value { result.value ≡ self.now.channel.told }
-        // the calls returned the bytes that were read of the channel's file, each once and in order, except the rest of
-        // the last request; and each request was read whole, from where the one before it ended, unless the channel was
-        // begun or created anew in between
+        // the calls returned the bytes that were read from the channel's file, each once and in order, except the rest
+        // of the last request; and each request was read whole, from the end of the one before it, unless reading
+        // began or the channel was created anew in between
         ensures own { AreBytesOfChannel self.now.calls self.now.channel }
     {
         let host = &*self.host;
         host.channel.told()
     }
 
-    /// Returns whether everything was printed that was to be printed: announcements, and faults of the inittab's lines.
+    /// Returns whether all output was printed: announcements, and faults of the inittab's lines.
     pub fn has_printed(&self) -> bool {
         let host = &*self.host;
         host.output.has_printed()
@@ -301,7 +301,7 @@ impl<
         }
     }
 
-    /// Pauses until the next deadline at most, or until a request comes or a watched child ends.
+    /// Pauses until a request comes or a watched child ends, but at most until the next deadline.
     fn rest(&mut self)
         ensures { self.new ≡ self.old }
     {
@@ -319,8 +319,8 @@ impl<
         }
     }
 
-    /// Starts a child for an id that has none, after the delay that follows from the earlier calls, and answers whether
-    /// it was born. A failure is reported.
+    /// Starts a child for an id that has none, after the delay that follows from the earlier calls, and returns the
+    /// answer to the order. A failure is reported.
     fn order_start<B: Allocator + Copy>(&mut self, alloc: B, id: Id, text: &[u8]) -> Answer
         ensures kind { IsTrue (is_start_answer result) }
         ensures held { StartChangesHeld self.old.held self.new.held id (Now result) }
@@ -352,8 +352,8 @@ impl<
         Answer::Born(number)
     }
 
-    /// Starts a child for an id that has none, after this delay in seconds, and returns its number. Room for what is
-    /// noted of the start is reserved before the child is born.
+    /// Starts a child for an id that has none, after this delay in seconds, and returns its number. Memory for the
+    /// record of the start is reserved before the child is born.
     fn start_child<B: Allocator + Copy>(
         &mut self,
         alloc: B,
@@ -392,7 +392,7 @@ impl<
         Ok(number)
     }
 
-    /// Notes the announced happening for what is reported about the children, and reports what belongs to it.
+    /// Records the announced happening for later reports about the children, and makes the reports that are due now.
     fn tell_after<B: Allocator>(&mut self, happening: &HappeningIn<B>)
         ensures { self.new ≡ self.old }
     {
@@ -405,9 +405,8 @@ impl<
         }
     }
 
-    /// Reports how the files of an inittab are read: the faults of their lines, or why there is no table. If init
-    /// accepts the table, it notes what the table has for each child. Returns whether everything to be printed was
-    /// printed.
+    /// Reports on the reading of an inittab: the faults of its lines, or why there is no table. If init accepts the
+    /// table, records how the table affects each child. Returns whether all output was printed.
     fn tell_reading<B: Allocator + Copy>(&mut self, alloc: B, parts: &[Part<B>]) -> bool
         ensures { self.new ≡ self.old }
     {
@@ -431,8 +430,8 @@ impl<
     }
 }
 
-/// Reports, if the options name a file that the state must not replace, that the state could not be written as things
-/// are.
+/// If the options name a file that the state must not replace, checks whether the state could be written now, and
+/// reports if not.
 fn tell_blocked<R: Files<File = File> + MessageSink, A: Allocator + Copy>(
     rt: &R,
     state: &mut StateFile<A>,
@@ -444,7 +443,7 @@ fn tell_blocked<R: Files<File = File> + MessageSink, A: Allocator + Copy>(
     }
 }
 
-/// Reports that the text of init's state came back cut, or as that of another generation.
+/// Reports that the text of init's state that was read back is truncated, or belongs to another generation.
 fn tell_handed(rt: &impl MessageSink, handed: &Handed) {
     match handed {
         Handed::Cut(length) => rt.tell(&HostLine::HandedCut(*length)),
@@ -453,7 +452,7 @@ fn tell_handed(rt: &impl MessageSink, handed: &Handed) {
     }
 }
 
-/// Returns the result of a system call, with an error converted into the fault that it is.
+/// Returns the result of a system call, with an error converted into a fault of the host.
 fn host_result<T>(outcome: io::Result<T>) -> Result<T, HostFault>
     ensures ok { IfOk result (λ value. outcome ≡ Ok value) }
     ensures err { OnErr result (IsErr outcome) }
@@ -465,7 +464,7 @@ fn host_result<T>(outcome: io::Result<T>) -> Result<T, HostFault>
     }
 }
 
-/// Returns the whole seconds of a time, or the fault that its error is.
+/// Returns the whole seconds of a time, with an error converted into a fault of the host.
 fn seconds_of(time: io::Result<Duration>) -> Result<u64, HostFault>
     ensures { AreSecondsOf (option_map as_nanos (result_ok time)) result }
 {
@@ -622,7 +621,7 @@ impl<R: Files<File = File> + Clock + MessageSink + Drop, S: System + Drop, A: Al
         ensures within { IfOk result (λ count. count ≤ length buffer.old) }
         ensures cause { FaultIsCounted self.old.faults self.new.faults (is_err result) }
         ensures fresh { self.new.channel.fresh ≡ self.old.channel.fresh }
-        // these are the next bytes that were read of the channel's file, after all those returned before
+        // these are the next bytes that were read from the channel's file, after all those returned before
         ensures handed { IfOk result (λ count.
             HandsOn self.old.channel self.new.channel (take count buffer.new)) }
         ensures kept { self.new ≡ record self.old {

@@ -1,4 +1,4 @@
-//! What a host prints on standard output: announcements, and the faults of the inittab's lines.
+//! The standard output of a host: announcements, and the faults of the inittab's lines.
 
 use host_lines::{Doing, MessageSink, Trouble};
 use init_words::Part;
@@ -17,7 +17,7 @@ pub(crate) struct Output<A: Allocator> {
 }
 
 impl<A: Allocator + Copy> Output<A> {
-    /// Returns an output to which nothing was printed, and which has not failed. It allocates no memory.
+    /// Returns an output before anything was printed. This allocates no memory.
     pub(crate) fn new(alloc: A) -> Output<A> {
         Output {
             alloc,
@@ -48,7 +48,7 @@ impl<A: Allocator + Copy> Output<A> {
         self.note(rt, &printed)
     }
 
-    /// Returns whether everything was printed that was to be printed.
+    /// Returns whether all output was printed.
     pub(crate) fn has_printed(&self) -> bool {
         !self.lost
     }

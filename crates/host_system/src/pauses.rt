@@ -9,8 +9,8 @@ use std::time::Instant;
 /// The microseconds in a hundredth of a second.
 const HUNDREDTH: u64 = 10_000;
 
-/// The shortest pause after a turn in which something happened, in microseconds: this many, or `SHORT_A_CHILD` for each
-/// child that is looked at in a turn, if that is more. So looks take at most half of the time.
+/// The shortest pause after a turn in which something happened, in microseconds: this many, or `SHORT_A_CHILD` for
+/// each child that a turn looks at, if that is more. So looks take at most half of the time.
 const SHORT: u64 = 100;
 
 const SHORT_A_CHILD: u64 = 2;
@@ -34,7 +34,7 @@ pub(crate) struct Pauses {
     next: u64,
     /// Whether an idle pause depends on the length of the turn before it.
     by_cost: bool,
-    /// Whether something happened since the last pause.
+    /// Whether something has happened since the last pause.
     stirred: bool,
     /// The sum of all pauses since something last happened, if each pause is a tenth of those before it.
     passed: Option<u64>,
@@ -43,7 +43,7 @@ pub(crate) struct Pauses {
 }
 
 impl Pauses {
-    /// Returns pauses of this pace, for children that are to be watched or not.
+    /// Returns pauses of this pace. `watch` says whether the children are to be watched.
     pub(crate) fn of(pace: Pace, watch: bool) -> Pauses {
         let mut pauses = Pauses {
             shortest: SECOND,
@@ -100,9 +100,10 @@ impl Pauses {
         }
     }
 
-    /// Returns the length of the next pause in microseconds, for this many children. If something happened in the turn,
-    /// it is the shortest pause, or less if the children are few; otherwise it is twice the pause before, or a tenth of
-    /// those before, up to the longest. That is shorter unless the children are watched.
+    /// Returns the length of the next pause in microseconds, for this many children. If something happened in the
+    /// turn, it is the shortest pause, or less if there are few children; otherwise it is twice the previous pause, or
+    /// a tenth of the sum of the previous pauses, up to the longest pause. The longest pause is shorter unless the
+    /// children are watched.
     pub(crate) fn next(&mut self, rt: &impl Clock, children: usize, is_watched: bool) -> u64 {
         let length = if self.stirred {
             self.shortest_over(children)

@@ -1,4 +1,4 @@
-//! A clock that nobody can set.
+//! A clock that does not change when the system time is set.
 
 use std::io;
 use std::io::ErrorKind;
@@ -13,14 +13,14 @@ struct Beginning {
 }
 
 /// A clock that returns the time since the beginning of 1970 as it was at its first reading, and continues from there
-/// by the monotonic clock.
+/// with the monotonic clock.
 #[derive(Drop)]
 pub(crate) struct SteadyClock {
     beginning: Option<Beginning>,
 }
 
 impl SteadyClock {
-    /// Returns a clock that was not read yet.
+    /// Returns a clock before its first reading.
     pub(crate) fn new() -> SteadyClock {
         SteadyClock { beginning: None }
     }

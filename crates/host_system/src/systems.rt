@@ -1,4 +1,4 @@
-//! What a host asks the operating system for: processes, the clock, and the file of the inittab.
+//! The part of the operating system that a host uses for its calls: processes, the clock, and the file of the inittab.
 
 ghost use Rattle.std.specs.Prelude.{◌≡◌, List, [], ◌∷◌, Some, None, is_ok, IfOk, OnErr, ℕ, option_map};
 ghost use Rattle.std.specs.Result.{result_ok};
@@ -27,15 +27,14 @@ use std::time::Duration;
 
 /// A system that starts processes, waits for them and sends them signals, has a clock, and reads files.
 ///
-/// A contract sees the calls that it was asked, each with its answer. Code that is given a `System`, and no
-/// `Processes`, has no other way to start a process, wait for it or send it a signal. It may have another clock and
-/// other files: the runtime of `OsHost` has them, for pauses, the channel, the inittab's folder, logs and the state
-/// file.
+/// A contract sees the calls to the system, each with its answer. Code that is given a `System`, and no `Processes`,
+/// has no other way to start a process, wait for it or send it a signal. It may use the clock and files in another
+/// way: `OsHost` uses those of its runtime for pauses, the channel, the inittab's folder, logs and the state file.
 pub trait System {
     /// The calls with their answers, newest first.
     ghost told: { Self → List SystemCall };
 
-    /// What it passes its calls on to, such as the runtime of a program.
+    /// The value to which it passes its calls, such as the runtime of a program.
     type Source: Drop;
 
     /// A process that it started.
@@ -44,7 +43,7 @@ pub trait System {
     /// The number of a process.
     ghost number: { Self.Started → ℕ };
 
-    /// Returns a system over this source that was not asked for anything yet.
+    /// Returns a system over this source, before its first call.
     fn over(source: Self::Source) -> Self
         ensures { told result ≡ [] };
 
@@ -97,12 +96,12 @@ pub trait System {
             ≡ send_group signal (number process.old) (is_ok result) ∷ told self.old }
         ensures same { number process.new ≡ number process.old };
 
-    /// Ends the turn: what was started for it only, such as the shell that sends signals, may end.
+    /// Ends the turn: anything that was started for this turn only, such as the shell that sends signals, may end.
     fn end_turn(&mut self)
         ensures { told self.new ≡ told self.old };
 
-    /// Starts the helper that watches processes, by this command. It exits when one of them ends. It is none of the
-    /// processes of `spawn`, and is not recorded.
+    /// Starts the helper that watches processes, by this command. The helper exits when one of them ends. It does not
+    /// count as a process of `spawn`, and is not recorded.
     fn watch<A: Allocator + Copy>(&mut self, command: &mut Command<A>) -> io::Result<()>
         ensures { told self.new ≡ told self.old };
 
@@ -123,7 +122,7 @@ pub trait System {
         ensures { told self.new ≡ run (words_in command.old) ∷ told self.old };
 
     /// Returns the time since the beginning of 1970 as it was at the first reading, continued from there by a clock
-    /// that nobody can set (clock_gettime(2), CLOCK_MONOTONIC).
+    /// that nobody can set (CLOCK_MONOTONIC of clock_gettime(2)).
     fn clock(&mut self) -> io::Result<Duration>
         // recorded with the time, or as failed
         ensures { told self.new
@@ -142,7 +141,7 @@ pub struct Process<P: OpenProcess + Drop> {
     child: Child<P>,
 }
 
-/// The operating system. Each call records what was asked and answered.
+/// The operating system. It records each call with its answer.
 #[derive(Drop)]
 pub struct OsSystem<R: Processes + Clock + Files + Drop> {
     rt: R,

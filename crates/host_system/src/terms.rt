@@ -1,5 +1,5 @@
-//! The helper that sends signals: TERM to children, and TERM and KILL to their process groups. It is one shell for all
-//! of a turn.
+//! The helper that sends signals: TERM to children, and TERM and KILL to their process groups. One shell sends all
+//! signals of a turn.
 
 ghost use Rattle.host_system.specs.Asking.{RunsHelpers};
 
@@ -13,17 +13,16 @@ use std::io;
 use std::io::{Error, ErrorKind, Read};
 use std::process::{Child, ExitStatus, OpenProcess, Processes, Stdio};
 
-/// The script of the helper. For each line it sends the signal to the process with the number. If the line has a third
-/// word, it sends the signal to the process group of that number, or, if there is none because setsid(1) has not
-/// created it yet, to the process. It answers `0` if the signal was sent, `-` if there is no kill(1), and `1`
-/// otherwise.
+/// The script of the helper. For each line, it sends the signal to the process with the number. If the line has a
+/// third word, it sends the signal to the process group with that number, or to the process if setsid(1) has not
+/// created the group yet. It answers `0` if the signal was sent, `-` if there is no kill(1), and `1` otherwise.
 const HELPER: &str = "while read -r signal number group; do \
     [ \"$group\" ] && kill \"-$signal\" \"-$number\" 2>/dev/null || kill \"-$signal\" \"$number\"; \
     case $? in 0) echo 0 ;; 127) echo - ;; *) echo 1 ;; esac; done";
 
 /// Shell scripts that exit with status 0 if the shell finds kill(1), and, for the second one, setsid(1) too. Both exit
-/// with status 2 if they cannot open a file: the statuses of shells for that differ, and one shell uses that of a
-/// command that is not found.
+/// with status 2 if they cannot open a file: shells differ in their status for that, and one shell uses the status of
+/// a command that is not found.
 const FINDS_KILL: &str = "true >/dev/null || exit 2; command -v kill >/dev/null";
 
 const FINDS_BOTH: &str =
@@ -108,8 +107,8 @@ impl<P: OpenProcess + Drop> TermSender<P> {
     }
 }
 
-/// Returns an error if no process can be sent TERM, or, with `groups`, started in a session of its own: there is no
-/// `sh`, or it finds no `kill` or no `setsid`.
+/// Returns an error if no process can be sent TERM, or, with `groups`, started in a session of its own, because there
+/// is no `sh`, or it finds no `kill` or no `setsid`.
 pub(crate) fn check_sending<S: System, A: Allocator + Copy>(
     system: &mut S,
     alloc: A,

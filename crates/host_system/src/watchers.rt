@@ -1,5 +1,5 @@
 //! The helper that watches the children: it exits as soon as one of them ends, so that init need not look at them
-//! meanwhile.
+//! until then.
 
 use crate::commands::{BoxedCommand, add_word, shell_command};
 use crate::launches::AT_ONCE;
@@ -12,16 +12,16 @@ use std::process::{Child, Command, ExitStatus, OpenProcess, Processes, Stdio};
 use std::rt::Files;
 
 /// The script of the helper. It becomes waitpid(1) or, if there is none, perl(1), which waits in the same way: by
-/// pidfd_open(2), whose number is 434 on every machine. Both exit with status 0 when one of the processes ends whose
-/// numbers are the arguments. Init itself is the first of them, so that the helper does not outlive it. If perl cannot
-/// watch a process, its status is the error number plus `ERRORS`.
+/// pidfd_open(2), whose number is 434 on every machine. Both take process numbers as arguments, and exit with status 0
+/// when one of these processes ends. Init itself is the first of them, so that the helper does not outlive it. If perl
+/// cannot watch a process, its status is the error number plus `ERRORS`.
 const HELPER: &str = "LC_ALL=C; export LC_ALL; \
     command -v waitpid >/dev/null && exec waitpid -c 1 \"$PPID\" \"$@\"; \
     command -v perl >/dev/null || exit 127; \
     exec perl -e '($fd = syscall(434, $_ + 0, 0)) < 0 && exit(64 + $!), vec($all, $fd, 1) = 1 for @ARGV; \
     select($all, undef, undef, undef)' \"$PPID\" \"$@\"";
 
-/// What perl adds to an error number.
+/// The number that perl adds to an error number.
 const ERRORS: i32 = 64;
 
 /// The status of a shell that does not find a program.
@@ -34,7 +34,7 @@ pub(crate) fn watch_command<A: Allocator + Copy>(alloc: A) -> io::Result<BoxedCo
     Ok(command)
 }
 
-/// Returns an error if a helper with this status exited for another reason than the end of a process.
+/// Returns an error if the status shows that the helper exited for another reason than the end of a process.
 pub(crate) fn watch_result(status: Option<ExitStatus>) -> io::Result<()> {
     match status.map(|status| status.code()) {
         Some(Some(0)) => Ok(()),
@@ -48,7 +48,8 @@ pub(crate) fn watch_result(status: Option<ExitStatus>) -> io::Result<()> {
     }
 }
 
-/// The helper, if it is running, and the pipe that is its output. The pipe is at its end when the helper has exited.
+/// The helper, if it is running, and the pipe to which its output goes. The pipe reaches its end when the helper
+/// exits.
 #[derive(Drop)]
 pub struct Watcher<P: OpenProcess + Drop> {
     helper: Option<(Child<P>, PipeReader)>,

@@ -1,4 +1,5 @@
-//! When the children of a host are watched by a helper, so that they need not be looked at every tenth of a second.
+//! Decides when a helper watches the children of a host, so that the host need not look at them every tenth of a
+//! second.
 
 ghost use Rattle.std.specs.Prelude.{◌≡◌, ◌==◌, ◌||◌, IsTrue, true};
 ghost use Rattle.host_system.specs.Watching.{changes_children};
@@ -11,10 +12,11 @@ use host_lines::{Doing, MessageSink, Trouble};
 use init_words::Answer;
 use std::alloc::Allocator;
 
-/// The shortest pause in which a helper is started, in microseconds. So none is started while one event follows another.
+/// The shortest pause in which a helper is started, in microseconds. So none is started while events follow each other
+/// quickly.
 const SHORTEST: u64 = 10_000;
 
-/// The name in messages of what is watched.
+/// The name of the children in messages about the helper.
 const CHILDREN: &str = "the children";
 
 /// Whether the children are to be watched, and which of them are.
@@ -29,7 +31,7 @@ pub(crate) struct Watching {
 }
 
 impl Watching {
-    /// Returns a value for which nothing is watched yet.
+    /// Returns a value before any child is watched.
     pub(crate) fn new(is_wanted: bool) -> Watching {
         Watching {
             is_wanted,
@@ -39,7 +41,7 @@ impl Watching {
         }
     }
 
-    /// Notes an answer: the children change if one was born or had ended.
+    /// Records an answer: the children change if one was born or had ended.
     pub(crate) fn note(&mut self, reply: &Reply)
         ensures { changes_children reply.now ≡ true → self.new.is_stale ≡ true }
     {
@@ -48,7 +50,7 @@ impl Watching {
         }
     }
 
-    /// Ends a helper that watches other children than there are now.
+    /// Ends a helper that watches other children than the present ones.
     pub(crate) fn end_stale<S: System>(&self, system: &mut S)
         ensures { S.told system.new ≡ S.told system.old }
     {
@@ -57,8 +59,8 @@ impl Watching {
         }
     }
 
-    /// Returns whether nothing needs a look before a child ends: there are none, or a helper watches them, and no call
-    /// failed since the last pause that would be tried again. The second number is that of all failed calls.
+    /// Returns whether no look is needed before a child ends: there are no children, or a helper watches them, and no
+    /// call that init would repeat has failed since the last pause. `faults` is the number of all failed calls.
     pub(crate) fn is_complete(&mut self, has_helper: bool, children: usize, faults: u64) -> bool
         ensures { result ≡ true
             → IsTrue (has_helper || children == 0) × (faults ≡ self.old.faults) }
@@ -89,7 +91,7 @@ impl Watching {
         }
     }
 
-    /// Reports how a helper has exited, if that is a failure. Usually it has because a child ended.
+    /// Reports how a helper exited, if that is a failure. Usually it exits because a child ended.
     pub(crate) fn join<R: MessageSink, S: System>(&mut self, rt: &R, system: &mut S)
         ensures { S.told system.new ≡ S.told system.old }
     {

@@ -141,9 +141,9 @@ abbrev pub stays_called : Act → Bool
 stays_called act.Ondemand = true
 stays_called _ = false
 
--- an entry that starts in the stage is to be started now: a respawn entry if it has no child (idle), an entry of boot
--- or of a level if no start of it was ordered (fresh), an entry for a power event if it was called, and an ondemand
--- entry if it was called and has no child
+-- an entry that starts in the stage is to be started now: a respawn entry if it has no child and none is being started
+-- (idle), an entry of boot or of a level if no start of it was ordered (fresh), an entry for a power event if it was
+-- called, and an ondemand entry if it was called and is idle
 abbrev pub wanted_by : Act → Bool → Bool → Bool → Bool
 wanted_by act.Respawn idle fresh called = idle
 wanted_by act.Sysinit idle fresh called = fresh

@@ -185,8 +185,9 @@ impl Act {
     }
 
     /// Returns whether an entry with this action that starts in the stage is to be started now: a respawn entry if it
-    /// has no child (`idle`), an entry of boot or of a level if no start of it was ordered there (`fresh`), an entry
-    /// for a power event if it was called, and an ondemand entry if it was called and has no child.
+    /// has no child and none is being started (`idle`), an entry of boot or of a level if no start of it was ordered
+    /// there (`fresh`), an entry for a power event if it was called, and an ondemand entry if it was called and is
+    /// idle.
     pub fn is_wanted(self, idle: bool, fresh: bool, called: bool) -> bool
         ensures { result ≡ wanted_by self idle fresh called }
     {

@@ -154,7 +154,7 @@ abbrev pub keep_read : Text → Option ℕ
 keep_read word =
     option_and_then (λ keep. if nat_lt 0 keep then Some keep else None) (number_read (KEEP_LIMIT + 1) word)
 
--- the number of files put away that are kept, if it is given, which requires a length at which they are
+-- the number of put-away files that are kept, if it is given, which requires a length at which they are put away
 abbrev pub keep_in : Option Text → Option Text → Option (Option ℕ)
 keep_in None size = Some None
 keep_in (Some word) None = None
@@ -180,13 +180,14 @@ delay_given rows = delay_in (first_of (codes "--respawn-delay") rows)
 
 -- The arguments of `initd run`. First the paths of the inittab, of the folder of its further files, if given, of the
 -- channel of requests, and of the state file; and whether to skip the requests that the channel already has. For the
--- trace: its path, if given; whether it is brief; the length at which it is put away, if any; the number of files kept,
--- if not all; and whether each happening is judged. For the run: the level to go to, if given; the maximum number of
--- turns; whether it ends when nothing is left to do and nothing runs; whether its end is specified; the longest pause,
--- in hundredths of a second; and the id whose last status becomes its own, if given. The others: whether each start and
--- end of a child is reported; the folder of the children's output, if given; whether signals go to process groups; the
--- longest delay of a start in seconds, if starts are delayed; whether an inittab with a faulty line is rejected;
--- whether lines begin with the time; whether the bell is created; and whether the children are watched.
+-- trace: its path, if given; whether it is brief; the length at which it is put away, if any; the number of put-away
+-- files that are kept, if not all; and whether each happening is judged. For the run: the level to go to, if given;
+-- the maximum number of turns; whether it ends when nothing is left to do and no child is running; whether its end is
+-- specified; the longest pause, in hundredths of a second; and the id whose last status becomes the status of the run,
+-- if given. The others: whether each start and end of a child is reported; the folder of the children's output, if
+-- given; whether signals go to process groups; the longest delay of a start in seconds, if starts are delayed; whether
+-- an inittab with a faulty line is rejected; whether lines begin with the time; whether the bell is created; and
+-- whether the children are watched.
 pub record RunArguments : Type 0 where
   pub inittab : Text
   pub inittab_dir : Option Text

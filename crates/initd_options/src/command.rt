@@ -26,7 +26,7 @@ pub struct SimulateWords {
 pub struct CheckWords {
     /// Whether the trace is still being written, so that it is judged up to its last complete happening.
     pub growing: bool,
-    /// Whether the pieces that were put away before it are judged with it.
+    /// Whether the earlier pieces of the trace, which were put away, are judged with it.
     pub pieces: bool,
     /// The path of the trace.
     pub trace: String,

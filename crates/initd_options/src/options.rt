@@ -29,9 +29,9 @@ pub struct RunWords {
     pub trace: Option<String>,
     /// Whether the trace is brief, which omits rounds in which nothing happened.
     pub brief: bool,
-    /// The length in bytes at which the file of the trace is put away, if it is.
+    /// The length in bytes at which the file of the trace is put away, if one is given.
     pub trace_size: Option<u64>,
-    /// The number of files put away that are kept, if not all are.
+    /// The number of put-away files that are kept, if not all of them.
     pub trace_keep: Option<u64>,
     /// Whether each happening is judged by the laws of traces during the run.
     pub judge: bool,
@@ -39,7 +39,7 @@ pub struct RunWords {
     pub level: Option<Level>,
     /// The maximum number of turns; `u64::MAX` means no limit.
     pub turns: u64,
-    /// Whether the run ends when nothing is left to do and nothing runs.
+    /// Whether the run ends when nothing is left to do and no child is running.
     pub drain: bool,
     /// Whether the end of the run is specified by `--turns`, `--forever` or `--drain`.
     pub names_end: bool,
@@ -51,7 +51,7 @@ pub struct RunWords {
     pub verbose: bool,
     /// The folder to which the output of the children is written, if one is given.
     pub logs: Option<String>,
-    /// Whether each child is in a session of its own, and signals go to its process group.
+    /// Whether each child runs in a session of its own, and signals go to its process group.
     pub groups: bool,
     /// The longest delay of a start in seconds, 1 to 3,600, if starts that follow each other too soon are delayed.
     pub respawn_delay: Option<u16>,
@@ -266,7 +266,7 @@ fn read_pause_option(alloc: Global, matches: &ArgMatches) -> Result<u64, WordFau
     )
 }
 
-/// Returns the longest pause if none is given, in hundredths of a second.
+/// Returns the default of the longest pause, in hundredths of a second.
 fn pause_default(matches: &ArgMatches) -> u64
     ensures { result ≡ pause_default (rows_of (found_of matches.now)) }
 {
