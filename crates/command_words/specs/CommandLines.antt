@@ -1,5 +1,6 @@
--- How a table of options and arguments defines a command line in clap's terms, and which values the arguments give its
--- rows. `line_of` and `bare_line` are opaque, because a goal in which they unfold contains the whole parser.
+-- The command line that a table of options and arguments defines in clap's terms, and the values that arguments give
+-- to the rows of the table. `line_of` and `bare_line` are opaque, because a goal in which they unfold contains the
+-- whole parser.
 use Rattle.std.specs.Prelude.{◌≡◌, ℕ, Bool, true, false, List, [], ◌∷◌, ◌++◌, ◌==◌, if◌then◌else◌, codes, drop, length}
 use Rattle.std.specs.Prelude.{map, Option, Some, None, unwrap_or}
 use Rattle.std.specs.Borrow.{Bor}

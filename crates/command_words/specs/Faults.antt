@@ -1,11 +1,11 @@
--- Why a command line is rejected, and what is reported.
+-- The reasons for rejecting a command line, and the reports about it.
 use Rattle.std.specs.Prelude.{◌==◌, if◌then◌else◌, ◌++◌, codes, length, Option, Some, None, string_bytes}
 use Rattle.clap.specs.Words.{Text}
 use Rattle.program_io.specs.Reports.{AppendsReport, ReportList}
 use Rattle.command_words.specs.declared.faults.WordFault.{WordFault}
 use Rattle.command_words.specs.declared.faults.WordFault.TheVariants.{Usage, Memory}
 
--- why the arguments are not a command line of the program; none if memory allocation failed
+-- the reason why the arguments are not a command line of the program; none if memory allocation failed
 abbrev pub reason_of : WordFault → Option Text
 reason_of (Usage reason) = Some (string_bytes reason)
 reason_of Memory = None
@@ -19,7 +19,7 @@ reason_line name reason = name ++ (codes ": " ++ (reason ++ codes "\n"))
 abbrev pub usage_report : Text → Text → Text → Text → Text
 usage_report name reason whole short = if length reason == 0 then whole else reason_line name reason ++ short
 
--- a rejection of the arguments was reported, with the program's usage
+-- the report that the arguments are rejected, with the program's usage, was added
 abbrev pub ReportsUsage : Text → Text → Text → ReportList → ReportList → Type 0
 ReportsUsage name whole short old new =
     (reason : Text) × AppendsReport old new (usage_report name reason whole short)

@@ -1,4 +1,4 @@
--- Which known word a misspelt one was probably meant to be.
+-- The known word that a misspelt word was probably meant to be.
 use Rattle.std.specs.Prelude.{ℕ, Bool, true, false, ◌&&◌, ◌||◌, if◌then◌else◌, List, [], ◌∷◌, find, Option}
 use Rattle.std.specs.Borrow.{Bor}
 use Rattle.std.specs.Char.{eq_ignore_ascii_case}

@@ -1,4 +1,4 @@
-//! Why a command line was rejected, and the messages that report it.
+//! The faults for which a command line is rejected, and the messages that report them.
 
 ghost use Rattle.std.specs.Prelude.{◌≡◌, ◌≢◌, ◌↔◌, IfSome, IsSome, IsTrue};
 ghost use Rattle.clap.specs.Words.{kind_of};
@@ -68,7 +68,7 @@ fn refusal(alloc: Global, error: &Error) -> Result<String, AllocError> {
     }
 }
 
-/// Extracts the reason from a message of clap. Only the kinds of errors that a table of rows can cause are recognized.
+/// Extracts the reason from a message of clap. It recognizes only the kinds of errors that a table of rows can cause.
 fn reason_in(alloc: Global, text: &str) -> Result<String, AllocError> {
     let (head, tip) = text.split_once("\n\n").unwrap_or((text, ""));
     if let Some(word) = within("error: unexpected argument '", head, "' found") {

@@ -49,7 +49,7 @@ fn taking<'a>(arg: Arg<'a>, value: &'static str, default: &'static str) -> Arg<'
     arg.default_value(default)
 }
 
-/// Makes an argument positional: optional, repeated or required, as `count` says.
+/// Makes an argument positional: optional if `count` is `?`, repeated if it is `..`, otherwise required.
 fn standing<'a>(arg: Arg<'a>, count: &str) -> Arg<'a>
     ensures rule { rule_of result ≡ standing count.now (rule_of arg.entry) }
     ensures local { result.global ≡ arg.entry.global }

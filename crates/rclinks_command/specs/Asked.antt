@@ -13,7 +13,7 @@ pub data LinkCall : Type 0 where
   MakeFolder : List ℕ → LinkCall
   MakeLink : List ℕ → List ℕ → LinkCall
 
--- these calls, the newest first, were made, if the calls are known
+-- these calls, newest first, were made, if the calls are known
 abbrev pub Asks : Option (List LinkCall) → Option (List LinkCall) → List LinkCall → Type 0
 Asks old new calls = IfSome new (λ all. (before : List LinkCall) × (old ≡ Some before) × (all ≡ calls ++ before))
 
@@ -21,7 +21,7 @@ Asks old new calls = IfSome new (λ all. (before : List LinkCall) × (old ≡ So
 abbrev pub folder_path : List ℕ → Level → List ℕ
 folder_path dir level = dir ++ (codes "/rc" ++ level_code level ∷ codes ".d")
 
--- the path of an entry in such a folder
+-- the path of an entry in a runlevel's folder
 abbrev pub entry_path : List ℕ → Level → EntryText → List ℕ
 entry_path dir level entry = folder_path dir level ++ (codes "/" ++ entry.name)
 
@@ -31,6 +31,6 @@ calls_by Remove dir level entry = RemoveFile (entry_path dir level entry) ∷ []
 calls_by Make dir level entry =
     MakeLink entry.leads (entry_path dir level entry) ∷ MakeFolder (folder_path dir level) ∷ []
 
--- the calls for a change in a directory, the newest first
+-- the calls for a change in a directory, newest first
 abbrev pub calls_for : List ℕ → ChangeText → List LinkCall
 calls_for dir c = calls_by c.act dir c.level c.entry

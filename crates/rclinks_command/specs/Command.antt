@@ -38,13 +38,13 @@ plan_status plan_fault.Memory = 4
 abbrev pub HasNoPlan : List ScriptText → Type 0
 HasNoPlan scripts = (found : PlanFault Global) × IsRefused scripts found × (plan_status found ≡ 1)
 
--- the first of the files that is not a script is rejected for its name or its header
+-- the first file that is not a script is rejected because of its name or its header
 abbrev pub HasRefused : KnownTexts → List (List ℕ) → Type 0
 HasRefused text_at paths = (before later : List (List ℕ)) × (path : List ℕ) × (paths ≡ before ++ path ∷ later)
     × ((scripts : List ScriptText) × AreScripts text_at before scripts)
     × (found : FileFault) × IsNoScriptAt text_at path found × (file_status found ≡ 1)
 
--- a parsed command line: report all faults (--all); leave out scripts that can't be read or planned (--skip); put those
+-- a parsed command line: report all faults (--all); omit scripts that can't be read or planned (--skip); put scripts
 -- that name `$all` last (--all-last); print changes instead of making them (-n); read no facility files
 -- (--no-facilities); keep the runlevels of existing links (--keep); remove links whose script is gone (--prune); the
 -- directory of the folders that are written (--write); and the paths of the files
@@ -93,22 +93,22 @@ abbrev pub line_with : List (List ℕ) → Line → Line
 line_with facilities line =
     record line { files = files_with facilities (is_some line.dir && not line.bare) line.files }
 
--- The property holds of the scripts that are planned. Without --skip these are the scripts of all files. With --skip
--- they are those of the files that are scripts, without some of them, each left out because there was no plan with it.
--- In both cases the facility `$all` is added if those that name it come last.
+-- The property holds for the scripts that are planned. Without --skip, these are the scripts of all files. With
+-- --skip, these are the files that are scripts, except some that were omitted, each because there was no plan with it.
+-- In both cases, the facility `$all` is added if the scripts that name it come last.
 abbrev pub ScriptsOf : KnownTexts → (skips last : Bool) → List (List ℕ) → (List ScriptText → Type 0) → Type 0
 ScriptsOf text_at false last paths P =
     (scripts : List ScriptText) × AreScripts text_at paths scripts × P (with_all last scripts)
 ScriptsOf text_at true last paths P = (read rest : List ScriptText) × (faults : List FileFault)
     × Reads text_at paths read faults × LeavesSome (with_all last read) rest × P rest
 
--- the property holds of a plan of these scripts
+-- the property holds for a plan of these scripts
 abbrev pub PlanOf : KnownTexts → Line → (List PlannedText → Type 0) → Type 0
 PlanOf text_at line P =
     ScriptsOf text_at line.skips line.last line.files
     (λ scripts. (plan : List PlannedText) × IsPlan scripts plan × P plan)
 
--- the folders of a directory are written
+-- the run changes the folders of a directory
 abbrev pub writes : Line → Bool
 writes line = is_some line.dir && not line.dry
 
@@ -116,7 +116,7 @@ abbrev pub writes_by : Option Line → Bool
 writes_by None = false
 writes_by (Some line) = writes line
 
--- what is done in the folders of a directory: the changes after which they hold a plan's links are printed or made
+-- the changes after which the folders of a directory hold a plan's links were printed or made
 abbrev pub DoesIn : Bool → Bool → KnownScripts → KnownFolders → List ℕ → KnownFolders → Option (List ℕ)
     → Option (List ℕ)
     → List PlannedText → Type 0
@@ -124,20 +124,21 @@ DoesIn true prunes scripts before dir after old new plan =
     (text : List ℕ) × Previews before scripts prunes dir plan text × Appends old new text
 DoesIn false prunes scripts before dir after old new plan = IsWritten before scripts prunes dir plan after
 
--- what is done for a plan: its links are printed, or the folders of a directory are changed to hold them
+-- the run did its work for a plan: it printed the links, or printed or made the changes after which the folders of a
+-- directory hold them
 abbrev pub DoesBy : Option (List ℕ) → Line → KnownScripts → KnownFolders → KnownFolders → Option (List ℕ)
     → Option (List ℕ) → List PlannedText → Type 0
 DoesBy None line scripts before after old new plan = Appends old new (plan_text plan)
 DoesBy (Some dir) line scripts before after old new plan =
     InFolders line.keeps before dir plan (DoesIn line.dry line.prunes scripts before dir after old new)
 
--- what a run does: the scripts of its files have a plan, which is carried out
+-- the whole work of a run: the scripts of its files have a plan, which was carried out
 abbrev pub Does : KnownTexts → Line → KnownScripts → KnownFolders → KnownFolders → Option (List ℕ) → Option (List ℕ)
     → Type 0
 Does text_at line scripts before after old new =
     PlanOf text_at line (DoesBy line.dir line scripts before after old new)
 
--- the part of the changes that was printed or made: a prefix of their text, or the first of them
+-- part of the changes was printed or made: a prefix of their text, or the first changes
 abbrev pub PartIn : Bool → Bool → KnownScripts → KnownFolders → List ℕ → KnownFolders → Option (List ℕ)
     → Option (List ℕ)
     → List PlannedText → Type 0
@@ -145,14 +146,15 @@ PartIn true prunes scripts before dir after old new plan =
     (text : List ℕ) × Previews before scripts prunes dir plan text × AppendsPrefix old new text
 PartIn false prunes scripts before dir after old new plan = IsWrittenPart before scripts prunes dir plan after
 
--- the part that was done for a plan: a prefix of its text, or that part of the changes
+-- part of the work for a plan was done: a prefix of its text was printed, or that part of the changes was printed or
+-- made
 abbrev pub PartBy : Option (List ℕ) → Line → KnownScripts → KnownFolders → KnownFolders → Option (List ℕ)
     → Option (List ℕ) → List PlannedText → Type 0
 PartBy None line scripts before after old new plan = AppendsPrefix old new (plan_text plan)
 PartBy (Some dir) line scripts before after old new plan =
     InFolders line.keeps before dir plan (PartIn line.dry line.prunes scripts before dir after old new)
 
--- the part that a run does: the scripts of its files have a plan, of which this part is carried out
+-- part of the work of a run: the scripts of its files have a plan, part of which was carried out
 abbrev pub DoesPart : KnownTexts → Line → KnownScripts → KnownFolders → KnownFolders → Option (List ℕ)
     → Option (List ℕ) → Type 0
 DoesPart text_at line scripts before after old new =
@@ -164,16 +166,16 @@ TakenBy None line scripts before plan = ⊥
 TakenBy (Some dir) line scripts before plan =
     InFolders line.keeps before dir plan (IsTaken before scripts line.prunes dir)
 
--- why a run on these files is refused: a file is rejected, or the scripts have no plan
+-- a run on these files is refused: a file is rejected, or the scripts have no plan
 abbrev pub IsRefusedFor : KnownTexts → (skips last : Bool) → List (List ℕ) → Type 0
 IsRefusedFor text_at skips last paths = HasRefused text_at paths ⊎ ScriptsOf text_at skips last paths HasNoPlan
 
--- why a run is refused: because of its files, or because a name is occupied
+-- a run is refused because of its files, or because a name is occupied
 abbrev pub IsRefusedBy : KnownTexts → Line → KnownScripts → KnownFolders → Type 0
 IsRefusedBy text_at line scripts before =
     IsRefusedFor text_at line.skips line.last line.files ⊎ PlanOf text_at line (TakenBy line.dir line scripts before)
 
--- a refusal for a file or the plan is reported; or a name is occupied
+-- the rejection of a file or of the plan is reported; or a name is occupied
 abbrev pub TellsRefused : KnownTexts → Line → KnownScripts → KnownFolders → ReportList → ReportList → Type 0
 TellsRefused text_at line scripts before old new =
     ((report : List ℕ) × ReportsRefused text_at line.last line.files [] report × AppendsReport old new report)

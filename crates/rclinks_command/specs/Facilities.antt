@@ -8,6 +8,7 @@ use Rattle.rclinks_command.specs.Files.{last_part}
 abbrev pub is_unnamed : List (List ℕ) → List ℕ → Bool
 is_unnamed files facility = not (list_any (λ file. bytes_eq (last_part file) (last_part facility)) files)
 
--- the files, and before them, if they are used, the facility files with a name that none of the files has
+-- the files; if the facility files are used, they come before the files, except those with the same name as one of the
+-- files
 abbrev pub files_with : List (List ℕ) → Bool → List (List ℕ) → List (List ℕ)
 files_with facilities takes files = if takes then filter (is_unnamed files) facilities ++ files else files

@@ -38,8 +38,8 @@ AreScripts text_at [] (s ∷ scripts) = ⊥
 AreScripts text_at (path ∷ paths) [] = ⊥
 AreScripts text_at (path ∷ paths) (s ∷ scripts) = IsScriptAt text_at path s × AreScripts text_at paths scripts
 
--- the fault of a file with this text, whose header has this fault; for a keyword that occurs twice, with its second
--- line
+-- the fault of a file with this text, whose header has this fault; if a keyword occurs twice, the fault contains the
+-- number of the second line
 abbrev pub refusal_of : List ℕ → HeaderFault → FileFault
 refusal_of text header_fault.NoBegin = fault.Header header_fault.NoBegin None
 refusal_of text header_fault.NoEnd = fault.Header header_fault.NoEnd None
@@ -49,7 +49,7 @@ refusal_of text (header_fault.Twice keyword) =
 refusal_of text header_fault.NoProvides = fault.Header header_fault.NoProvides None
 refusal_of text header_fault.Memory = fault.Memory
 
--- why a file with this name and text, which could be read, is not a script
+-- the reason why a file with this name and text, which could be read, is not a script
 abbrev pub IsNoScript : List ℕ → List ℕ → FileFault → Type 0
 IsNoScript name text (fault.Unread error) = ⊥
 IsNoScript name text fault.Name = is_name name ≡ false
@@ -57,7 +57,8 @@ IsNoScript name text (fault.Header found line) =
     (is_name name ≡ true) × (header_read text ≡ Err found) × (refusal_of text found ≡ fault.Header found line)
 IsNoScript name text fault.Memory = Unit {0}
 
--- why the file at this path is not a script: a file with a known text can be read, and lack of memory is not a reason
+-- the reason why the file at this path is not a script: a file with a known text can be read, and lack of memory is
+-- not a reason
 abbrev pub IsNoScriptAt : KnownTexts → List ℕ → FileFault → Type 0
 IsNoScriptAt text_at path (fault.Unread error) = text_at path ≡ None
 IsNoScriptAt text_at path fault.Name = is_name (last_part path) ≡ false
@@ -65,7 +66,7 @@ IsNoScriptAt text_at path (fault.Header found line) =
     (text : List ℕ) × IsTextAt text_at path text × IsNoScript (last_part path) text (fault.Header found line)
 IsNoScriptAt text_at path fault.Memory = ⊥
 
--- why the script at a path is not available: the file is not a script, or memory ran out
+-- the reason why the script at a path is not available: the file is not a script, or memory ran out
 abbrev pub IsNotRead : KnownTexts → List ℕ → FileFault → Type 0
 IsNotRead text_at path found = (found ≡ fault.Memory) ⊎ IsNoScriptAt text_at path found
 

@@ -1,4 +1,4 @@
--- What the folders of the runlevels hold, as far as it is known, and what they hold after changes.
+-- The known entries of the runlevels' folders, and their entries after changes.
 use Rattle.std.specs.Prelude.{◌≡◌, ℕ, if◌then◌else◌, List, [], ◌∷◌, Option, Some}
 use Rattle.std.specs.Str.{bytes_eq}
 use Rattle.init_words.specs.declared.levels.Level.{Level}
@@ -14,7 +14,7 @@ KnownFolders = List ℕ → Level → Option (List EntryText)
 abbrev pub KnownScripts : Type 0
 KnownScripts = List ℕ → Option (List EntryText)
 
--- the entries of each known folder are those that the function returns for its earlier ones
+-- the entries of each known folder are the result of the function for its earlier entries
 abbrev pub Becomes : KnownFolders → KnownFolders → (List ℕ → Level → List EntryText → List EntryText) → Type 0
 Becomes old new f =
     (dir : List ℕ) (level : Level) (es : List EntryText) → old dir level ≡ Some es

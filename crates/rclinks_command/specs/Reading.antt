@@ -1,4 +1,4 @@
--- The scripts at paths, some of which may not be scripts.
+-- Reading the scripts at paths, where some files may not be scripts.
 use Rattle.std.specs.Prelude.{◌≡◌, ◌≢◌, ◌⊎◌, ℕ, Bool, true, false, List, [], ◌∷◌, ◌++◌}
 use Rattle.program_io.specs.Known.{KnownTexts}
 use Rattle.rc_links.specs.ScriptText.{ScriptText}
@@ -25,8 +25,8 @@ abbrev pub has_faults : List FileFault → Bool
 has_faults [] = false
 has_faults (found ∷ faults) = true
 
--- each path yields a script or a fault; or, if the run does not continue after a fault, each path up to the first fault
--- does
+-- each path, or, if the run does not continue after a fault, each path up to the first fault, yields a script or a
+-- fault
 abbrev pub ReadsTo : Bool → KnownTexts → List (List ℕ) → List ScriptText → List FileFault → Type 0
 ReadsTo keeps_going text_at paths scripts faults = (read later : List (List ℕ)) × (paths ≡ read ++ later)
     × Reads text_at read scripts faults × ((later ≡ []) ⊎ (keeps_going ≡ false) × (faults ≢ []))

@@ -1,4 +1,4 @@
--- Why a run of rclinks does nothing.
+-- The reasons why a run of rclinks does nothing.
 use Rattle.std.specs.Prelude.{ℕ}
 use Rattle.rclinks_command.specs.declared.report.Refusal.{Refusal}
 use Rattle.rclinks_command.specs.declared.report.Refusal.TheVariants.{Failed, Memory, Refused}

@@ -26,24 +26,24 @@ ReportsWarning old new = TellsLines (codes "warning: ") old new
 abbrev pub ReportsReason : List ℕ → List ℕ → List ℕ → List ℕ → Type 0
 ReportsReason word rest old new = TellsLines [] (old ++ line_of word rest) new
 
--- the same after warnings
+-- some warnings were added, then the line and its details
 abbrev pub ReportsWhy : List ℕ → List ℕ → List ℕ → List ℕ → Type 0
 ReportsWhy word rest old new = (mid : List ℕ) × ReportsWarning old mid × ReportsReason word rest mid new
 
--- warnings about a file that is a script were added; or why it is not one, if it is rejected for that
+-- warnings about a file that is a script were added; or, if the file is rejected, the reason was added
 abbrev pub TellsOne : KnownTexts → List ℕ → List FileFault → List FileFault → List ℕ → List ℕ → Type 0
 TellsOne text_at path before after old new = ((after ≡ before) × ReportsWarning old new)
     ⊎ ((found : FileFault) × (after ≡ before ++ found ∷ []) × IsNoScriptAt text_at path found
     × (file_status found ≡ 1 → ReportsWhy (codes "bad header: ") path old new))
 
--- the first of the files that is not a script is rejected, which is reported with its path
+-- the first file that is not a script is rejected, and the report names its path
 abbrev pub ReportsFile : KnownTexts → List (List ℕ) → List ℕ → List ℕ → Type 0
 ReportsFile text_at paths old new = (before later : List (List ℕ)) × (path : List ℕ) × (paths ≡ before ++ path ∷ later)
     × ((scripts : List ScriptText) × AreScripts text_at before scripts)
     × (found : FileFault) × IsNoScriptAt text_at path found × (file_status found ≡ 1)
     × ReportsWhy (codes "bad header: ") path old new
 
--- warnings were added, if all files are scripts; otherwise the first one that is not was reported
+-- if all files are scripts, warnings were added; otherwise the first file that is not a script was reported
 abbrev pub TellsFiles : KnownTexts → List (List ℕ) → List FileFault → List ℕ → List ℕ → Type 0
 TellsFiles text_at paths faults old new = ((faults ≡ []) × ReportsWarning old new)
     ⊎ ((found : FileFault) × (faults ≡ found ∷ []) × (file_status found ≡ 1 → ReportsFile text_at paths old new))
@@ -57,7 +57,7 @@ TellsPlan scripts old new =
 abbrev pub ReportsPlan : List ScriptText → List ℕ → List ℕ → Type 0
 ReportsPlan scripts old new = (mid : List ℕ) × ReportsWarning old mid × TellsPlan scripts mid new
 
--- why the files or their scripts are rejected is reported
+-- the reason why the files or their scripts are rejected is reported
 abbrev pub ReportsRefused : KnownTexts → Bool → List (List ℕ) → List ℕ → List ℕ → Type 0
 ReportsRefused text_at last paths old new = ReportsFile text_at paths old new
     ⊎ (scripts : List ScriptText) × AreScripts text_at paths scripts × ReportsPlan (with_all last scripts) old new

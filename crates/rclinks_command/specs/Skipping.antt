@@ -1,4 +1,4 @@
--- Scripts that are left out because there is no plan with them.
+-- Scripts that are omitted because there is no plan with them.
 use Rattle.std.specs.Prelude.{string_bytes, ◌≡◌, ℕ, ◌+◌, Bool, true, false, ◌&&◌, ◌||◌, List, [], ◌∷◌, ◌++◌, map, take}
 use Rattle.std.specs.Prelude.{drop}
 use Rattle.std.specs.List.{list_any}
@@ -14,13 +14,13 @@ use Rattle.rc_links.specs.Scripts.{has_name, has_script}
 abbrev pub is_provided : List ScriptText → List ℕ → Bool
 is_provided scripts name = list_any (λ (s : ScriptText). has_name name s.header.provides) scripts
 
--- the script provides a name that an earlier one provides, or has the name of an earlier one
+-- the script provides a name that an earlier script provides, or has the same name as an earlier script
 abbrev pub is_doubled : List ScriptText → List ℕ → ScriptText → Bool
 is_doubled before name s =
     (has_name name s.header.provides && is_provided before name) || (bytes_eq s.name name && has_script before name)
 
--- a fault of the plan is about the script, which comes after these: it doubles the name, requires it, or is in the
--- cycle
+-- a fault of the plan is about this script, which comes after these scripts: it provides or has a name a second time,
+-- requires a missing name, or is in the cycle
 abbrev pub is_at_fault : {A : Type 0} → List ScriptText → PlanFault A → ScriptText → Bool
 is_at_fault before (fault.DoubleProvide name) s = is_doubled before (string_bytes name) s
 is_at_fault before (fault.Missing name) s =
@@ -34,18 +34,18 @@ abbrev pub IsFaultAt : {A : Type 0} → List ScriptText → PlanFault A → ℕ 
 IsFaultAt scripts found position = (s : ScriptText) × (drop position scripts ≡ s ∷ drop (position + 1) scripts)
     × (is_at_fault (take position scripts) found s ≡ true)
 
--- scripts have no plan, and one that the fault is about is left out
+-- the scripts have no plan, and a script that the fault is about is omitted
 abbrev pub LeavesOne : List ScriptText → List ScriptText → Type 0
 LeavesOne scripts rest = (found : PlanFault Global) × (position : ℕ) × IsRefused scripts found
     × IsFaultAt scripts found position
     × (rest ≡ take position scripts ++ drop (position + 1) scripts)
 
--- some scripts are left out in this way, one after another; the list has the scripts before each step, the last step
+-- some scripts are omitted in this way, one after another; the list has the scripts before each step, the last step
 -- first
 abbrev pub LeavesOut : List (List ScriptText) → List ScriptText → List ScriptText → Type 0
 LeavesOut [] scripts rest = rest ≡ scripts
 LeavesOut (before ∷ steps) scripts rest = LeavesOut steps scripts before × LeavesOne before rest
 
--- any number of scripts are left out in this way
+-- any number of scripts are omitted in this way
 abbrev pub LeavesSome : List ScriptText → List ScriptText → Type 0
 LeavesSome scripts rest = (steps : List (List ScriptText)) × LeavesOut steps scripts rest

@@ -53,23 +53,24 @@ pub record AreFolders (known : KnownFolders) (dir : List ℕ) (plan : List Plann
 abbrev pub has_taken : List (List ℕ) → List FolderText → Bool
 has_taken targets folders = list_any (λ (f : FolderText). list_any (is_taken targets f.planned) f.held) folders
 
--- the targets of the links in a folder that point to an init script which is none of these entries
+-- the targets of the links in a folder that lead to an init script that is not among these entries
 abbrev pub gone_at : List EntryText → FolderText → List (List ℕ)
 gone_at scripts f = map (λ (e : EntryText). e.leads) (filter (is_gone scripts) f.held)
 
--- The targets of the links that are settled: the scripts of the plan; and, with --prune, the scripts that are gone.
+-- The targets whose links are brought into line with the plan: the scripts of the plan and, with --prune, the scripts
+-- that are gone.
 abbrev pub AreTargets : Bool → KnownScripts → List ℕ → List PlannedText → List FolderText → List (List ℕ) → Type 0
 AreTargets false known dir plan folders targets = targets ≡ targets_in plan
 AreTargets true known dir plan folders targets = (scripts : List EntryText)
     × ((es : List EntryText) → known dir ≡ Some es → scripts ≡ es)
     × (targets ≡ targets_in plan ++ flat_map (gone_at scripts) folders)
 
--- the changes that the folders need, if the links with these targets are settled
+-- the changes that bring the links with these targets in the folders into line with the plan
 abbrev pub changes_in : List (List ℕ) → List FolderText → List ChangeText
 changes_in targets folders = flat_map (changes_of targets) folders
 
--- of all numbered links with these targets, the folders of the directory hold exactly the plan's, besides their other
--- entries; all other folders are unchanged
+-- among the numbered links with these targets, the folders of the directory hold exactly the plan's; their other
+-- entries and all other folders are unchanged
 abbrev pub settled_in : List ℕ → List (List ℕ) → List PlannedText → List ℕ → Level → List EntryText → List EntryText
 settled_in dir targets plan other level es =
     if bytes_eq dir other then settled targets (planned_at plan level) es else es
@@ -94,7 +95,7 @@ IsTaken known scripts prunes dir plan = (folders : List FolderText) × (targets 
     × AreFolders known dir plan folders × AreTargets prunes scripts dir plan folders targets
     × (has_taken targets folders ≡ true)
 
--- no such name is occupied, and these are the changes that the folders need
+-- no name that the plan needs is occupied, and these are the changes that the folders need
 pub record NeededChanges (known : KnownFolders) (scripts : KnownScripts) (prunes : Bool) (dir : List ℕ)
     (plan : List PlannedText)
     (changes : List ChangeText) : Type 0 where
@@ -122,7 +123,7 @@ IsWrittenPart known scripts prunes dir plan after =
     (changes : List ChangeText) × (count : ℕ) × NeededChanges known scripts prunes dir plan changes
     × Becomes known after (changed_by dir (take count changes))
 
--- the property holds of the plan; with --keep, of the plan with the runlevels of the existing links
+-- the property holds for the plan; with --keep, for the plan with the runlevels of the existing links
 abbrev pub InFolders : Bool → KnownFolders → List ℕ → List PlannedText → (List PlannedText → Type 0) → Type 0
 InFolders false known dir plan P = P plan
 InFolders true known dir plan P =

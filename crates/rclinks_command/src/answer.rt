@@ -1,5 +1,5 @@
-//! Computes what a command line asks for as a value, and then carries it out: the report, and what is printed or
-//! changed.
+//! Computes the answer to a command line as a value, and then carries it out: writes the report, and prints a text or
+//! makes changes.
 
 ghost use Rattle.std.specs.Prelude.{◌≡◌, ◌⊎◌, ℕ, false, [], map, take, IfErr, IfOk, OnOk};
 ghost use Rattle.std.specs.Io.KnownBytes.{Appends};
@@ -31,7 +31,7 @@ use rc_links::{LinkChange, Plan, PlanFault, add_all, plan};
 use std::alloc::Global;
 use std::io::Write;
 
-/// What a run does.
+/// The work of a run.
 #[derive(Drop)]
 pub(crate) enum Work<'w> {
     /// Prints a text.
@@ -40,7 +40,7 @@ pub(crate) enum Work<'w> {
     Change(&'w str, Vec<LinkChange>),
 }
 
-/// What is reported first, and what is done then.
+/// The report, which is written first, and the work that follows it.
 #[derive(Drop)]
 pub(crate) struct Answer<'w> {
     report: Vec<u8>,
@@ -69,7 +69,7 @@ fn plan_all(alloc: Global, all: bool, reading: &mut Reading) -> Result<Plan, Ref
     }
 }
 
-/// Inserts the facility `$all` before the scripts if those that name it are to come last.
+/// Inserts the facility `$all` before the scripts if the scripts that name it are to come last.
 fn add_last(alloc: Global, last: bool, reading: &mut Reading) -> Result<(), Memory>
     ensures scripts { OnOk result
         (reading.new.scripts.items ≡ with_all last reading.old.scripts.items) }
@@ -124,7 +124,7 @@ fn plan_of<'w, T: Texts>(
     }
 }
 
-/// Returns what is done for a plan.
+/// Returns the work for a plan.
 fn work_of<'w, F: LinkFolders>(
     folders: &F,
     alloc: Global,

@@ -76,7 +76,7 @@ fn line_of<'f, 'w>(matches: &ArgMatches<'w>, files: &'f [&'w str]) -> Line<'f, '
     }
 }
 
-/// Returns the files that are read, with the facility files before them if these are used.
+/// Returns the files to read. If the facility files are used, they come first.
 fn files_of<'w>(
     alloc: Global,
     facilities: &'w [String],
@@ -100,11 +100,11 @@ fn files_of<'w>(
 ///   link is occupied.
 /// - 4: a file can't be read, a folder can't be listed or changed, the output fails, or memory runs out.
 ///
-/// The first fault ends the run and is reported on `err`. Warnings about headers are reported there too, whatever the
-/// status. The options change this:
+/// The first fault ends the run and is reported on `err`. Warnings about headers are also reported on `err`, whatever
+/// the status. The options change this:
 ///
 /// - `--all`: reports all faults; the status is that of the first.
-/// - `--skip`: leaves out scripts that can't be read or planned.
+/// - `--skip`: omits scripts that can't be read or planned.
 /// - `--all-last`: puts scripts that name `$all` last.
 /// - `--write DIR`: creates the links in the folders of a directory instead of printing them, and removes numbered
 ///   links to the scripts that are not in the plan. The facility files are read before the scripts, except those with
@@ -130,8 +130,7 @@ pub fn run_words<'w, T: Texts, F: LinkFolders, W: Write, E: Reporter>(
         SHORT_USAGE.now (E.reports err.old) (E.reports err.new) }
     ensures version { asks_version (map string_bytes words.now) ≡ true
         → PrintsVersion (codes "rclinks") result (W.contents out.old) (W.contents out.new) }
-    // The links for all files, or for those that are not left out, were printed or created, or the changes were
-    // printed.
+    // The links for all files, except omitted ones, were printed or created, or the changes were printed.
     ensures done { asks_version (map string_bytes words.now) ≡ false → result ≡ DONE →
         ParsedArgumentsSatisfy (map string_bytes words.now) (λ line. Does (T.text_at texts.now)
         (line_with (map string_bytes facilities.now) line) (F.scripts_in folders.old)

@@ -8,7 +8,7 @@ use crate::files::last_part;
 use init_words::Memory;
 use std::alloc::Global;
 
-/// Reports whether none of the files has the name of the facility file.
+/// Returns whether none of the files has the name of the facility file.
 fn is_unnamed(files: &[&str], facility: &str) -> bool
     ensures { result ≡ is_unnamed (map (λ file. file.now) files.now) facility.now }
 {
@@ -20,7 +20,7 @@ fn is_unnamed(files: &[&str], facility: &str) -> bool
     true
 }
 
-/// Adds the facility files with a name that none of the files has.
+/// Adds each facility file, except those with the same name as one of the files.
 fn add_facilities<'w>(
     files: &[&str],
     facilities: &'w [String],
@@ -39,7 +39,8 @@ fn add_facilities<'w>(
     Ok(())
 }
 
-/// Returns the files, and before them, if `takes` is set, the facility files with a name that none of the files has.
+/// Returns the files. If `takes` is set, the facility files come before them, except those with the same name as one
+/// of the files.
 pub(crate) fn files_with<'w>(
     alloc: Global,
     facilities: &'w [String],

@@ -1,7 +1,8 @@
 //! Finds the scripts whose fault excludes them from a plan.
 //!
-//! It is tested by `tools/pages.d/rclinks-lines`, with `--skip` and `--all`. The contract of each function is its
-//! definition in `specs/Skipping`, so that its body can be changed freely. The messages about a fault are in `telling`.
+//! `tools/pages.d/rclinks-lines` tests this module with `--skip` and `--all`. The contract of each function is its
+//! definition in `specs/Skipping`, so that its body can be changed freely. The messages about a fault are in
+//! `telling`.
 
 ghost use Rattle.std.specs.Prelude.{◌≡◌, ◌<◌, ◌||◌, ◌&&◌, true, IfSome, length};
 ghost use Rattle.rc_links.specs.Scripts.{has_name, has_script};
@@ -9,7 +10,7 @@ ghost use Rattle.rclinks_command.specs.Skipping.{IsFaultAt, is_at_fault, is_doub
 
 use rc_links::{PlanFault, Script, has_name};
 
-/// Reports whether one of the scripts provides the name.
+/// Returns whether one of the scripts provides the name.
 pub(crate) fn is_provided(scripts: &[Script], name: &str) -> bool
     ensures { result ≡ is_provided scripts.now name.now }
 {
@@ -18,14 +19,15 @@ pub(crate) fn is_provided(scripts: &[Script], name: &str) -> bool
         .any(|script| has_name(name, script.header().provides()))
 }
 
-/// Reports whether one of the scripts has the name.
+/// Returns whether one of the scripts has the name.
 fn has_script(scripts: &[Script], name: &str) -> bool
     ensures { result ≡ has_script scripts.now name.now }
 {
     scripts.iter().any(|script| script.name() == name)
 }
 
-/// Reports whether the script provides a name that an earlier one provides, or has the name of an earlier one.
+/// Returns whether the script provides a name that an earlier script provides, or has the same name as an earlier
+/// script.
 fn is_doubled(before: &[Script], name: &str, script: &Script) -> bool
     ensures { result ≡ is_doubled before.now name.now script.now }
 {
@@ -33,7 +35,7 @@ fn is_doubled(before: &[Script], name: &str, script: &Script) -> bool
         || (script.name() == name && has_script(before, name))
 }
 
-/// Reports whether the script requires the name.
+/// Returns whether the script requires the name.
 fn is_required(name: &str, script: &Script) -> bool
     ensures { result ≡ (has_name name.now script.now.header.required_start
         || has_name name.now script.now.header.required_stop) }
@@ -42,7 +44,7 @@ fn is_required(name: &str, script: &Script) -> bool
     has_name(name, header.required_start()) || has_name(name, header.required_stop())
 }
 
-/// Reports whether a fault of the plan is about the script, which comes after these.
+/// Returns whether a fault of the plan is about this script, which comes after the scripts in `before`.
 fn is_at_fault(before: &[Script], fault: &PlanFault, script: &Script) -> bool
     ensures { result ≡ is_at_fault before.now fault.now script.now }
 {

@@ -18,7 +18,7 @@ use std::io::{ErrorKind, Write};
 use std::{fmt, io};
 use thiserror::Error;
 
-/// Why a file is not a script.
+/// The reason why a file is not a script.
 #[derive(Clone, Copy, Debug, Error)]
 pub enum FileFault {
     /// It can't be read.
@@ -27,7 +27,7 @@ pub enum FileFault {
     /// Its name is not allowed in a link.
     #[error("the name of a script may contain only A-Z a-z 0-9 . _ -")]
     Name,
-    /// Its header is rejected. The number is that of the line with the fault, if the fault itself does not contain it.
+    /// Its header is rejected. The number of the line with the fault is given if the fault itself does not contain it.
     #[error("{line}{0}", line = LineWords(*.1))]
     Header(HeaderFault, Option<usize>),
     /// Out of memory.
@@ -71,7 +71,7 @@ impl FileFault {
     }
 }
 
-/// Returns the refusal of a run with such a fault.
+/// Returns the refusal of a run for a fault of a file.
 pub(crate) fn refusal_for(fault: &FileFault) -> Refusal
     ensures { refusal_status result ≡ file_status fault.now }
 {
@@ -107,8 +107,8 @@ fn refusal_of(text: &[u8], fault: HeaderFault) -> FileFault
 pub fn script_in(alloc: Global, name: &str, text: &[u8]) -> Result<Script, FileFault>
     ensures script { IfOk result (IsScriptOf name.now text.now) }
     ensures fault { IfErr result (IsNoScript name.now text.now) }
-    // If the name is not allowed in a link, or the first or the last line of the header is missing, no memory is needed
-    // to report that.
+    // If the name is not allowed in a link, or the first or the last line of the header is missing, reporting that
+    // needs no memory.
     ensures named { is_name name.now ≡ false → result ≡ Err FileFault.Name }
     ensures frame { is_name name.now ≡ true → IfSome (frame_fault text.now) (λ fault.
         result ≡ Err (refusal_of text.now fault)) }
@@ -125,8 +125,8 @@ pub fn script_in(alloc: Global, name: &str, text: &[u8]) -> Result<Script, FileF
     }
 }
 
-/// Returns the message why a file with this text is not a script, the line of the file that it is about, and what to
-/// write instead; and that the file is left out, if it is.
+/// Returns the message that says why a file with this text is not a script, which line of the file is wrong and what
+/// to write instead, and, if `skips` is set, that the file is omitted.
 fn reason_lines(alloc: Global, path: &str, text: &[u8], fault: &FileFault, skips: bool) -> Vec<u8> {
     let mut more = Vec::new(alloc);
     let _ = match behind_end(text, fault) {
@@ -152,7 +152,7 @@ fn word_of(fault: &FileFault) -> &'static str
     }
 }
 
-/// Reports why a file with this text is not a script: a line that is always the same, and the reason.
+/// Adds the report of why a file with this text is not a script: a fixed first line, and the reason.
 fn add_refusal(
     alloc: Global,
     path: &str,

@@ -16,7 +16,7 @@ use std::{fs, io};
 
 /// Lists and changes the folders of the runlevels in a directory, `rc0.d` to `rc9.d` and `rcS.d`.
 ///
-/// Its contracts refer to what a folder holds, if it is known. It may be known for no folder.
+/// Its contracts refer to the entries of a folder, if they are known. They need not be known for any folder.
 pub trait LinkFolders {
     /// The entries of a runlevel's folder in a directory, or `None` if they are not known.
     ghost held: { Self → KnownFolders };
@@ -42,11 +42,11 @@ pub trait LinkFolders {
         ensures refused { OnErr result (Stays (held self.old) (held self.new)) };
 }
 
-/// Makes the system calls that change files, one for each function.
+/// Makes the system calls that change files. Each function makes one call.
 ///
 /// Its contracts refer to the calls that were made.
 pub trait LinkCalls {
-    /// The calls that were made, the newest first, or `None` if that is not known.
+    /// The calls that were made, newest first, or `None` if they are not known.
     ghost asked: { Self → Option (List LinkCall) };
 
     /// Removes the file at a path.
@@ -81,7 +81,7 @@ impl<R: Files> LinkCalls for R {
     }
 }
 
-/// The folders of the operating system, and what makes the calls that change them. Their entries are not known.
+/// The folders of the operating system, with the maker of the calls that change them. Their entries are not known.
 #[derive(Drop)]
 pub struct SystemFolders<R, C> {
     rt: R,
@@ -89,7 +89,7 @@ pub struct SystemFolders<R, C> {
 }
 
 impl<R: Files + Alloc + Clone + Drop, C: LinkCalls> SystemFolders<R, C> {
-    /// Creates folders that are read with `rt` and changed with `calls`.
+    /// Creates a value that reads folders with `rt` and changes them with `calls`.
     pub fn new(rt: R, calls: C) -> SystemFolders<R, C>
         ensures { result.calls ≡ calls }
     {
@@ -175,7 +175,7 @@ fn text_of(bytes: &[u8]) -> io::Result<&str>
     }
 }
 
-/// Reports whether there is nothing at the path.
+/// Returns whether nothing exists at the path.
 fn is_absent<R: Files>(rt: &R, path: &str) -> bool {
     match fs::symlink_metadata(rt, path) {
         Ok(_) => false,

@@ -9,7 +9,7 @@ ghost use Rattle.rclinks_command.specs.LineOptions.{line_options};
 pub(crate) struct Line<'f, 'w> {
     /// Report all faults, not only the first one.
     pub(crate) all: bool,
-    /// Leave out scripts that can't be read or planned.
+    /// Omit scripts that can't be read or planned.
     pub(crate) skips: bool,
     /// Put scripts that name `$all` last.
     pub(crate) last: bool,
@@ -28,7 +28,7 @@ pub(crate) struct Line<'f, 'w> {
 }
 
 impl<'f, 'w> Line<'f, 'w> {
-    /// Reports whether the run continues after a fault.
+    /// Returns whether the run continues after a fault.
     pub(crate) fn keeps_going(&self) -> bool
         ensures { result ≡ keeps_going (line_options self.now) }
     {

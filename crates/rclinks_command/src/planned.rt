@@ -1,4 +1,4 @@
-//! The folders of a directory, with the links that a plan has there.
+//! The folders of a directory, with the links that a plan puts there.
 
 ghost use Rattle.std.specs.Prelude.{◌≡◌, ◌++◌, true, flat_map, IfOk, OnOk};
 ghost use Rattle.std.specs.List.{list_any};
@@ -15,7 +15,7 @@ use std::alloc::Global;
 use std::io;
 use std::io::Write;
 
-/// Why the contents of a directory's folders are not known.
+/// The reason why the contents of a directory's folders are not known.
 #[derive(Drop)]
 pub(crate) enum FoldersFault {
     /// The folder of a runlevel can't be listed.
@@ -32,7 +32,7 @@ impl From<Memory> for FoldersFault {
     }
 }
 
-/// Reports such a fault, unless memory ran out, and returns the refusal.
+/// Reports that a folder can't be listed, unless memory ran out, and returns the refusal.
 pub(crate) fn refuse_unlisted(dir: &str, fault: &FoldersFault, report: &mut Vec<u8>) -> Refusal
     ensures { refusal_status result ≡ 4 }
 {
@@ -134,7 +134,8 @@ pub(crate) fn folders_in<F: LinkFolders>(
     Ok(found)
 }
 
-/// Returns the plan. If runlevels are kept, they are those of the links that the folders of a directory hold.
+/// Returns the plan. If runlevels are kept, the runlevels of a script are those of its links in the folders of a
+/// directory.
 pub(crate) fn kept_in<F: LinkFolders>(
     folders: &F,
     alloc: Global,
@@ -152,7 +153,7 @@ pub(crate) fn kept_in<F: LinkFolders>(
     Ok(plan.kept(alloc, read.as_slice())?)
 }
 
-/// Adds the targets of the links in a folder whose script is none of these.
+/// Adds the targets of the links in a folder that lead to none of these scripts.
 fn add_gone_at(
     alloc: Global,
     scripts: &[FolderEntry],
@@ -168,7 +169,7 @@ fn add_gone_at(
     Ok(())
 }
 
-/// Adds the targets of such links in all folders.
+/// Adds the targets of the links in all folders that lead to none of these scripts.
 fn add_gone_in(
     alloc: Global,
     scripts: &[FolderEntry],
@@ -184,8 +185,8 @@ fn add_gone_in(
     Ok(())
 }
 
-/// Returns the targets of the links that are settled in the folders of a directory: the scripts of the plan, and if
-/// links are pruned, the scripts that are gone.
+/// Returns the targets whose links are brought into line with the plan in the folders of a directory: the scripts of
+/// the plan, and if links are pruned, the scripts that are gone.
 pub(crate) fn targets_for<F: LinkFolders>(
     folders: &F,
     alloc: Global,
@@ -210,7 +211,7 @@ pub(crate) fn targets_for<F: LinkFolders>(
     }
 }
 
-/// Reports the entries of a folder that occupy a name of the plan. Returns whether there are any.
+/// Reports the entries of a folder that occupy a name that the plan needs. Returns whether there are any.
 fn tell_taken_at(
     alloc: Global,
     dir: &str,
@@ -233,7 +234,7 @@ fn tell_taken_at(
     Ok(!found.as_slice().is_empty())
 }
 
-/// Reports the entries that occupy a name of the plan. Returns whether there are any.
+/// Reports the entries of all folders that occupy a name that the plan needs. Returns whether there are any.
 pub(crate) fn tell_taken(
     alloc: Global,
     dir: &str,

@@ -18,11 +18,11 @@ use std::alloc::Global;
 /// The scripts in the files, and the report about the files and the scripts.
 #[derive(Drop)]
 pub(crate) struct Reading<'w> {
-    /// The scripts, except those that are left out.
+    /// The scripts, except the omitted ones.
     pub(crate) scripts: Vec<Script>,
     /// The path of each script.
     pub(crate) paths: Vec<&'w str>,
-    /// The scripts that are left out because there is no plan with them.
+    /// The scripts that are omitted because there is no plan with them.
     pub(crate) outs: Vec<Script>,
     /// The report.
     pub(crate) report: Vec<u8>,
@@ -62,7 +62,7 @@ fn read_one<'w, T: Texts>(
     Ok(())
 }
 
-/// Reports whether the files after a fault are not read.
+/// Returns whether a fault ends the reading of the files.
 fn is_over(keeps_going: bool, faults: &[FileFault]) -> bool
     ensures { result ≡ (not keeps_going && has_faults faults.now) }
 {

@@ -1,4 +1,5 @@
-//! Warnings about text in a header that has no effect. Each is a line without its first words.
+//! Warnings about text in a header that has no effect. Each is a line without the words at its start that `report`
+//! adds.
 
 use crate::files::FileFault;
 use init_words::Level;
@@ -24,7 +25,7 @@ pub(crate) fn odd_lines(alloc: Global, path: &str, text: &[u8]) -> Vec<u8> {
     odd
 }
 
-/// Returns the text after the words of the line that would end a header with this fault, and the number of that line.
+/// If a line would end a header but for the text after its words, returns that text and the number of the line.
 pub(crate) fn behind_end<'t>(text: &'t [u8], fault: &FileFault) -> Option<(usize, &'t str)> {
     let last = match fault {
         FileFault::Header(HeaderFault::NoEnd, _) => usize::MAX,
@@ -62,7 +63,7 @@ fn tell_odd_line(path: &str, number: usize, line: &[u8], odd: &mut Vec<u8>) {
     }
 }
 
-/// Adds the words that are not runlevels of the system.
+/// Adds the warnings about words that are not runlevels of the system.
 fn tell_odd_levels(path: &str, number: usize, levels: &[u8], odd: &mut Vec<u8>) {
     let mut rest = levels;
     while let Some((word, more)) = next_word(rest) {
@@ -83,7 +84,7 @@ fn odd_level(word: &[u8]) -> Option<&'static str> {
     }
 }
 
-/// Returns the runlevels that are in both lists of a header.
+/// Returns the warning about the runlevels that are in both lists of a header.
 pub(crate) fn odd_header(alloc: Global, path: &str, header: &Header) -> Vec<u8> {
     let mut odd = Vec::new(alloc);
     for level in header.default_start() {

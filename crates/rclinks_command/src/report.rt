@@ -1,6 +1,7 @@
-//! The report of a run, which consists of lines: warnings, and why the run is refused.
+//! The report of a run, which consists of lines: warnings, and the reason why the run is refused.
 //!
-//! It is tested by `tools/pages.d/rclinks`. The text after the first word of a line comes from `remarks` and `telling`.
+//! `tools/pages.d/rclinks` tests this module. The text after the first word of a line comes from `remarks` and
+//! `telling`.
 
 ghost use Rattle.std.specs.Prelude.{◌≡◌, ◌++◌, OnOk};
 ghost use Rattle.rclinks_command.specs.Reports.{TellsLines, ReportsReason, ReportsWarning, line_of};
@@ -8,10 +9,10 @@ ghost use Rattle.rclinks_command.specs.Reports.{TellsLines, ReportsReason, Repor
 use init_words::Memory;
 use text_lines::next_line;
 
-/// Why a run does nothing.
+/// The reason why a run does nothing.
 #[derive(Clone, Copy)]
 pub(crate) enum Refusal {
-    /// A file, the scripts or the name of a link are rejected. The report says why.
+    /// A file, the scripts or the name of a link is rejected. The report says why.
     Refused,
     /// A file can't be read, or a folder can't be listed. The report says why.
     Failed,

@@ -1,4 +1,4 @@
-//! Plans scripts without the faulty ones, which are left out one after another: for `--skip`, or to report all faults
+//! Plans scripts without the faulty ones, which are omitted one after another: for `--skip`, or to report all faults
 //! of scripts whose plan is not used (`--all`).
 
 ghost use Rattle.std.specs.Prelude.{◌≡◌, ◌<◌, ◌+◌, ◌++◌, [], IfOk, IfErr, OnOk, length, take, drop};
@@ -29,7 +29,7 @@ pub(crate) fn refusal_of(fault: &PlanFault) -> Refusal
     }
 }
 
-/// Reports the fault of scripts of which none is left out, and the scripts that cause it.
+/// Reports the first fault of the scripts, if none is omitted, and the scripts that cause it.
 pub(crate) fn add_first(
     alloc: Global,
     fault: &PlanFault,
@@ -46,9 +46,9 @@ pub(crate) fn add_first(
     add_why(&mut reading.report, "", why.as_str(), more.as_slice())
 }
 
-/// Reports a fault of scripts that have no plan, and the scripts that cause it: the one at the position, which is left
-/// out next, and the others. If the plan of the rest is not used (`skips` is false), a name that is missing only
-/// because the script that provides it was left out is not reported.
+/// Reports a fault of scripts that have no plan, and the scripts that cause it: the one at the position, which is
+/// omitted next, and the others. If the plan of the rest is not used (`skips` is false), a name that is missing only
+/// because the script that provides it was omitted is not reported.
 fn tell_fault(
     alloc: Global,
     fault: &PlanFault,
@@ -74,7 +74,7 @@ fn tell_fault(
     Ok(())
 }
 
-/// Removes the script at a position, with its path, and adds it to those that are left out.
+/// Moves the script at a position to the omitted scripts, and removes its path.
 fn leave_out(reading: &mut Reading, position: usize) -> Result<(), Memory>
     requires { position < length reading.old.scripts.items }
     ensures { reading.new.scripts.items
@@ -88,7 +88,7 @@ fn leave_out(reading: &mut Reading, position: usize) -> Result<(), Memory>
     Ok(())
 }
 
-/// Plans the scripts. While they have no plan, a script that causes the fault is reported and left out. If no script
+/// Plans the scripts. While they have no plan, a script that causes the fault is reported and omitted. If no script
 /// causes it, the fault is reported, and there is no plan.
 pub(crate) fn plan_rest(alloc: Global, skips: bool, reading: &mut Reading) -> Result<Plan, Refusal>
     ensures planned { IfOk result (IsPlan reading.new.scripts.items) }

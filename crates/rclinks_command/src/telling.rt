@@ -1,4 +1,4 @@
-//! The messages about the faults of a plan, with names and paths: which script needs which.
+//! The messages about the faults of a plan, with the names and paths of the scripts that need each other.
 
 use crate::faulty::is_provided;
 use crate::reading::Reading;
@@ -7,11 +7,11 @@ use rc_links::{PlanFault, Script, has_name};
 use std::alloc::Global;
 use std::io::Write;
 
-/// A keyword, and the name after it by which a script needs another one.
+/// A keyword of a header, and the name after it by which a script needs another script.
 type Naming<'s> = (&'static str, &'s str);
 
 /// Returns the lines that follow the message about a fault of scripts that have no plan: which scripts cause it
-/// together with the one at the position. Of the missing names they give the first one or all.
+/// together with the one at the position. They list the first missing name, or all of them.
 pub(crate) fn who_lines(
     alloc: Global,
     fault: &PlanFault,
@@ -37,7 +37,7 @@ pub(crate) fn who_lines(
     more
 }
 
-/// Returns these lines if none of the scripts can be left out.
+/// Returns the lines that follow the message if none of the scripts can be omitted.
 pub(crate) fn last_lines(alloc: Global, fault: &PlanFault) -> Vec<u8> {
     let mut more = Vec::new(alloc);
     if let PlanFault::TooDeep = fault {
@@ -100,8 +100,8 @@ fn tell_missing(
     }
 }
 
-/// Reports whether no script provides the name, it is not one of the system, and it is the one to be reported if only
-/// one is.
+/// Returns whether the name is to be reported as missing: no script provides it, it is not a name of the system, and
+/// it equals `only` if that is given.
 fn is_missing(name: &str, only: Option<&str>, reading: &Reading) -> bool {
     !name.starts_with('$')
         && !is_provided(reading.scripts.as_slice(), name)
@@ -154,7 +154,7 @@ fn script_named<'s>(scripts: &'s [Script], name: &str) -> Option<&'s Script> {
     scripts.iter().find(|script| script.name() == name)
 }
 
-/// Reports whether each script of the cycle needs the next one for its start.
+/// Returns whether each script of the cycle needs the next one for its start.
 fn is_start_cycle(names: &[String], scripts: &[Script]) -> bool {
     for at in 0..names.len() {
         match step_of(names, scripts, at) {
@@ -230,8 +230,7 @@ fn tell_all(header: &Header, path: &str, odd: &mut Vec<u8>) {
     }
 }
 
-/// Adds those of a script's names that are names of the system, are provided by no script, and were not named by an
-/// earlier script.
+/// Adds the names of the system that a script names, if no script provides them and no earlier script names them.
 fn tell_system(
     names: &[String],
     path: &str,
@@ -254,7 +253,7 @@ fn tell_system(
     }
 }
 
-/// Reports whether one of the scripts is started after what has the name.
+/// Returns whether one of the scripts is to be started after this name.
 fn is_named(scripts: &[Script], name: &str) -> bool {
     scripts.iter().any(|script| {
         let header = script.header();

@@ -22,7 +22,7 @@ pub(crate) struct Failure {
     error: io::Error,
 }
 
-/// Returns the word for what is done with an entry.
+/// Returns the word for an action on an entry.
 fn act_word(act: LinkAction) -> &'static [u8]
     ensures { result.now ≡ act_word act }
 {
@@ -69,7 +69,7 @@ fn tell_changes(alloc: Global, word: &str, changes: &[LinkChange], told: &mut Ve
     }
 }
 
-/// Returns the message about the change that failed: why, what was done before it, and what was not done.
+/// Returns the message about the change that failed: the reason, the changes made before it, and the changes not made.
 pub(crate) fn failure_lines(
     alloc: Global,
     dir: &str,

@@ -1,4 +1,4 @@
--- How the bytes of channels change, as far as they are known.
+-- How the known bytes of channels change.
 use Rattle.std.specs.Prelude.{◌≡◌, ℕ, ◌%◌, if◌then◌else◌, List, length, ◌++◌, Option, Some, IfSome, option_map}
 use Rattle.std.specs.Str.{bytes_eq}
 use Rattle.initctl_frame.specs.declared.frames.TheConstants.{BLOCK}
@@ -13,12 +13,12 @@ KnownBytes = List ℕ → Option (List ℕ)
 abbrev pub AreSame : KnownBytes → KnownBytes → Type 0
 AreSame old new = (at : List ℕ) → new at ≡ old at
 
--- these bytes were appended to the channel at the path, and all others are unchanged
+-- these bytes were appended to the channel at the path, and all other channels are unchanged
 abbrev pub AppendsToChannel : List ℕ → List ℕ → KnownBytes → KnownBytes → Type 0
 AppendsToChannel path gained old new =
     (at : List ℕ) → new at ≡ (if bytes_eq at path then option_map (λ bytes. bytes ++ gained) (old at) else old at)
 
--- a prefix of these bytes, of any length, was appended
+-- a prefix of these bytes, possibly empty, was appended to the channel at the path
 abbrev pub AppendsPrefixToChannel : List ℕ → List ℕ → KnownBytes → KnownBytes → Type 0
 AppendsPrefixToChannel path block old new =
     (front rest : List ℕ) × (front ++ rest ≡ block) × AppendsToChannel path front old new
@@ -33,13 +33,13 @@ IsRequestFor home words path block =
     (arguments : TelinitArguments) × (telinit_read_of home words ≡ Some arguments) × (path ≡ arguments.path)
     × (block_of arguments.request ≡ block)
 
--- the channel that the arguments name consisted of complete requests, and the one that they ask for was appended
+-- the channel that the arguments name consisted of complete requests, and the request of the arguments was appended
 abbrev pub AppendsRequest : List ℕ → List (List ℕ) → KnownBytes → KnownBytes → Type 0
 AppendsRequest home words old new =
     (path block : List ℕ) × IsRequestFor home words path block × IsWholeAt path old
     × AppendsToChannel path block old new
 
--- a prefix of it, possibly empty, was appended
+-- a prefix of the request, possibly empty, was appended
 abbrev pub AppendsRequestPrefix : List ℕ → List (List ℕ) → KnownBytes → KnownBytes → Type 0
 AppendsRequestPrefix home words old new = (path block : List ℕ) × IsRequestFor home words path block
     × AppendsPrefixToChannel path block old new

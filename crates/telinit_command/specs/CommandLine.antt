@@ -25,13 +25,13 @@ command_line = line_of (codes "telinit") (written OPTIONS.now)
 abbrev pub is_numeral : List ℕ → Bool
 is_numeral word = not (length word == 0) && list_all is_ascii_digit word
 
--- the number of seconds that a word stands for, in decimal, if it is within the limit
+-- the number of seconds that a word gives in decimal, if it is within the limit
 abbrev pub seconds_read : List ℕ → Option ℕ
 seconds_read word =
     let secs = digits_value 10 word in
     if is_numeral word && nat_le secs GRACE_LIMIT then Some secs else None
 
--- the news of the power that a word stands for
+-- the power event that a word means
 abbrev pub power_read : Text → Option PowerKind
 power_read word =
     if bytes_eq word (codes "fail") then Some power.Fail
@@ -39,7 +39,7 @@ power_read word =
     else if bytes_eq word (codes "ok") then Some power.Ok
     else None
 
--- the argument CHAR, or the news of the power in the value of --power; none unless exactly one of them is given
+-- the argument CHAR, or the power event in the value of --power; none unless exactly one of them is given
 abbrev pub sign_or_power : Option Text → Option Text → Option (Text × Option PowerKind)
 sign_or_power None None = None
 sign_or_power (Some sign) None = Some (sign, None)
@@ -50,8 +50,8 @@ sign_or_power (Some sign) (Some word) = None
 abbrev pub in_folder : Text → Text → Text
 in_folder folder name = if length folder == 0 then name else folder ++ (codes "/" ++ name)
 
--- the path of a channel: the first one if it is given, otherwise `initctl` in the folder, otherwise in that of the
--- environment
+-- the path of a channel: the path of --initctl if it is given, otherwise `initctl` in the given folder, or else in the
+-- folder in the environment
 abbrev pub path_in : Option Text → Text → Text → Text
 path_in (Some path) folder home = path
 path_in None folder home = in_folder (if length folder == 0 then home else folder) (codes "initctl")
@@ -90,7 +90,8 @@ words_of_rows home rows =
 abbrev pub words_read_of : Text → List Text → Option TelinitWords
 words_read_of home words = option_and_then (words_of_rows home) (given_by command_line words)
 
--- a request for the sign, which is one character of telinit(8), with the seconds; or the news of the power
+-- the request for CHAR, which must be one character of telinit(8), with the seconds; or the request for the power
+-- event
 abbrev pub request_by : ℕ → Text → Option PowerKind → Option Request
 request_by secs sign None = option_map (λ code. request.Runlvl code secs) (option_and_then sign_read (only_byte sign))
 request_by secs sign (Some kind) = Some (request.Power kind)
@@ -108,7 +109,7 @@ pub record TelinitArguments : Type 0 where
 abbrev pub arguments_of : TelinitWords → Option TelinitArguments
 arguments_of words = option_map (λ asked. record { path = words.path; request = asked }) (request_of words)
 
--- what the arguments ask for; none if the command line is rejected, or its sign is not a request
+-- the channel and the request of the arguments; none if the command line is rejected, or its CHAR is not valid
 abbrev pub telinit_read_of : Text → List Text → Option TelinitArguments
 telinit_read_of home words = option_and_then arguments_of (words_read_of home words)
 

@@ -1,4 +1,4 @@
--- What telinit reports about its channel after it appended a request.
+-- The reports of telinit about its channel when it appends a request.
 use Rattle.std.specs.Prelude.{◌≡◌, ℕ, Bool, true, false, List, ◌++◌, codes}
 use Rattle.program_io.specs.Reports.{AppendsReport, ReportList}
 
@@ -8,7 +8,7 @@ pub data Reading : Type 0 where
   unread : Reading
   unknown : List ℕ → Reading
 
--- it was reported that the channel did not exist and was created
+-- if the channel did not exist and was created, that is reported
 abbrev pub ReportsCreation : List ℕ → Bool → ReportList → ReportList → Type 0
 ReportsCreation path true old new = AppendsReport old new (codes "telinit: created " ++ (path ++ codes "\n"))
 ReportsCreation path false old new = new ≡ old

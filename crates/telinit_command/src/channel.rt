@@ -9,7 +9,7 @@ use initctl_frame::BLOCK;
 use program_io::{REQUEST, Reporter, reason_text};
 use std::io;
 
-/// Why a block was not appended.
+/// The reason why a block was not appended.
 #[derive(Drop)]
 pub(crate) enum ChannelFault {
     /// The channel has this number of bytes, which is not a whole number of requests. Nothing was written.
@@ -24,9 +24,10 @@ impl From<io::Error> for ChannelFault {
     }
 }
 
-/// Appends the block to the channel at the path, which is created if it does not exist. Its creation is reported on
-/// `err` before, and that no init reads it afterwards, so that the request does not wait for that check. If this fails,
-/// a prefix of the block may have been appended.
+/// Appends the block to the channel at the path, and creates the channel if it does not exist. Before the block is
+/// appended, the creation is reported on `err`. Only after that it checks whether an init reads the channel, and
+/// reports if none does, so that the request does not wait for the check. If this fails, a prefix of the block may
+/// have been appended.
 pub(crate) fn append_block<C: Channels, E: Reporter>(
     channels: &mut C,
     path: &str,

@@ -29,14 +29,15 @@ pub trait Channels {
         ensures length { IfOk result (λ found. IfSome (bytes_at self.old path.now)
             (λ bytes. found.length ≡ length bytes)) };
 
-    /// Appends a block to the channel at a path, which was opened last. If this fails, a prefix of the block may have
-    /// been appended.
+    /// Appends a block to the channel at a path, which must be the last one opened. If this fails, a prefix of the
+    /// block may have been appended.
     fn append(&mut self, path: &str, block: &[u8; BLOCK]) -> io::Result<()>
         ensures ok { OnOk result
             (AppendsToChannel path.now block.now (bytes_at self.old) (bytes_at self.new)) }
         ensures err { OnErr result
             (AppendsPrefixToChannel path.now block.now (bytes_at self.old) (bytes_at self.new)) };
 
-    /// Reports whether an init reads the channel at a path, which was opened last, or an earlier file at this path.
+    /// Returns whether an init reads the channel at a path, which must be the last one opened, or an earlier file at
+    /// this path.
     fn is_read(&self, path: &str) -> io::Result<bool>;
 }

@@ -35,13 +35,13 @@ pub struct Words {
     pub secs: u16,
     /// The file that the request block is appended to.
     pub path: String,
-    /// The argument CHAR, which is not checked; empty if news of the power is given.
+    /// The argument CHAR, which is not checked; empty if `--power` is given.
     pub sign: String,
-    /// News of the power, in place of a sign.
+    /// The power event of `--power`, which is given in place of CHAR.
     pub power: Option<PowerKind>,
 }
 
-/// What a command line asks for: the file of the channel and the request block (initreq.h).
+/// The request of a command line: the file of the channel and the request block (initreq.h).
 #[derive(Drop)]
 pub(crate) struct Asked {
     pub(crate) path: String,
@@ -70,7 +70,7 @@ pub fn frame_of(words: &Words) -> Option<[u8; BLOCK]>
     Some(encode(&request))
 }
 
-/// Returns what a command line asks for. `home` is the folder of the channel in the environment, or empty.
+/// Returns the request of a command line. `home` is the folder of the channel in the environment, or empty.
 pub(crate) fn read_asked(alloc: Global, home: &str, words: Vec<String>) -> Result<Asked, WordFault>
     // This is what the arguments ask for, with the defaults for options that are not given.
     ensures ok { IfOk result (λ asked. IsRequestFor home.now (map string_bytes words.items)
@@ -149,7 +149,7 @@ fn is_all_digits(word: &str) -> bool
     word.bytes().all(|byte| byte.is_ascii_digit())
 }
 
-/// Returns the sign, or the news of the power. Exactly one of them must be given.
+/// Returns the argument CHAR, or the power event of `--power`. Exactly one of them must be given.
 fn read_sign_or_power(
     alloc: Global,
     sign: Option<&str>,
@@ -182,7 +182,7 @@ fn read_sign(word: &str) -> Option<Sign>
     Sign::read(only_byte(word)?)
 }
 
-/// Parses news of the power.
+/// Parses the value of `--power`, a power event.
 fn read_power(word: &str) -> Option<PowerKind>
     ensures { result ≡ power_read word.now }
 {

@@ -1,5 +1,6 @@
-//! The channels of the operating system: how one is opened, who reads it, and its bell. The bell is a FIFO next to the
-//! channel, which is rung after a request was appended so that init reads the request immediately.
+//! The channels of the operating system: opening a channel, finding the init that reads it, and ringing its bell. The
+//! bell is a FIFO next to the channel. It is rung after a request was appended, so that init reads the request
+//! immediately.
 
 ghost use Rattle.std.specs.Prelude.{None};
 
@@ -28,7 +29,7 @@ pub struct OsChannels<'a, R> {
 }
 
 impl<'a, R> OsChannels<'a, R> {
-    /// Creates channels of which none is open.
+    /// Creates a value with no channel open.
     pub fn new(rt: &'a R, alloc: Global) -> OsChannels<'a, R> {
         OsChannels {
             rt,
@@ -78,9 +79,9 @@ impl<R: Files<File = File> + Alloc + Eprint + Clone + Drop> Channels for OsChann
     }
 }
 
-/// Reports whether a process holds a lock and has a file open that was at the path of the channel before the present
-/// one. That is an init, which notices within a pause that the file was replaced. Each process is checked once, however
-/// many locks it holds.
+/// Returns whether a process that holds a lock has a file open that was at the path of the channel before the present
+/// one. Such a process is an init, which notices within a pause that the file was replaced. Each process is checked
+/// once, however many locks it holds.
 fn is_read_before<R: Files + Alloc + Clone + Drop>(
     rt: &R,
     alloc: Global,
@@ -111,7 +112,7 @@ fn holder_in(line: &str) -> Option<u32> {
     if kind == "FLOCK" { Some(number) } else { None }
 }
 
-/// Reports whether the process has a file open to which the system gives this name.
+/// Returns whether the process has a file open that the system lists by this name.
 fn has_open<R: Files + Alloc + Clone + Drop>(
     rt: &R,
     alloc: Global,
@@ -128,8 +129,8 @@ fn has_open<R: Files + Alloc + Clone + Drop>(
     Ok(false)
 }
 
-/// Rings the bell of the channel at the path, a FIFO with this path and `.bell` appended, if it exists. It never waits:
-/// a bell that is full has been rung already.
+/// Rings the bell of the channel at the path, a FIFO with this path and `.bell` appended, if it exists. It never
+/// waits, because a bell that is full has been rung already.
 fn ring<R: Files<File = File>>(rt: &R, alloc: Global, channel: &str) -> io::Result<()> {
     let path = format!(in alloc; "{channel}.bell")?;
     match metadata(rt, path.as_str()) {
@@ -148,7 +149,7 @@ fn ring<R: Files<File = File>>(rt: &R, alloc: Global, channel: &str) -> io::Resu
     Ok(())
 }
 
-/// Reports whether a byte can be written to the FIFO without waiting.
+/// Returns whether a byte can be written to the FIFO without waiting.
 fn has_room(file: &File) -> io::Result<bool> {
     let mut asked = [pollfd {
         fd: file.as_raw_fd(),

@@ -1,4 +1,4 @@
-//! The `telinit` program: what it does, and what it reports.
+//! Runs the `telinit` program, and reports its faults.
 
 ghost use Rattle.std.specs.Prelude.{◌≡◌, ◌⊎◌, true, false, codes, map, string_bytes, IfSome, IsSome, IsNone};
 ghost use Rattle.command_words.specs.CommandLines.{asks_version};
@@ -96,7 +96,7 @@ pub fn run_words<C: Channels, W: Write, E: Reporter>(
     }
 }
 
-/// The hint if the channel could not be opened or written, after the reason.
+/// The hint that follows the reason if the channel could not be opened or written.
 const SEE: &str = "\ntelinit: check that it is a file that you can write, in an existing folder, \
     on a disk with free space";
 
