@@ -40,7 +40,7 @@ pub fn no_calls() -> Noted<CallList>
     Noted::of::<(), Empty>(&())
 }
 
-/// Derives a list with one more call, which `M` derives.
+/// Derives a list with one more call, which `M` derives from its arguments and its answer.
 struct ByCall<M> {
     marker: PhantomData<M>,
 }

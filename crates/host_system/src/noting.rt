@@ -41,7 +41,7 @@ pub fn nothing_asked() -> Noted<SystemCallList>
     Noted::of::<(), Empty>(&())
 }
 
-/// Returns the record with one more call, which `M` derives.
+/// Returns the record that `M` derives from the earlier record and this call.
 pub(crate) fn noted<'a, X: Copy, M: Reads<(&'a Noted<SystemCallList>, X), SystemCallList>>(
     before: &'a Noted<SystemCallList>,
     call: X,

@@ -1,4 +1,4 @@
--- How a command line of initd ends: its exit status, what is written, and what is reported.
+-- How a command line of initd ends: its exit status, its output, and its reports.
 use Rattle.std.specs.Prelude.{◌≡◌, ◌&&◌, not, ℕ, Bool, true, false, if◌then◌else◌, List, [], ◌∷◌, ◌++◌, codes, decimal}
 use Rattle.std.specs.Prelude.{Option, Some, None, option_map, unwrap_or, string_bytes}
 use Rattle.std.specs.Io.KnownBytes.{Keeps}
@@ -19,7 +19,7 @@ use Rattle.initd_command.specs.declared.run.TheConstants.{CAPPED, UNLED, UNPRINT
 use Rattle.initd_command.specs.Turned.{End, ReportsEnd, ReportsText, end_status}
 use Rattle.command_words.specs.Faults.{usage_report}
 
--- What is reported about a trace that was judged, besides the verdict:
+-- The report about a trace that was judged, besides the verdict:
 -- - `within`: its path, if it begins within a run
 -- - `open_line`: the line at which its last happening begins, if that is incomplete
 -- - `count`: the number of its complete happenings
@@ -28,11 +28,11 @@ pub record TraceJudgement : Type 0 where
   pub open_line : Option ℕ
   pub count : ℕ
 
--- What is reported about a run that comes to its turns:
--- - `unled`: nothing names its level
+-- The report about a run that reaches its turns:
+-- - `unled`: neither the arguments nor the inittab name its level
 -- - `capped`: no option specifies its end, so that it has the default limit of turns
 -- - `told`: the faults of its inittab were written
--- - `printed`: everything was printed that its host was to print
+-- - `printed`: its host printed all its output
 pub record RunRemarks : Type 0 where
   pub unled : Bool
   pub capped : Bool
@@ -41,15 +41,15 @@ pub record RunRemarks : Type 0 where
 
 -- An ending:
 -- - `done`: success
--- - `usage`: the arguments are not a command line; with the usage of the command that they begin with, if they begin
---   with one, and the reason
+-- - `usage`: the arguments are not a command line; with the usage of the command with which they begin, if they begin
+--   with a command, and the reason
 -- - `refused`: there is an obstacle
--- - `stopped`: the simulated run over this script ended before the end of the script, for this fault
+-- - `stopped`: the simulated run over this script ended before the end of the script because of this fault
 -- - `unflushed`: the output could not be flushed
 -- - `lawful`: the trace is lawful
 -- - `unlawful`: the trace is unlawful; with the message about the breach
 -- - `torn`: no happening begins at the line of the trace with this number
--- - `unfinished`: the happening at this line of the trace is incomplete; with the verdict on what comes before it
+-- - `unfinished`: the happening at this line of the trace is incomplete; with the verdict on the part before it
 -- - `unwritten`: the verdict could not be written
 -- - `turned`: the turns of a run over the operating system ended like this
 -- - `unversioned`: the version could not be written
@@ -84,8 +84,8 @@ fault_status (fault.Forbidden line why) = REFUSED
 fault_status fault.Write = DEVICE_FAULT
 fault_status fault.Memory = DEVICE_FAULT
 
--- the exit status of an ending. A run that comes to its turns has that of its turns; but if the faults of its inittab
--- were not written, or not everything was printed, it has `DEVICE_FAULT`
+-- the exit status of an ending. A run that reaches its turns has the status of its turns; but if the faults of its
+-- inittab were not written, or its host could not print all its output, the status is `DEVICE_FAULT`
 abbrev pub status_of : Ending → ℕ
 status_of done = DONE
 status_of (usage help reason) = REFUSED
@@ -100,16 +100,16 @@ status_of unwritten = DEVICE_FAULT
 status_of (turned spoken end) = if spoken.told && spoken.printed then end_status end else DEVICE_FAULT
 status_of unversioned = DEVICE_FAULT
 
--- the line `initd: LINE: REASON` about a script line that may not come there
+-- the line `initd: LINE: REASON` about a script line that is not allowed at its place
 abbrev pub reason_message : List ℕ → Objection → List ℕ
 reason_message line why = codes "initd: " ++ line_told line ++ codes ": " ++ objection_text why ++ codes "\n"
 
--- the same for the line that a fault names by its number in the script; empty for any other fault
+-- the line about the script line whose number a fault contains; empty for any other fault
 abbrev pub reason_of : List ℕ → SimFault → List ℕ
 reason_of script (fault.Forbidden number why) = reason_message (line_at number script) why
 reason_of script _ = []
 
--- the report of a fault of a run over this script, followed by the reason if a line may not come there
+-- the report of a fault of a run over this script, followed by the reason if a line is not allowed at its place
 abbrev pub fault_message : List ℕ → SimFault → List ℕ
 fault_message script f = codes "initd: " ++ fault_text f ++ codes "\n" ++ reason_of script f
 
@@ -133,8 +133,8 @@ left_message line =
     codes "initd: the happening at trace line " ++ decimal line
     ++ codes " is incomplete; judged up to the line before it\n"
 
--- the report that the happening at this line is incomplete, for a trace that is rejected; with the verdict on what
--- comes before it
+-- the report that the happening at this line is incomplete, for a trace that is rejected; with the verdict on the part
+-- before it
 abbrev pub unfinished_message : ℕ → List ℕ → List ℕ
 unfinished_message line verdict =
     codes "initd: the happening at trace line "
@@ -181,8 +181,8 @@ ReportsWithin (Some path) old new = ReportsText (within_message path) old new
 abbrev pub count_message : ℕ → List ℕ
 count_message count = codes "initd: " ++ decimal count ++ codes " happenings\n"
 
--- what is reported about a trace that was judged: that it begins within a run, the number of its happenings, and that
--- its last happening is incomplete
+-- the report about a trace that was judged: that it begins within a run, the number of its happenings, and that its
+-- last happening is incomplete
 abbrev pub ReportsJudged : TraceJudgement → ReportList → ReportList → Type 0
 ReportsJudged judged old new =
     (first : ReportList) × ReportsWithin judged.within old first
@@ -228,14 +228,14 @@ ReportsAll old new =
     × AppendsReport run simulate SIMULATE_USAGE.now × AppendsReport simulate check CHECK_USAGE.now
     × AppendsReport check new VERSION_USAGE.now
 
--- What is reported of arguments that are not a command line: the reason and the usage of the command that they begin
--- with. If the reason is empty, help was requested; help without a command is the usage of all commands.
+-- The report about arguments that are not a command line: the reason and the usage of the command with which they
+-- begin. If the reason is empty, help was requested; help without a command is the usage of all commands.
 abbrev pub ReportsRefused : Option (List ℕ) → List ℕ → ReportList → ReportList → Type 0
 ReportsRefused None [] old new = ReportsAll old new
 ReportsRefused help reason old new =
     AppendsReport old new (usage_report (codes "initd") reason (unwrap_or help []) SHORT_USAGE.now)
 
--- what is reported of each ending
+-- the report about each ending
 abbrev pub Reports : Ending → ReportList → ReportList → Type 0
 Reports done old new = new ≡ old
 Reports (usage help reason) old new = ReportsRefused help reason old new

@@ -1,4 +1,4 @@
--- The host that the arguments of a run describe, and what is known of the hosts over the operating system.
+-- The host that the arguments of a run describe, and the records of the hosts over the operating system.
 use Rattle.std.specs.Prelude.{List, [], Option, Some, None, ℕ}
 use Rattle.host_calls.specs.Held.{HeldChildren}
 use Rattle.host_calls.specs.Settings.{HostSettings}
@@ -11,8 +11,8 @@ use Rattle.initd_command.specs.Words.{HostCall, RunArguments}
 
 -- The state of a new host for the arguments of a run. Its inittab, logs, groups and longest delay are those of the
 -- arguments, and so is whether it is strict, reports what children do, and skips earlier requests. None of its calls
--- failed, it has read nothing of its channel, it has started nothing, and it holds no child. What it asked of the
--- system is not determined by the arguments.
+-- failed, it has read nothing from its channel, it has started nothing, and it holds no child. The arguments do not
+-- determine what it has asked of the system.
 abbrev pub host_with : List SystemCall → RunArguments → HostState
 host_with asked service = record {
   faults = 0;
@@ -28,22 +28,22 @@ host_with asked service = record {
   asked = asked;
 }
 
--- The calls made to a host, the calls that the host made to the system, and what its channel's file answered, newest
--- first.
+-- The calls made to a host, the calls that the host made to the system, and the answers of its channel's file, each
+-- newest first.
 pub record HostsState : Type 0 where
   pub calls : List HostCall
   pub asked : List SystemCall
   pub heard : List ChannelCall
 
--- the system was asked exactly what the calls of a host ask, for some settings
+-- for some settings of the host, the system was asked exactly what the calls to the host ask
 abbrev pub IsAsked : List HostCall → List SystemCall → Type 0
 IsAsked calls asked = (settings : HostSettings) × (held : HeldChildren) × AreSystemCallsFor settings calls held asked
 
 -- The settings are known, and the calls are those of a host with these settings that held no child before them. For
 -- these calls, in their order, the system was asked exactly this, after helpers that were run before the first call.
 -- The bytes that the calls returned are those read from the channel's file, each once and in order, except the rest of
--- the last request; and each request was read whole, from where the one before it ended, unless the channel was begun
--- or created anew in between.
+-- the last request; and each request was read whole, from the end of the one before it, unless reading began or the
+-- channel was created anew in between.
 abbrev pub IsOfSystem : HostsState → Option HostSettings → Type 0
 IsOfSystem hosts None = ⊥
 IsOfSystem hosts (Some settings) =

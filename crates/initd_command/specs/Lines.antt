@@ -1,4 +1,4 @@
--- The lines of a text, as they are reported.
+-- The lines of a text, as they are shown in reports.
 use Rattle.std.specs.Prelude.{ℕ, ◌-◌, if◌then◌else◌, List, [], codes, nat_eq}
 use Rattle.std.specs.List.{starts_with}
 use Rattle.std.specs.Option.{option_map_or}
@@ -12,6 +12,6 @@ front_line text = option_map_or (λ parts. parts.0) (cut 10 text) text
 abbrev pub line_at : ℕ → List ℕ → List ℕ
 line_at number text = option_map_or front_line (after_lines (number - 1) text) []
 
--- a script line as it is reported: of a table only the first word
+-- a script line as it is shown in reports; for a line with a table, that is only the first word
 abbrev pub line_told : List ℕ → List ℕ
 line_told line = if starts_with nat_eq line (codes "use ") then codes "use" else line

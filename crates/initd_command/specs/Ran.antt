@@ -1,4 +1,4 @@
--- Which calls a run of init makes to its host.
+-- The calls that a run of init makes to its host.
 use Rattle.std.specs.Prelude.{◌≡◌, ℕ, Bool, true, false, List, [], ◌∷◌, ◌++◌, reverse, Option, Some, None, is_some, ⊤}
 use Rattle.std.specs.Prelude.{IfSome}
 use Rattle.initd_command.specs.Words.{Entry, KnownTexts, InitdArguments, initd_read_of, runs, RunArguments, Event}
@@ -24,15 +24,15 @@ abbrev pub EndsDrained : Option Level → List Entry → List HostCall → Type 
 EndsDrained level table calls = TurnsFrom level table calls (λ past.
     (core : CoreState) × FitsWithLastStatuses core (opening_goal level table) past × (is_drained core ≡ true))
 
--- The calls are those of the turns of a run, made from the opening with this table on. `fresh` says that their log had
--- taken nothing before.
--- - `served`, `noted`: how the turns ended, and what was noted of them
--- - `turns`: they are turns from the opening on, in which a level is settled if the system does its part
--- - `fronts`: up to each call everything went well, if the answers so far were possible
+-- The calls are those of the turns of a run, from its opening with this table on. `fresh` says that the log had taken
+-- nothing before.
+-- - `served`, `noted`: how the turns ended, and the notes on them
+-- - `turns`: the calls are those of turns from the opening on, in which a level is settled if the system does its part
+-- - `fronts`: if the answers so far were possible, everything went well up to each call
 -- - `drains`: if the turns ended drained, init is drained after the calls
 -- - `notes`: if the log was fresh and took the whole trace, the notes are those of the trace
--- - `most`: there are no more turns than the arguments say, and fewer only if the run was to end when drained, and is
---   drained
+-- - `most`: there are no more turns than the arguments allow, and fewer only if the run was to end when drained, and
+--   is drained
 -- - `asked`: there is a verdict exactly if the run is to be judged
 -- - `ends`: this is how the run ended
 pub record MakesTurns (fresh : Type 0) (service : RunArguments) (table : List Entry) (end : End) (calls : List HostCall)
@@ -47,8 +47,8 @@ pub record MakesTurns (fresh : Type 0) (service : RunArguments) (table : List En
   pub asked : IsJudged service noted
   pub ends : end ≡ end_of service noted served
 
--- such turns; and if their log was fresh, how it ended, and that at each call it had taken everything up to that
--- moment, or had failed
+-- the calls are those of such turns; and if the log was fresh, it had this end, and at each call it had taken
+-- everything up to that moment, or had failed
 abbrev pub MakesLogged : {L : Type 0} → (L → LogState) → Type 0 → (Bool → List Event → Type 0) → RunArguments
     → List Entry → End → List HostCall → Type 0
 MakesLogged state fresh has_ended service table end calls = (made : MakesTurns fresh service table end calls)
@@ -62,19 +62,20 @@ abbrev pub IsWritten : Bool → List ℕ → Bool → List Event → Type 0
 IsWritten false bytes whole trace = KnowsEnd whole trace (Some bytes)
 IsWritten true bytes whole trace = EndsBrief (λ all written. KnowsEnd all written (Some bytes)) whole trace
 
--- Such turns, of whose trace these bytes went into files. If the run writes a trace, the bytes are what is written of
--- the trace of the calls, and all of it if the turns ended with their log whole. Otherwise there are none.
+-- The calls are those of such turns, and these bytes of their trace were written to files. If the run writes a trace,
+-- the bytes are the written part of the trace of the calls, which is all of it if the turns ended with their log
+-- whole. Otherwise there are no bytes.
 abbrev pub MakesTraced : RunArguments → List Entry → End → List ℕ → List HostCall → Type 0
 MakesTraced service table end bytes calls = (made : MakesTurns ⊤ service table end calls)
     × (service.trace ≡ None → bytes ≡ [])
     × (is_some service.trace ≡ true → TurnsFrom service.level table calls (λ past.
     LogEnds (IsWritten service.brief bytes) made.served.logged (reverse past)))
 
--- What is recorded of a run:
+-- The records of a run:
 -- - `opened`: the arguments with which its hosts were opened
 -- - `calls`: the calls that were made to these hosts
 -- - `trace`: the bytes that files of traces took
--- - `out`: what it wrote
+-- - `out`: the bytes that the run wrote to its output
 pub record RunRecord : Type 0 where
   pub opened : Option (List RunArguments)
   pub calls : Option (List HostCall)
@@ -99,11 +100,11 @@ HasSettings service known = IfSome known (λ settings. settings ≡ settings_of 
 abbrev pub AsksNothing : RunRecord → RunRecord → Type 0
 AsksNothing old new = (new.calls ≡ old.calls) × (new.trace ≡ old.trace)
 
--- A run that comes to its turns makes them over the table of the inittab at its paths, which it accepts, whose faults
--- it writes, and of which it reports whether anything names the level. Its host is opened with its arguments; if the
--- settings of the host are known, they are those of the arguments; and `conforms` holds for these settings. The bytes
--- of its trace are added to those of earlier traces. A run that ends in any other way makes no call to a host, and
--- writes no trace.
+-- A run that reaches its turns makes them over the table of the inittab at its paths. It accepts this inittab, writes
+-- the inittab's faults, and reports if neither the arguments nor the table name a level. Its host is opened with its
+-- arguments; if the settings of the host are known, they are those of the arguments; and `conforms` holds for these
+-- settings. The bytes of its trace are added to those of earlier traces. A run that ends in any other way makes no
+-- call to a host, and writes no trace.
 abbrev pub RanBy : KnownTexts → RunArguments → (Option HostSettings → Type 0) → Ending → RunRecord → RunRecord → Type 0
 RanBy text_at service conforms (turned spoken end) old new =
     HasInittab text_at service (λ parts. TakesParts service parts
@@ -115,8 +116,8 @@ RanBy text_at service conforms (turned spoken end) old new =
     × (known : Option HostSettings) × HasSettings service known × conforms known
 RanBy text_at service conforms _ old new = AsksNothing old new
 
--- what a command line asks of hosts and writes to a trace: `initd run` does so as the run does, and any other not at
--- all
+-- what a command line asks of hosts and writes to a trace: for `initd run`, what the run asks and writes; for any
+-- other command, nothing
 abbrev pub CommandLineAsks : KnownTexts → Option InitdArguments → (Option HostSettings → Type 0) → Ending → RunRecord
     → RunRecord → Type 0
 CommandLineAsks text_at (Some (runs service)) conforms ending old new = RanBy text_at service conforms ending old new

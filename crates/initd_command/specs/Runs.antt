@@ -20,7 +20,7 @@ EndsSimulation s (stopped script f) old new = (script ≡ s.script) × Ends s f 
 EndsSimulation s unflushed old new = Done s old new ⊎ ((f : SimFault) × Ends s f old new)
 EndsSimulation s _ old new = ⊥
 
--- how `initd simulate` ends: one of its files was not read, or as the simulated run over what was read ends
+-- how `initd simulate` ends: one of its files was not read, or it ends as the simulated run over the two texts does
 abbrev pub EndsSimulate : KnownTexts → SimulateArguments → Ending → Option (List ℕ) → Option (List ℕ) → Type 0
 EndsSimulate text_at run ending old new =
     (EndsUnread run.table ending old new ⊎ EndsUnread run.script ending old new)
@@ -45,14 +45,15 @@ CommandLineEnds text_at (simulates run) ending old new = EndsSimulate text_at ru
 CommandLineEnds text_at (judges check) ending old new = EndsCheck (judged_at text_at check) check ending old new
 CommandLineEnds text_at (runs service) ending old new = EndsRun text_at service ending old new
 
--- how arguments end: if they are not a command line, with the usage, otherwise as the command line does
+-- how a run with these arguments ends: with the usage if they are not a command line, otherwise as the command line
+-- does
 abbrev pub ParsedArgumentsEnd : KnownTexts → List (List ℕ) → Option InitdArguments → Ending → Option (List ℕ)
     → Option (List ℕ) → Type 0
 ParsedArgumentsEnd text_at words None ending old new =
     (reason : List ℕ) × (ending ≡ usage (usage_named words) reason) × Keeps old new
 ParsedArgumentsEnd text_at words (Some options) ending old new = CommandLineEnds text_at options ending old new
 
--- how arguments end: like this, or because memory ran out while they were read
+-- how a run with arguments ends: as their command line does, or because memory ran out while the arguments were read
 abbrev pub ArgumentsEnd : KnownTexts → List (List ℕ) → Ending → Option (List ℕ) → Option (List ℕ) → Type 0
 ArgumentsEnd text_at words ending old new =
     ((ending ≡ refused Memory) × Keeps old new) ⊎ ParsedArgumentsEnd text_at words (initd_read_of words) ending old new

@@ -1,4 +1,4 @@
--- How a run over the operating system ends: what is written, and how the exit status follows from how its turns ended.
+-- How a run over the operating system ends: its output, and the exit status that follows from the end of its turns.
 use Rattle.std.specs.Prelude.{◌≡◌, ◌≤◌, ◌<◌, ◌⊎◌, ◌&&◌, ◌==◌, not, if◌then◌else◌, ℕ, Bool, true, false, List, [], ◌∷◌}
 use Rattle.std.specs.Prelude.{◌++◌, length, string_bytes, Option, Some, None, option_map, is_none, is_some, unwrap_or}
 use Rattle.std.specs.Prelude.{IfSome, IsTrue, ⊤, ◌≢◌}
@@ -23,7 +23,7 @@ use Rattle.initd_command.specs.Turned.{End, EntryEnd, TurnsEnd, drained, limited
 use Rattle.host_files.specs.Folders.{IsWithin}
 use Rattle.host_messages.specs.LineFaults.{faults_text}
 
--- nothing names the level that init goes to: neither the arguments nor the table
+-- neither the arguments nor the table name the level that init goes to
 abbrev pub has_no_level : Option Level → List Entry → Bool
 has_no_level (Some level) table = false
 has_no_level None table = is_none (default_level_of table)
@@ -41,8 +41,8 @@ has_result table (Some id) = is_some (entry_of id table)
 abbrev pub is_taken : RunArguments → List ℕ → List Entry → Bool
 is_taken service told table = not (is_flawed service told) && has_result table service.result
 
--- What is noted of a run:
--- - `last`: how the last child of the entry of --result that ended did so, if one ended
+-- The notes on a run:
+-- - `last`: how the last child of the entry of --result ended, if one has ended
 -- - `running`: the children that are still running, if all of them are known
 -- - `waiting`: the lines that say what init waits for
 -- - `judgement`: the verdict on the run, if it was to be judged
@@ -52,7 +52,7 @@ pub record Noted : Type 0 where
   pub waiting : List ℕ
   pub judgement : Option Judgement
 
--- what is noted of a run, from the notes of its log; the children are known if there was memory to note all of them
+-- the notes on a run, given the notes of its log; the children are known if there was memory to note all of them
 abbrev pub noted_of : Notes → List ℕ → Option Judgement → Noted
 noted_of notes waiting judgement = record {
   last = notes.last;
@@ -75,7 +75,7 @@ turns_at service noted false ends = unlogged (not ends) noted.waiting
 turns_at service noted true true = drained (entry_end noted.last service.result)
 turns_at service noted true false = limited noted.running noted.waiting
 
--- how a run ends, given what was noted of it and how its turns ended
+-- how a run ends, given the notes on it and how its turns ended
 abbrev pub end_of : RunArguments → Noted → Served → End
 end_of service noted served = record {
   turns = turns_at service noted served.logged (service.drain && served.drained);
@@ -83,7 +83,7 @@ end_of service noted served = record {
   judgement = noted.judgement;
 }
 
--- the run made no more turns than its arguments say, and fewer only if it was to end when drained, and is drained
+-- the run made no more turns than its arguments allow, and fewer only if it was to end when drained, and is drained
 abbrev pub IsServed : RunArguments → Served → Type 0
 IsServed service served =
     (served.turns ≤ service.turns)
@@ -93,7 +93,7 @@ IsServed service served =
 abbrev pub IsJudged : RunArguments → Noted → Type 0
 IsJudged service noted = is_some noted.judgement ≡ service.judge
 
--- turns were made, and the run ended like this
+-- turns were made, and the run had this end
 abbrev pub EndsServed : RunArguments → End → Type 0
 EndsServed service end =
     (served : Served) × (noted : Noted) × (end ≡ end_of service noted served) × IsServed service served
@@ -107,8 +107,8 @@ pub record AreNotesOfRun (wanted : Option (List ℕ)) (noted : Noted) (past : Li
       × (noted.waiting ≡ waiting_text core)
   pub judgement : IfSome noted.judgement (λ judgement. IsJudgementOf judgement past)
 
--- What remains of a log that was given this trace, oldest first: if the flag is true, it took all of it and passed on
--- everything; otherwise it took a prefix of it.
+-- The end of a log that was given this trace, oldest first: if the flag is true, the log took the whole trace and
+-- passed everything on; otherwise it took a prefix of the trace.
 abbrev pub LogEnds : (Bool → List Event → Type 0) → Bool → List Event → Type 0
 LogEnds has_ended true trace = has_ended true trace
 LogEnds has_ended false trace = (taken : List Event) × (missed : List Event) × (taken ++ missed ≡ trace)
@@ -121,8 +121,8 @@ TurnsFrom level table calls So =
     IsTrue (is_allowed (opening_goal level table) (point_after calls (start_point table)).past)
     → IsTrue (are_carried calls (start_point table)) → So (point_after calls (start_point table)).past
 
--- these are the files of a run's inittab: its own file, with the text at its path as far as that is known, and further
--- files only if it has a folder
+-- these are the files of a run's inittab: its main file, with the text at its path if that is known, and further files
+-- only if it has a folder
 abbrev pub AreFiles : KnownTexts → RunArguments → List NamedText → Type 0
 AreFiles text_at service parts =
     (inittab : List ℕ) × (more : List NamedText) × IsTextAt text_at service.inittab inittab
@@ -149,7 +149,7 @@ TakesParts service parts = is_taken service (told_of parts) (table_in parts) ≡
 abbrev pub run_paths : RunArguments → List (List ℕ)
 run_paths service = service.inittab ∷ service.initctl ∷ service.state ∷ unwrap_or service.trace [] ∷ []
 
--- one path, and the other one after it in the list
+-- the list has one path, and the other path after it
 abbrev pub AppearInOrder : List ℕ → List ℕ → List (List ℕ) → Type 0
 AppearInOrder one other paths =
     (before between after : List (List ℕ)) × (paths ≡ before ++ one ∷ (between ++ other ∷ after))
@@ -160,7 +160,7 @@ AreDistinctPaths [] = ⊤
 AreDistinctPaths (path ∷ paths) = AllByRecursion (λ other. path ≢ other) paths × AreDistinctPaths paths
 
 -- The obstacle prevents this run, for the reason that it names. Nothing is stated about lack of memory, nor about
--- children that cannot be waited for, because nothing is known of signals.
+-- children that cannot be waited for, because the definitions do not cover signals.
 abbrev pub IsRunObstacle : KnownTexts → RunArguments → Obstacle → Type 0
 IsRunObstacle text_at service (why.Unread path error) = (string_bytes path ≡ service.inittab)
     ⊎ ((folder : List ℕ) × (service.inittab_dir ≡ Some folder) × IsWithin folder (string_bytes path))
@@ -187,14 +187,14 @@ abbrev pub Writes : Bool → List ℕ → Option (List ℕ) → Option (List ℕ
 Writes true text old new = Appends old new text
 Writes false text old new = AppendsPrefix old new text
 
--- turns were made, and the run ended like this; before them the faults of the inittab were written, or, if `written` is
--- false, a prefix of them
+-- turns were made, and the run had this end; before the turns, the faults of the inittab were written, or, if
+-- `written` is false, a prefix of them
 abbrev pub EndsTold : RunArguments → List ℕ → Bool → End → Option (List ℕ) → Option (List ℕ) → Type 0
 EndsTold service told written end old new = EndsServed service end × Writes written told old new
 
 -- How a run ends. Either there is an obstacle, and nothing is written. Or its paths are all different, it accepts the
--- inittab at its paths, writes the faults of that, and makes turns; it reports whether nothing names its level, and
--- whether no option specifies its end.
+-- inittab at its paths, writes the inittab's faults, and makes turns; it reports if neither the arguments nor the
+-- table name a level, and if no option specifies its end.
 abbrev pub EndsRun : KnownTexts → RunArguments → Ending → Option (List ℕ) → Option (List ℕ) → Type 0
 EndsRun text_at service ending old new =
     ((obstacle : Obstacle) × (ending ≡ refused obstacle) × IsRunObstacle text_at service obstacle × Keeps old new)
@@ -209,7 +209,7 @@ abbrev pub IsReadOf : List NamedText → Inittab → Type 0
 IsReadOf parts read =
     (are_readable (texts_of parts) ≡ true) × (read.faults.items ≡ told_of parts) × (read.table ≡ table_in parts)
 
--- this was read of the files of the run's inittab, and the run accepts it
+-- this was read from the files of the run's inittab, and the run accepts it
 abbrev pub IsInittab : KnownTexts → RunArguments → Inittab → Type 0
 IsInittab text_at service read = (parts : List NamedText) × AreFiles text_at service parts × IsReadOf parts read
     × (is_taken service read.faults.items read.table ≡ true)

@@ -1,4 +1,4 @@
--- How the turns of a run ended: its exit status, and what is reported.
+-- How the turns of a run ended: its exit status, and its reports.
 use Rattle.std.specs.Prelude.{◌≡◌, ◌⊎◌, ◌||◌, ◌==◌, if◌then◌else◌, unwrap_or, ℕ, Bool, true, false, List, [], ◌∷◌, ◌++◌}
 use Rattle.std.specs.Prelude.{codes, decimal, Option, Some, None}
 use Rattle.initd_command.specs.Words.{AppendsReport, ReportList, DONE, UNLAWFUL, LIMIT_REACHED, DEVICE_FAULT, Judgement}
@@ -9,7 +9,7 @@ use Rattle.trace_log_wrappers.specs.declared.judgements.Judgement.TheVariants.{L
 use Rattle.initd_command.specs.declared.ends.TheConstants.{KILLED, LIMITED, UNJUDGED, UNLOGGED, UNNAMED}
 use Rattle.initd_command.specs.declared.reports.TheConstants.{NO_MEMORY}
 
--- The entry of --result, and how its last child that ended did so, if one ended.
+-- The entry of --result, and how its last child ended, if one has ended.
 pub record EntryEnd : Type 0 where
   pub id : List ℕ
   pub last : Option Status
@@ -18,14 +18,14 @@ pub record EntryEnd : Type 0 where
 -- - `drained`: the run ended because init is drained; with the end of the entry of --result, if that is given
 -- - `limited`: the run made all its turns. These children, with their numbers, are still running (none if there was no
 --   memory to note all of them), and these lines say what init waits for.
--- - `unlogged`: the trace was not written whole. The flag says whether the run made all its turns, and the lines say
+-- - `unlogged`: the trace was not written in full. The flag says whether the run made all its turns, and the lines say
 --   what init waits for.
 pub data TurnsEnd : Type 0 where
   drained : Option EntryEnd → TurnsEnd
   limited : Option (List (List ℕ × ℕ)) → List ℕ → TurnsEnd
   unlogged : Bool → List ℕ → TurnsEnd
 
--- how the turns ended; whether their trace was written whole; and the verdict on them, if they were to be judged
+-- how the turns ended; whether their trace was written in full; and the verdict on them, if they were to be judged
 pub record End : Type 0 where
   pub turns : TurnsEnd
   pub whole : Bool
@@ -42,13 +42,14 @@ abbrev pub drained_status : Option EntryEnd → ℕ
 drained_status None = DONE
 drained_status (Some entry) = result_status entry.last
 
--- the exit status for a verdict: for a breach, and if not everything was judged
+-- the exit status for a verdict: there is one for a breach, and one if not everything was judged
 abbrev pub judgement_status : Judgement → Option ℕ
 judgement_status (Lawful count) = None
 judgement_status (Breach position law) = Some UNLAWFUL
 judgement_status Unjudged = Some DEVICE_FAULT
 
--- the exit status of a run, given that of its turns: a verdict replaces success and the limit of turns
+-- the exit status of a run, given the status of its turns: the verdict replaces success and the limit of turns if it
+-- is a breach, or if not everything was judged
 abbrev pub judged_status : Option Judgement → ℕ → ℕ
 judged_status None status = status
 judged_status (Some judgement) status =
@@ -87,8 +88,7 @@ listed_after front (child ∷ children) = front ++ (child_text child ++ listed_a
 abbrev pub running_text : List (List ℕ × ℕ) → List ℕ
 running_text children = listed_after (codes "initd: still running: ") children ++ codes "\n"
 
--- the report that this many happenings broke no law: those of the whole run, or, if its log failed, those that were
--- judged
+-- the report that this many happenings broke no law: all happenings of the run, or, if its log failed, the judged ones
 abbrev pub lawful_text : Bool → ℕ → List ℕ
 lawful_text true count = codes "initd: the run was lawful: " ++ (decimal count ++ codes " happenings\n")
 lawful_text false count =
@@ -99,7 +99,7 @@ abbrev pub breach_text : ℕ → List ℕ → List ℕ
 breach_text position why =
     codes "initd: the run was unlawful: happening " ++ (decimal position ++ (codes ": " ++ (why ++ codes "\n")))
 
--- the report of the verdict on a run, given whether its trace was written whole
+-- the report of the verdict on a run, given whether its trace was written in full
 abbrev pub judgement_text : Bool → Judgement → List ℕ
 judgement_text whole (Lawful count) = lawful_text whole count
 judgement_text whole (Breach position law) = breach_text position (law_words law)
@@ -109,7 +109,7 @@ judgement_text whole Unjudged = UNJUDGED.now
 abbrev pub ReportsText : List ℕ → ReportList → ReportList → Type 0
 ReportsText text old new = AppendsReport old new text ⊎ AppendsReport old new NO_MEMORY.now
 
--- the last end of the entry of --result is reported, if that is given
+-- the last end of the entry of --result is reported, if the option is given
 abbrev pub ReportsResult : Option EntryEnd → ReportList → ReportList → Type 0
 ReportsResult None old new = new ≡ old
 ReportsResult (Some entry) old new = ReportsText (result_text entry) old new
@@ -125,14 +125,14 @@ abbrev pub ReportsJudgement : Bool → Option Judgement → ReportList → Repor
 ReportsJudgement whole None old new = new ≡ old
 ReportsJudgement whole (Some judgement) old new = ReportsText (judgement_text whole judgement) old new
 
--- what is reported if all turns were made: that the limit is reached, the children that are still running, and what
--- init waits for
+-- the report if all turns were made: that the limit is reached, the children that are still running, and what init
+-- waits for
 abbrev pub ReportsLimit : Option (List (List ℕ × ℕ)) → List ℕ → ReportList → ReportList → Type 0
 ReportsLimit running waiting old new =
     (limit : ReportList) × AppendsReport old limit LIMITED.now
     × (mid : ReportList) × ReportsRunning running limit mid × ReportsText waiting mid new
 
--- what is reported about how the turns ended; if the trace was not written whole, this leaves open which children are
+-- the report about how the turns ended; if the trace was not written in full, this does not specify which children are
 -- named
 abbrev pub ReportsTurns : TurnsEnd → ReportList → ReportList → Type 0
 ReportsTurns (drained result) old new = ReportsResult result old new
@@ -143,7 +143,7 @@ ReportsTurns (unlogged true waiting) old new =
 ReportsTurns (unlogged false waiting) old new =
     (lost : ReportList) × AppendsReport old lost UNLOGGED.now × ReportsText waiting lost new
 
--- what is reported about how a run ended
+-- the report about how a run ended
 abbrev pub ReportsEnd : End → ReportList → ReportList → Type 0
 ReportsEnd end old new = (mid : ReportList) × ReportsTurns end.turns old mid
     × ReportsJudgement end.whole end.judgement mid new

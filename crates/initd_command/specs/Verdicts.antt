@@ -1,4 +1,4 @@
--- How a trace is judged: the verdict that is written, and what is reported about a breach.
+-- How a trace is judged: the verdict that is written, and the report about a breach.
 use Rattle.std.specs.Prelude.{◌≡◌, ◌⊎◌, ◌==◌, ◌&&◌, if◌then◌else◌, not, nat_lt, ℕ, Bool, true, false, List, [], ◌++◌}
 use Rattle.std.specs.Prelude.{codes, decimal, Option, Some, None, option_map, slice_get}
 use Rattle.std.specs.Io.KnownBytes.{Appends, Keeps}
@@ -13,7 +13,7 @@ use Rattle.initd_command.specs.Lines.{front_line}
 use Rattle.initd_command.specs.Endings.{Ending, EndsUnread, TraceJudgement, refused, lawful, unlawful, torn, unfinished}
 use Rattle.initd_command.specs.Endings.{unwritten}
 
--- what is reported about a trace, besides the verdict
+-- the report about a trace, besides the verdict
 abbrev pub judged_of : JudgedTrace → TraceJudgement
 judged_of told = record {
   within = option_map (λ path. path.now) told.within;
@@ -61,7 +61,7 @@ EndsLawful judged (lawful told) old new = (told ≡ judged) × Appends old new l
 EndsLawful judged unwritten old new = AppendsPrefix old new lawful_text
 EndsLawful judged _ old new = ⊥
 
--- how it ends for a trace with this breach
+-- how `initd check` ends for a trace with this breach
 abbrev pub EndsBreach : Named → TraceJudgement → Ending → Option (List ℕ) → Option (List ℕ) → Type 0
 EndsBreach breach judged (unlawful message told) old new =
     (message ≡ breach_message breach) × (told ≡ judged) × Appends old new (unlawful_text breach)
@@ -69,12 +69,12 @@ EndsBreach breach judged unwritten old new = AppendsPrefix old new (unlawful_tex
 EndsBreach breach judged (refused Memory) old new = Keeps old new
 EndsBreach breach judged _ old new = ⊥
 
--- how it ends for a text with a line at which no happening begins
+-- how `initd check` ends for a text with a line at which no happening begins
 abbrev pub EndsTorn : ℕ → Ending → Option (List ℕ) → Option (List ℕ) → Type 0
 EndsTorn number (torn told) old new = (told ≡ number) × Keeps old new
 EndsTorn number _ old new = ⊥
 
--- how it ends for a text with this finding
+-- how `initd check` ends for a text with this finding
 abbrev pub EndsFound : Finding Named → TraceJudgement → Ending → Option (List ℕ) → Option (List ℕ) → Type 0
 EndsFound Lawful judged ending old new = EndsLawful judged ending old new
 EndsFound (Breach breach) judged ending old new = EndsBreach breach judged ending old new
@@ -85,19 +85,19 @@ abbrev pub cut_at : Bool → Option ℕ → Option ℕ
 cut_at true open_line = None
 cut_at false open_line = open_line
 
--- how it ends for a text that is incomplete at this line: the text is no trace, and the verdict on what comes before
--- the line is reported
+-- how `initd check` ends for a text that is incomplete at this line: the text is no trace, and the verdict on the part
+-- before the line is reported
 abbrev pub EndsUnfinished : ℕ → Finding Named → Ending → Option (List ℕ) → Option (List ℕ) → Type 0
 EndsUnfinished line finding (unfinished at verdict) old new =
     (at ≡ line) × (verdict ≡ verdict_of finding) × Keeps old new
 EndsUnfinished line finding _ old new = ⊥
 
--- how it ends for a text with this finding that may be incomplete at a line
+-- how `initd check` ends for a text with this finding that may be incomplete at a line
 abbrev pub EndsTold : Option ℕ → Finding Named → TraceJudgement → Ending → Option (List ℕ) → Option (List ℕ) → Type 0
 EndsTold None finding judged ending old new = EndsFound finding judged ending old new
 EndsTold (Some line) finding judged ending old new = EndsUnfinished line finding ending old new
 
--- how it ends for a text: as the right answer to the text says
+-- how `initd check` ends for a text: as the correct finding on the text requires
 abbrev pub EndsTrace : CheckArguments → List ℕ → Ending → Option (List ℕ) → Option (List ℕ) → Type 0
 EndsTrace options text ending old new = (finding : Finding Named) × (open_line : Option ℕ) × (count : ℕ)
     × Answers text finding open_line count
@@ -107,7 +107,7 @@ EndsTrace options text ending old new = (finding : Finding Named) × (open_line 
       count = count;
     }) ending old new
 
--- how it ends for the text at a path: the text is not read, or it ends like this
+-- how `initd check` ends for the text at a path: the text is not read, or the command ends as it does for that text
 abbrev pub EndsCheck : KnownTexts → CheckArguments → Ending → Option (List ℕ) → Option (List ℕ) → Type 0
 EndsCheck text_at options ending old new = EndsUnread options.trace ending old new
     ⊎ ((text : List ℕ) × IsTextAt text_at options.trace text × EndsTrace options text ending old new)

@@ -1,4 +1,4 @@
--- What is reported about the children that init waited for (initd(8), DIAGNOSTICS).
+-- The reports about the children that init waited for (initd(8), DIAGNOSTICS).
 use Rattle.std.specs.Prelude.{ℕ, Bool, true, false, ◌||◌, ◌==◌, if◌then◌else◌, List, Option, Some, None}
 use Rattle.std.specs.Option.{option_map_or}
 use Rattle.init_words.specs.declared.actions.Act.{Act}
@@ -16,14 +16,14 @@ abbrev pub failed_end : Option Status → Option Status
 failed_end (Some (status.Exit code)) = if code == 0 then None else Some (status.Exit code)
 failed_end last = last
 
--- init goes to the next stage after the end of such an entry
+-- init goes to the next stage after an entry with this action has ended
 abbrev pub starts_next_stage : Act → Bool
 starts_next_stage act.Sysinit = true
 starts_next_stage act.Bootwait = true
 starts_next_stage _ = false
 
--- the entry's child was not stopped by the stage: it may live in it, or the entry's action is one after whose end init
--- goes to the next stage
+-- the stage did not stop the entry's child: the child may run in the stage, or init goes to the next stage after an
+-- entry with this action has ended
 abbrev pub was_not_stopped : Entry → Stage → Bool
 was_not_stopped entry stage = starts_next_stage entry.act || lives_of entry stage
 
@@ -31,14 +31,14 @@ was_not_stopped entry stage = starts_next_stage entry.act || lives_of entry stag
 abbrev pub holds_child : ℕ → SlotState → Bool
 holds_child number slot = option_map_or (λ held. held == number) (child_number slot) false
 
--- what is reported about the child with this number, for which init waited, given the entry and the record of its id,
--- and the stage: how it ended, if it is gone, failed, and was not stopped by the stage
+-- the failure to report for the child with this number, for which init waited, given the entry and the record of its
+-- id, and the stage: how the child ended, if it is gone, failed, and was not stopped by the stage
 abbrev pub told_of_child : Option Entry → Option SlotState → Option Stage → ℕ → Option Status
 told_of_child (Some entry) (Some slot) (Some stage) number =
     if holds_child number slot then None else if was_not_stopped entry stage then failed_end slot.last else None
 told_of_child _ _ _ number = None
 
--- the same, by what the core keeps
+-- the failure to report for this child, given the state of the core
 abbrev pub failure_of : CoreState → List ℕ → ℕ → Option Status
 failure_of core id number =
     told_of_child (entry_of id core.table) (record_by_id id core.slots) core.fields.stage number

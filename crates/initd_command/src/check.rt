@@ -1,4 +1,4 @@
-//! `initd check`: judging the file of a trace.
+//! Carries out `initd check`, which judges the file of a trace.
 
 ghost use Rattle.std.specs.Prelude.{◌≡◌, [], option_map, string_bytes, IfOk};
 ghost use Rattle.initd_command.specs.Words.{check_of};
@@ -21,7 +21,7 @@ use std::rt::Files;
 use trace_pieces::PiecedFiles;
 use trace_verdict::{Breach, Finding, TextJudge};
 
-/// What is reported about a trace besides the verdict: its path, if it begins within a run; the line at which its last
+/// The report about a trace besides the verdict: its path, if it begins within a run; the line at which its last
 /// happening begins, if that is incomplete; and the number of its complete happenings.
 #[derive(Clone, Copy)]
 struct JudgedTrace<'a> {
@@ -30,8 +30,8 @@ struct JudgedTrace<'a> {
     count: u64,
 }
 
-/// The judge of a trace whose text is read in pieces, with the first byte of the text, and with its path and the
-/// runtime to report that the text is compressed.
+/// The judge of a trace whose text is read in pieces. It keeps the first byte of the text, and also the path and the
+/// runtime, to report that the text is compressed.
 #[derive(Drop)]
 struct FileJudge<'a, R> {
     judge: TextJudge,
@@ -74,7 +74,8 @@ impl<R: Eprint> PieceTaker for FileJudge<'_, R> {
     }
 }
 
-/// Returns a judge that has taken no text, on the heap: proving a function with one in its stack frame is expensive.
+/// Returns a judge that has received no text yet. It is on the heap, because proving a function with a judge in its
+/// stack frame is expensive.
 fn file_judge<'a, R>(
     rt: &'a R,
     alloc: Global,
@@ -91,7 +92,8 @@ fn file_judge<'a, R>(
     Ok(Box::new(alloc, judge)?)
 }
 
-/// Reads a trace, with the pieces that were put away before it if they are asked for, and judges it.
+/// Reads a trace and judges it. With `--pieces`, the earlier pieces of the trace, which were put away, are read before
+/// it.
 pub(crate) fn check_files<R: Files<File = File> + Eprint, T: Texts, W: Write, E: Reporter>(
     rt: &R,
     texts: &T,
@@ -134,7 +136,7 @@ fn check_file<R: Eprint, T: Texts, W: Write, E: Reporter>(
     }
 }
 
-/// Hands a trace to a judge that has taken no text, and writes and reports what the judge found.
+/// Passes a trace to a judge that has received no text yet, and writes and reports what the judge found.
 fn judge_text<R: Eprint, T: Texts, W: Write, E: Reporter>(
     texts: &T,
     alloc: Global,
@@ -182,7 +184,7 @@ fn cut_at(growing: bool, open_line: Option<u64>) -> Option<u64>
     if growing { None } else { open_line }
 }
 
-/// Writes and reports the finding on a text, or reports that the text is incomplete.
+/// Writes and reports the judge's finding on a text, or reports that the text is incomplete.
 fn tell_text<W: Write, E: Reporter>(
     alloc: Global,
     growing: bool,
@@ -203,7 +205,7 @@ fn tell_text<W: Write, E: Reporter>(
     }
 }
 
-/// Writes the verdict on a text, and reports what else there is to report about it.
+/// Writes the verdict on a text, and makes the other reports about it.
 fn tell_finding<W: Write, E: Reporter>(
     alloc: Global,
     finding: &Finding,
@@ -351,7 +353,7 @@ fn left_text(alloc: Global, line: u64) -> Result<String, AllocError>
     )
 }
 
-/// Reports that the happening at a line of a trace is incomplete, with the verdict on what comes before it, and returns
+/// Reports that the happening at a line of a trace is incomplete, with the verdict on the part before it, and returns
 /// the exit status.
 fn report_unfinished<E: Reporter>(alloc: Global, line: u64, finding: &Finding, err: &mut E) -> u8
     ensures status { result ≡ REFUSED }

@@ -92,7 +92,7 @@ const CHECK_USAGE: &str = "usage: initd check [--growing] [--pieces] TRACE
 /// The end of the report if help without a command is requested; it follows the usage of all commands.
 const VERSION_USAGE: &str = "usage: initd --version\n";
 
-/// The usage that is reported for arguments that are not a command line, after the line that says why.
+/// The usage that is reported for arguments that are not a command line, after the line with the reason.
 pub const SHORT_USAGE: &str =
     "usage: initd run [OPTION].. | simulate TABLE SCRIPT | check TRACE | --help\n";
 
@@ -109,8 +109,8 @@ const UNVERSIONED: &str = "initd: the version could not be written\n";
 /// - for a run with `--result` that ends drained, the last status of that entry
 ///
 /// The trace of a simulated run, the verdict on a trace, the faults of the inittab of a run, and the version are
-/// written to `out`; faults are reported on `err`. A run makes its turns over a host from `hosts`, and writes its trace
-/// to files from `traces`; it gives both back.
+/// written to `out`; faults are reported on `err`. A run makes its turns over a host from `hosts`, and writes its
+/// trace to files from `traces`; it returns both to their sources.
 pub fn run_words<R, T, H, S, F, W, E>(
     rt: &R,
     texts: &T,
@@ -129,12 +129,12 @@ where
     F: Traces,
     W: Write,
     E: Reporter,
-    // There is an ending from which everything follows: the exit status (`status_of`), what is written to `out`, given
-    // the arguments and the known texts (`ArgumentsEnd`), and what is reported on `err` (`Reports`). A run that comes to its
-    // turns makes exactly the calls of its turns to its host (`MakesTurns`), and its files of the trace take the text
-    // of the trace of these calls (with `--brief`, of its brief form), or, if its log failed, a prefix of it, and
-    // nothing else. The property `conforms` of the source of hosts then holds; for hosts over the operating system it
-    // states what the system was asked (`IsOfSystem`). Any other ending makes no call to a host and writes no trace
+    // There is an ending that determines the exit status (`status_of`), the text written to `out`, given the arguments
+    // and the known texts (`ArgumentsEnd`), and the reports on `err` (`Reports`). A run that reaches its turns makes
+    // exactly the calls of its turns to its host (`MakesTurns`). The files of its trace receive the text of the trace
+    // of these calls (with `--brief`, of its brief form), or, if its log failed, a prefix of that text, and nothing
+    // else. The property `conforms` of the source of hosts then holds; for hosts over the operating system it states
+    // what the system was asked (`IsOfSystem`). Any other ending makes no call to a host and writes no trace
     // (`ArgumentsAsk`).
     ensures { (ending : Ending) × (result ≡ status_of ending)
         × ArgumentsEnd (T.text_at texts.now) (map string_bytes words.items) ending
@@ -179,7 +179,7 @@ fn tell_version<W: Write, E: Reporter>(out: &mut W, err: &mut E) -> u8
 }
 
 /// Reports why the arguments were rejected, with the short usage. If the reason is empty, because help was requested,
-/// it reports the usage of the command that they begin with, or of all commands.
+/// it reports the usage of the command that the arguments begin with, or of all commands.
 fn report_refused<E: Reporter>(words: &[String], reason: &str, err: &mut E) -> u8
     ensures status { result ≡ REFUSED }
     ensures reported { ReportsRefused (usage_named (map string_bytes words.now)) reason.now

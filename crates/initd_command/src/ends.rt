@@ -20,13 +20,13 @@ use trace_log_wrappers::{Judgement, Numbers, RunNotes};
 /// The report if a run made all its turns.
 const LIMITED: &str = "initd: turn limit reached\n";
 
-/// The report if the trace was not written whole.
+/// The report if the trace was not written in full.
 const UNLOGGED: &str = "initd: the trace could not be written\n";
 
 /// The report in place of the children that are still running, if there was no memory to note all of them.
 const UNNAMED: &str = "initd: out of memory: not all children that keep running could be listed\n";
 
-/// The report on a run whose judge had no memory to judge it to its end.
+/// The report on a run whose judge ran out of memory before the end of the run.
 const UNJUDGED: &str = "initd: out of memory: the run could not be judged to its end\n";
 
 /// The exit status of a run if the last child of its entry was killed.
@@ -97,8 +97,8 @@ fn report_limit<E: Reporter>(alloc: Global, notes: &RunNotes, core: &Core, err: 
     report_waiting(alloc, core, err);
 }
 
-/// Reports the same if the trace was lost, and with it the notes on later children. It names the children in init's
-/// records.
+/// Reports that all turns were made, if the trace was lost, and with it the notes on later children. Instead of these,
+/// it names the children in init's records.
 fn report_lost_limit<E: Reporter>(alloc: Global, core: &Core, err: &mut E)
     ensures { (running : Option (List (List ℕ × ℕ))) × ReportsLimit running
         (waiting_text core.now) (E.reports err.old) (E.reports err.new) }
@@ -139,7 +139,8 @@ fn report_waiting<E: Reporter>(alloc: Global, core: &Core, err: &mut E)
     report_lines(waiting_lines(alloc, core), err);
 }
 
-/// Returns the exit status of a run, given that of its turns: a verdict replaces success and the limit of turns.
+/// Returns the exit status of a run, given the status of its turns: the verdict replaces success and the limit of
+/// turns if it is a breach, or if not everything was judged.
 fn judged_status(judgement: Option<Judgement>, status: u8) -> u8
     ensures { result ≡ judged_status judgement status }
 {
@@ -153,7 +154,7 @@ fn judged_status(judgement: Option<Judgement>, status: u8) -> u8
     }
 }
 
-/// Reports the verdict on a run that was to be judged; it is that on the whole run, or on the part before its log
+/// Reports the verdict on a run that was to be judged. The verdict is on the whole run, or on the part before its log
 /// failed.
 fn report_judgement<E: Reporter>(
     alloc: Global,
@@ -193,7 +194,7 @@ fn breach_text(alloc: Global, position: u64, why: &str) -> Result<String, AllocE
     format!(in alloc; "initd: the run was unlawful: happening {position}: {why}\n")
 }
 
-/// Reports how the last child of the entry of `--result` ended, if that is given, and returns the exit status.
+/// Reports how the last child of the entry of `--result` ended, if the option is given, and returns the exit status.
 fn report_result<E: Reporter>(alloc: Global, entry: Option<Id>, notes: &RunNotes, err: &mut E) -> u8
     ensures status { result ≡ drained_status (entry_end (noted_of notes.now [] None).last entry) }
     ensures reported { ReportsResult (entry_end (noted_of notes.now [] None).last entry)

@@ -1,5 +1,5 @@
-//! What a run inherits from the process that started it, as far as it is reported: the signals that it ignores, and
-//! that its children therefore ignore, too.
+//! Reports the ignored signals that a run inherits from the process that started it, and that its children therefore
+//! ignore, too.
 
 ghost use Rattle.std.specs.Prelude.{IfErr};
 ghost use Rattle.initd_command.specs.Words.{KnownTexts, RunArguments};
@@ -20,8 +20,8 @@ const QUIT: u64 = 0x4;
 
 const TERM: u64 = 0x4000;
 
-/// Rejects a run that cannot wait for children, because CHLD is ignored and the system reaps each child by itself
-/// (wait(2)).
+/// Rejects a run that cannot wait for children, because CHLD is ignored and the system therefore reaps each child
+/// itself (wait(2)).
 pub(crate) fn refuse_unwaited<R: Files + Processes>(rt: &R, alloc: Global) -> Result<(), Obstacle>
     ensures { (text_at : KnownTexts) (service : RunArguments)
         → IfErr result (IsRunObstacle text_at service) }

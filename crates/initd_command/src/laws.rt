@@ -1,5 +1,5 @@
-//! Laws about the channel: what init receives from a file that grew, and what telinit asks for in it. A law about the
-//! system calls of a run.
+//! Laws about the channel, which relate the bytes of a file that only grew, the requests that telinit appends to it,
+//! and the requests that init receives; and a law about the system calls of a run.
 
 ghost use Rattle.std.specs.Prelude.{◌≡◌, ◌++◌, ◌%◌, ◌≤◌, [], ℕ, IsTrue, List, Some, length};
 ghost use Rattle.std.specs.List.{list_all};
@@ -20,10 +20,10 @@ ghost use Rattle.initd_command.specs.Heard.{IsNext};
 ghost use Rattle.initd_command.specs.Words.{AppendsRequest, HostCall, KnownBytes, KnownTexts};
 
 /// States that the request that telinit(8) appended to a channel of whole requests is the next one that init receives,
-/// after those that were there.
+/// after the requests that were already in the channel.
 ///
-/// This holds if init takes all bytes of the channel, or all after whole requests that it skipped, as with `--fresh`.
-/// The function does nothing: its contract is the law.
+/// This holds if init reads all bytes of the channel, or all bytes after whole requests that it skipped, as with
+/// `--fresh`. The function does nothing: its contract is the law.
 pub fn law_of_telinit()
     ensures { (home : List ℕ) (words : List (List ℕ)) (old new : KnownBytes)
         → AppendsRequest home words old new → IsNext home words old new }
@@ -32,7 +32,7 @@ pub fn law_of_telinit()
 /// States that the calls of a host returned all bytes of its channel, if its file only grew, the host read it to the
 /// end, and everything that was read was returned.
 ///
-/// The bytes are all bytes of the file, or all after whole requests that the host skipped, as with `--fresh`. So
+/// The bytes are all bytes of the file, or all bytes after whole requests that the host skipped, as with `--fresh`. So
 /// [`law_of_telinit`] applies to them. The function does nothing: its contract is the law.
 pub fn law_of_a_channel()
     ensures { (calls : List HostCall) (channel : ChannelState) (device number : ℕ) (text : List ℕ)
@@ -42,8 +42,8 @@ pub fn law_of_a_channel()
         → (front : List ℕ) × (front ++ bytes_of calls ≡ text) × (length front % BLOCK ≡ 0) }
 {}
 
-/// States what a run asks of the operating system, given the last clause of [`run_words`](crate::run_words): init waits
-/// for and signals only its own children, and each SIGKILL follows a SIGTERM by at least `grace` seconds.
+/// States a property of the system calls of a run, given the last clause of [`run_words`](crate::run_words): init
+/// waits for and signals only its own children, and each SIGKILL follows a SIGTERM by at least `grace` seconds.
 ///
 /// The function does nothing: its contract is the law.
 pub fn law_of_a_run()

@@ -25,7 +25,7 @@ pub(crate) fn line_at(number: u64, text: &[u8]) -> &[u8]
     }
 }
 
-/// Returns a script line as it is reported: of a table only the first word.
+/// Returns a script line as it is shown in reports. For a line with a table, that is only the first word.
 pub(crate) fn line_told(line: &[u8]) -> &[u8]
     ensures { result.now ≡ line_told line.now }
 {

@@ -21,11 +21,12 @@ use std::marker::Model;
 use std::process::Processes;
 use std::rt::{Clock, Files};
 
-/// A source of one host, which asks the operating system. It has the records of the calls made to the host, of those
-/// that the host made to the system for them, and of what the host read of its channel. Only proofs can read them.
+/// A source of one host, which asks the operating system. It keeps records of the calls made to the host, of the calls
+/// that the host made to the system to answer them, and of the reading of the host's channel. Only proofs can read
+/// them.
 ///
-/// The host is opened once. Another host would hold none of the children of the first, so opening another one fails,
-/// with the error for lack of memory. Opening also fails after an opening that failed.
+/// The host is opened once. A second host would hold none of the children of the first, so a second opening fails,
+/// with the error for lack of memory, even if the first opening failed.
 #[derive(Drop)]
 pub struct OsHosts<R: Processes + Files<File = File> + Clock + Print + Eprint + Clone + Drop> {
     /// The runtime of the host, until the host is opened.
@@ -56,7 +57,7 @@ impl<R: Processes + Files<File = File> + Clock + Print + Eprint + Clone + Drop> 
 }
 
 impl<R: Processes + Files<File = File> + Clock + Print + Eprint + Clone + Drop> OsHosts<R> {
-    /// Returns the source of a host to which no call was made yet.
+    /// Returns the source of a host, before the host is opened.
     pub fn new(rt: R) -> OsHosts<R>
         ensures { result ≡ record { calls = []; asked = []; heard = [] } }
     {
@@ -68,7 +69,8 @@ impl<R: Processes + Files<File = File> + Clock + Print + Eprint + Clone + Drop> 
         }
     }
 
-    /// Returns what the host asked the system: exactly what its calls ask.
+    /// Returns the record of the calls that the host made to the system: exactly those that the calls to the host
+    /// require.
     pub fn asked(&self) -> Noted<SystemCallList>
         ensures value { result.value ≡ self.now.asked }
         ensures own { IsAsked self.now.calls self.now.asked }
@@ -146,7 +148,7 @@ where
     OsHost::new(telling, rt, alloc, &options)
 }
 
-/// Returns whether the trace of the run has its looks: there is a trace, and it is not brief.
+/// Returns whether the trace of the run contains the looks: there is a trace, and it is not brief.
 fn writes_looks(run_options: &RunWords) -> bool {
     run_options.trace.is_some() && !run_options.brief
 }

@@ -45,8 +45,8 @@ pub(crate) fn report_fault<E: Reporter>(
     }
 }
 
-/// Returns the text of a fault, followed by the script line and the reason if the fault is a line that may not come
-/// there.
+/// Returns the text of a fault. If the fault is a script line that is not allowed at its place, the line and the
+/// reason follow.
 fn fault_message(alloc: Global, script: &[u8], fault: &SimFault) -> Result<Vec<u8>, AllocError>
     ensures { IfOk result (λ text. text.items ≡ fault_message script.now fault.now) }
 {
@@ -59,7 +59,7 @@ fn fault_message(alloc: Global, script: &[u8], fault: &SimFault) -> Result<Vec<u
     Ok(text)
 }
 
-/// Adds a script line that may not come there, and the reason.
+/// Adds a script line that is not allowed at its place, and the reason.
 fn add_reason(
     alloc: Global,
     text: &mut Vec<u8>,
@@ -77,7 +77,7 @@ fn add_reason(
     Ok(())
 }
 
-/// Reports that an operation on a file failed, named by a verb such as `read`, and returns the exit status.
+/// Reports that an operation on a file, named by a verb such as `read`, failed, and returns the exit status.
 pub(crate) fn report_cannot<E: Reporter>(
     alloc: Global,
     verb: &str,
@@ -218,7 +218,7 @@ pub(crate) fn report_too_many<E: Reporter>(err: &mut E) -> u8
     REFUSED
 }
 
-/// Reports the faults of an inittab that must have none, which are these lines, and returns the exit status.
+/// Reports these lines, the faults of an inittab that must have none, and returns the exit status.
 pub(crate) fn report_flawed<E: Reporter>(faults: &[u8], err: &mut E) -> u8
     ensures status { result ≡ REFUSED }
     ensures reported { ReportsFlawed faults.now (E.reports err.old) (E.reports err.new) }

@@ -1,4 +1,4 @@
-//! `initd run`: what it needs before its first turn, and its turns.
+//! Carries out `initd run`: prepares the run, and makes its turns.
 
 ghost use Rattle.std.specs.Prelude.{not, ◌≡◌, ◌≢◌, ◌∷◌, ◌++◌, ◌&&◌, if◌then◌else◌, ℕ, true, List, None, Some, [], is_some, option_map, unwrap_or, IfErr, IfOk, IfSome, OnErr, OnOk};
 ghost use Rattle.initd_command.specs.Words.{KnownTexts, NamedText, Entry, NewCallsSatisfy, IsStartOver, RunArguments, run_of};
@@ -43,10 +43,10 @@ use trace_log_wrappers::{BriefLog, NotingLog};
 /// The report if the faults of the inittab's lines could not be written.
 const UNTOLD: &str = "initd: the faults of the inittab could not be written\n";
 
-/// The report at the end of a run if not everything was printed that its host was to print.
+/// The report at the end of a run if its host could not print all its output.
 const UNPRINTED: &str = "initd: some announcements could not be written\n";
 
-/// The report at the start if nothing names a level.
+/// The report at the start if neither the arguments nor the inittab name a level.
 const UNLED: &str = "initd: the inittab has no initdefault level and --level is not given; going \
     to level S\n";
 
@@ -54,7 +54,7 @@ const UNLED: &str = "initd: the inittab has no initdefault level and --level is 
 const CAPPED: &str = "initd: this run stops after 1000000 turns (a day or more when idle); use \
     --forever to remove the limit\n";
 
-/// The mode of a new trace: a user who can read a trace can take its lock.
+/// The mode of a new trace. Other users must not read it, because a user who can read a trace can take its lock.
 const MODE: u32 = 0o600;
 
 /// An obstacle: the reason why a command is rejected, or cannot continue, before it writes anything.
@@ -62,7 +62,7 @@ const MODE: u32 = 0o600;
 pub(crate) enum Obstacle {
     /// No child can be waited for, because CHLD is ignored.
     Unwaited,
-    /// The file or the folder at this path was not read.
+    /// The file or the folder at this path could not be read.
     Unread(String, io::Error),
     /// Memory allocation failed.
     Memory,
@@ -70,12 +70,12 @@ pub(crate) enum Obstacle {
     TooMany,
     /// The inittab is too long.
     TooLong,
-    /// An inittab that must have no faults has those that these lines report.
+    /// An inittab that must have no faults has some, which these lines report.
     Flawed(Vec<u8>),
     /// The inittab has no entry with this id, which `--result` names.
     Unlisted(Id),
-    /// Another process holds the file at this path, the channel or the trace; with the name and number of the process
-    /// if they are known.
+    /// Another process holds the lock of the file at this path, the channel or the trace. The name and number of the
+    /// process are given if they are known.
     Busy(String, Option<String>),
     /// These two paths of the run lead to the same file.
     Shared(String, String),
@@ -112,7 +112,7 @@ struct Run<H> {
     trace: Option<File>,
     /// The lines that report the faults of the inittab.
     faults: Vec<u8>,
-    /// Whether nothing names a level.
+    /// Whether neither the arguments nor the table name a level.
     has_no_level: bool,
 }
 
@@ -154,8 +154,7 @@ where
     }
 }
 
-/// Prepares a run. If the run is rejected, everything stays as it was: no channel and no trace is left behind, and
-/// nothing is written.
+/// Prepares a run. If the run is rejected, nothing is written, and a channel or trace that it created is removed.
 fn open_run<R, T: Texts, H: Host + Drop, S: Hosts<H>>(
     rt: &R,
     texts: &T,
@@ -249,7 +248,7 @@ fn remove_made<R: Files + Alloc>(rt: &R, path: &str, was_made: bool) {
     }
 }
 
-/// Returns whether nothing names a level: neither the arguments nor the table.
+/// Returns whether neither the arguments nor the table name a level.
 fn has_no_level(level: Option<Level>, table: &Table) -> bool
     ensures { result ≡ has_no_level level table.now }
 {
@@ -259,7 +258,7 @@ fn has_no_level(level: Option<Level>, table: &Table) -> bool
     }
 }
 
-/// Rejects a run if two of its paths lead to the same file, because what is written to one would be lost in the other.
+/// Rejects a run if two of its paths lead to the same file, because the data written to one would overwrite the other.
 fn refuse_shared<R: Files>(rt: &R, alloc: Global, options: &RunWords) -> Result<(), Obstacle>
     ensures refused { (text_at : KnownTexts)
         → IfErr result (IsRunObstacle text_at (run_of options.now)) }
@@ -302,7 +301,7 @@ pub(crate) fn folder_of(options: &RunWords) -> Option<&str>
     }
 }
 
-/// Reports which files of the inittab's folder are ignored, if that is asked for.
+/// Reports which files of the inittab's folder are ignored, if such reports are enabled.
 #[derive(Clone, Copy)]
 struct SkippedFileReporter {
     is_told: bool,
@@ -346,7 +345,8 @@ fn files_of<R: Files + Eprint, T: Texts>(
     }
 }
 
-/// Returns the reason why the inittab was not read, with what to do if only the files of the folder were meant.
+/// Returns the reason why the inittab was not read, with a hint for users who meant to give only the files of the
+/// folder.
 fn with_hint(options: &RunWords, error: io::Error) -> io::Error {
     if options.inittab_dir.is_none() || error.kind() != ErrorKind::NotFound {
         return error;
@@ -433,8 +433,8 @@ fn open_trace<R: Files<File = File>>(
     }
 }
 
-/// Opens a file for writing without changing it, and returns it with whether it was created; without the file if
-/// another run holds its lock.
+/// Opens a file for writing without changing it, and takes its lock. Returns the file, or `None` if another run holds
+/// the lock, and whether the file was created.
 ///
 /// Outside of `/dev/`, a FIFO is rejected, because opening it would block until it has a reader, and so is a device.
 fn opened<R: Files<File = File>>(rt: &R, path: &str) -> io::Result<(Option<File>, bool)> {
@@ -485,7 +485,7 @@ pub(crate) fn trace_of(options: &RunWords) -> &str
     }
 }
 
-/// Writes the faults of the inittab's lines, and makes the turns. If these faults, or what the host was to print, could
+/// Writes the faults of the inittab's lines, and makes the turns. If these faults, or the output of the host, could
 /// not be written, the exit status is 4.
 fn make_run<R, H: Host + Drop, S: Hosts<H>, F: Traces, W: Write, E: Reporter>(
     rt: &R,
@@ -534,7 +534,7 @@ where
     status_where(is_told, is_printed, status)
 }
 
-/// Returns this exit status if the faults were written and everything was printed, otherwise 4.
+/// Returns this exit status if the faults were written and the host printed all its output, otherwise 4.
 fn status_where(is_told: bool, is_printed: bool, status: u8) -> u8
     ensures { result ≡ (if is_told && is_printed then status else DEVICE_FAULT) }
 {
@@ -558,7 +558,7 @@ fn tell_endless(rt: &impl Eprint, options: &RunWords) {
     }
 }
 
-/// Reports that the file size limit ends the trace, unless its files are put away before that.
+/// Reports that the file size limit will end the trace, unless its files are put away before they reach the limit.
 fn tell_limit(rt: &impl Eprint, options: &RunWords, trace: &Option<File>) {
     let (Some(file), Some(limit)) = (trace, file_size_limit()) else {
         return;
@@ -629,10 +629,10 @@ fn make_over<R: Files + Eprint, H: Host, S: TraceFiles, E: Reporter>(
     make_turns(rt, alloc, options, opening, host, log, err)
 }
 
-/// Makes the turns of a run from its opening on, ends its log, reports how they ended, and returns the exit status, the
-/// host, and what is left of the log.
+/// Makes the turns of a run from its opening on, ends its log, and reports how the turns ended. Returns the exit
+/// status, the host, and the remains of the log.
 ///
-/// The exit status is 0, or that of the entry of `--result`, if the run ended drained, 3 at the limit of turns, and 4
+/// The exit status is 0, or that of the entry of `--result`, if the run ended drained; 3 at the limit of turns; and 4
 /// if the log failed. With `--judge`, 0 and 3 are replaced by 2 if the run breaks a law, and by 4 if the judge ran out
 /// of memory.
 pub fn make_turns<R: Files + Eprint, H: Host, L: EndedLog, E: Reporter>(
@@ -644,9 +644,9 @@ pub fn make_turns<R: Files + Eprint, H: Host, L: EndedLog, E: Reporter>(
     log: L,
     err: &mut E,
 ) -> (u8, H, L::Left)
-    // There is an end of turns that determines the exit status and what is reported. Over the table of the opening, the
-    // calls made to the host are those of init's turns, which ended like this. If the log was fresh, it ended like
-    // this, too, and when each call was made, it had taken the whole trace up to that moment, or had failed.
+    // There is an end of the run that determines the exit status and the reports. The calls made to the host are those
+    // of init's turns over the table of the opening, which had this end. If the log was fresh, it had this end, too,
+    // and when each call was made, the log had taken the whole trace up to that moment, or had failed.
     ensures ended { (end : End) × (result.0 ≡ end_status end) × EndsServed (run_of options.now) end
         × ReportsEnd end (E.reports err.old) (E.reports err.new)
         × ((table : List Entry) → IsStartOver (run_of options.now).level table opening
@@ -676,7 +676,7 @@ pub fn make_turns<R: Files + Eprint, H: Host, L: EndedLog, E: Reporter>(
     (status, host, log_end)
 }
 
-/// Returns how the turns ended once their log was ended, with everything that it took or not.
+/// Returns how the turns ended, given whether their log was written in full when it was ended.
 fn ended_with(served: Served, whole: bool) -> Served
     ensures { result ≡ record served { logged = served.logged && whole } }
 {

@@ -1,4 +1,4 @@
-//! `initd simulate`: running init over a script.
+//! Carries out `initd simulate`, which runs init over a script.
 
 ghost use Rattle.std.specs.Prelude.{◌≡◌};
 ghost use Rattle.initd_command.specs.Words.{simulation_of, scenario};

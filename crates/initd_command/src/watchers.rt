@@ -1,5 +1,5 @@
 //! Reports between turns, on standard error: failed entries that init waited for, a channel whose folder is gone, and,
-//! on request, what a stage waits for that is not settled for long.
+//! on request, what a stage waits for that has not been settled for a long time.
 
 ghost use Rattle.std.specs.Prelude.{◌≡◌};
 ghost use Rattle.initd_command.specs.Watching.{failed_end, failure_of, holds_child, was_not_stopped};
@@ -13,7 +13,7 @@ use std::rt::Files;
 use std::{fs, str};
 use supervisor::TurnObserver;
 
-/// How long a stage may be unsettled, in seconds, before it is reported what it waits for.
+/// The number of seconds for which a stage may be unsettled before a report says what it waits for.
 const PATIENCE: u64 = 60;
 
 /// Observes init between its turns.
@@ -21,14 +21,14 @@ const PATIENCE: u64 = 60;
 pub(crate) struct Progress<'a, R> {
     rt: &'a R,
     alloc: Global,
-    /// Whether each end of a child is reported anyway, so that failures need no report of their own; and whether it is
-    /// reported what an unsettled stage waits for.
+    /// Whether each end of a child is reported anyway, so that no separate reports of failures are needed; and whether
+    /// the reports about unsettled stages are made.
     is_verbose: bool,
     stage: Option<Stage>,
-    /// The time, in seconds, since which the stage has been unsettled, or at which it was last reported what it waits
-    /// for.
+    /// The time, in seconds, since which the stage has been unsettled, or at which the last report on an unsettled
+    /// stage was made.
     since: u64,
-    /// The children of entries that init waits for, as they were after the turn before.
+    /// The children of entries that init waited for after the previous turn.
     waited: Vec<(Id, ChildNumber)>,
     /// The folder of the channel.
     folder: &'a str,
@@ -36,8 +36,8 @@ pub(crate) struct Progress<'a, R> {
 }
 
 impl<'a, R: Files + Eprint> Progress<'a, R> {
-    /// Returns an observer that looks for the folder of the channel at this path. With `is_verbose`, when all ends are
-    /// reported, it reports no failures.
+    /// Returns an observer that looks for the folder of the channel at this path. With `is_verbose`, it reports no
+    /// failures, because the host then reports all ends.
     pub(crate) fn new(
         rt: &'a R,
         alloc: Global,
@@ -56,7 +56,7 @@ impl<'a, R: Files + Eprint> Progress<'a, R> {
         }
     }
 
-    /// Notes the children that init waits for. Children for which there is no memory are not reported.
+    /// Records the children that init waits for. Children for which there is no memory are not reported.
     fn note_waited(&mut self, core: &Core) {
         self.waited.clear();
         for slot in core.slots().as_slice() {
@@ -68,8 +68,8 @@ impl<'a, R: Files + Eprint> Progress<'a, R> {
         }
     }
 
-    /// Reports what a stage waits for that is not announced settled after a minute, and again after each further
-    /// minute.
+    /// If a stage has not been announced as settled after a minute, and after each further minute, reports what it
+    /// waits for.
     fn tell_waiting(&mut self, core: &Core) {
         let fields = core.fields();
         let is_same = fields.stage == self.stage && !fields.announced;
@@ -171,15 +171,15 @@ fn failed_end(last: Option<Status>) -> Option<Status>
     }
 }
 
-/// Returns whether the entry's child was not stopped by the stage: it may live in it, or the entry's action is one
-/// after whose end init goes to the next stage.
+/// Returns whether the stage did not stop the entry's child: the child may run in the stage, or the entry has an
+/// action of the kind after whose end init goes to the next stage.
 fn is_meant(entry: &Entry, stage: Stage) -> bool
     ensures { result ≡ was_not_stopped entry.now stage }
 {
     matches!(entry.act, Act::Sysinit | Act::Bootwait) || lives(entry, stage)
 }
 
-/// Returns the folder of a path.
+/// Returns the path of the folder that contains the file at this path.
 fn folder_of(path: &str) -> &str {
     match path.rsplit_once('/') {
         Some(("", _)) => "/",

@@ -19,15 +19,15 @@ use Rattle.rc_links.specs.Names.{is_name_byte}
 abbrev pub command_line : App
 command_line = line_of (codes "rc") (written OPTIONS.now)
 
--- a run: the folder that contains those of the runlevels, the previous level if there was one, the new level, and the
--- options
+-- a run: the folder that contains the folders of the runlevels, the previous level if there was one, the new level,
+-- and the options
 pub record RcArguments : Type 0 where
   pub dir : Text
   pub previous : Option Level
   pub new : Level
   pub options : RunOptions
 
--- a parsed command line, in which the previous level may be that in a file
+-- a parsed command line, which may name a file for the previous level
 pub record Asked : Type 0 where
   pub dir : Text
   pub previous : Option Level
@@ -51,7 +51,7 @@ arguments_of words = record {
 abbrev pub is_dir : Text → Bool
 is_dir word = list_all (λ b. is_name_byte b || b == byte "/") word
 
--- the runlevel that a word stands for, 0 to 9 or S; none for any other word
+-- the runlevel that a word names, 0 to 9 or S; none for any other word
 abbrev pub level_of : Text → Option Level
 level_of word = if bytes_eq word (codes "s") then None else option_and_then level_read (only_byte word)
 
@@ -101,11 +101,11 @@ run_arguments asked before =
     let change : LevelChange = record { before = before; new = asked.new } in
     arguments_at asked.dir change (entering asked.sysv change asked.options)
 
--- the change to the level that a word stands for, with no previous level
+-- the change to the level that a word names, with no previous level
 abbrev pub new_of : Text → Option LevelChange
 new_of after = option_map (λ new. record { before = None; new = new }) (level_of after)
 
--- the change between the levels that two words stand for
+-- the change between the levels that two words name
 abbrev pub levels_of : Text → Text → Option LevelChange
 levels_of before after =
     option_and_then (λ previous. option_map (λ new. record { before = previous; new = new }) (level_of after))

@@ -24,18 +24,19 @@ use Rattle.rc_command.specs.declared.command.RunOptions.{RunOptions}
 use Rattle.rc_command.specs.declared.running.TheConstants.{PAUSES_LIMIT, SCRIPT_FAILED}
 use Rattle.rc_command.specs.Folders.{AreNamesAt, ArePrevious, KnownNames, folder_of}
 
--- the exit status for the end of a run; a failed script has a status of its own only with --strict
+-- the exit status for the end of a run; a failed script changes the status only with --strict
 abbrev pub status_of : Bool → RunEnd → ℕ
 status_of strict run_end.Done = DONE
 status_of strict run_end.Failed = if strict then SCRIPT_FAILED else DONE
 status_of strict (run_end.Limit link) = LIMIT_REACHED
 status_of strict _ = DEVICE_FAULT
 
--- all scripts were carried out, by the exit status
+-- the exit status means that all scripts were carried out
 abbrev pub AllScriptsEnded : ℕ → Type 0
 AllScriptsEnded status = (status ≡ DONE) ⊎ (status ≡ SCRIPT_FAILED)
 
--- the scripts for the names in two folders, those of sysv-rc if a change of level is given; none has been started
+-- the scripts to run for the names in two folders, before any is started; if a change of level is given, they are the
+-- scripts that sysv-rc would run
 abbrev pub rc_of : Option LevelChange → List (List ℕ) → List (List ℕ) → RcState
 rc_of levels previous names = record { remaining = scripts_by levels previous names; waits = false }
 
@@ -55,14 +56,14 @@ ended_text path run_end.Write = codes "rc: cannot write\n"
 ended_text path run_end.Memory = codes "rc: out of memory\n"
 ended_text path _ = []
 
--- it is reported, unless the run is complete
+-- unless the run is complete, the message about how it ended is reported
 abbrev pub ReportsEnd : List ℕ → RunEnd → ReportList → ReportList → Type 0
 ReportsEnd path run_end.Done old new = new ≡ old
 ReportsEnd path run_end.Failed old new = new ≡ old
 ReportsEnd path ended old new = AppendsReport old new (ended_text path ended)
 
--- the scripts were run from the folder at the path, with these calls; the status is that for the end of the run, which
--- is reported after the messages about timeouts
+-- the scripts were run from the folder at the path, with these calls; the status is the one for the end of the run,
+-- which is reported after the messages about timeouts
 abbrev pub RunsScripts : RunOptions → List ℕ → RcState → Option (List ℕ) → ReportList → ℕ → Option (List ℕ)
     → ReportList → List HostCall → Type 0
 RunsScripts options path rc before told status after tells calls = (ended : RunEnd) × (new : RcState)
@@ -123,17 +124,17 @@ Reports names_at arguments old status new =
     (previous names : List (List ℕ)) × AreNames names_at arguments previous names
     × ReportsNames arguments.options (folder_of arguments.dir arguments.new) previous names old status new
 
--- a prefix of an output for the first of them was written
+-- a prefix of an output for the first of these scripts was written
 abbrev pub ReportsPart : KnownNames → RcArguments → Option (List ℕ) → Option (List ℕ) → Type 0
 ReportsPart names_at arguments old new =
     (previous names : List (List ℕ)) × AreNames names_at arguments previous names
     × ReportsFirst arguments.options (folder_of arguments.dir arguments.new) previous names old new
 
--- the previous level: that in the arguments, or that in the given file, if known
+-- this is the previous level: the level in the arguments, or in the given file if its text is known
 abbrev pub IsBefore : KnownFiles → Asked → Option Level → Type 0
 IsBefore file_at asked before = IsBeforeIn file_at asked.previous asked.file before
 
--- there is a previous level for which the property holds of the run
+-- there is a previous level such that the property holds for the run
 abbrev pub ForResolvedArguments : KnownFiles → Asked → (RcArguments → Type 0) → Type 0
 ForResolvedArguments file_at asked P = (before : Option Level) × IsBefore file_at asked before
     × P (run_arguments asked before)
@@ -142,11 +143,11 @@ ForResolvedArguments file_at asked P = (before : Option Level) × IsBefore file_
 abbrev pub ParsedArgumentsSatisfy : List (List ℕ) → (Asked → Type 0) → Type 0
 ParsedArgumentsSatisfy words P = (asked : Asked) × (rc_read_of words ≡ Some asked) × P asked
 
--- the arguments are a command line, and for its previous level the property holds of the run
+-- the arguments are a command line, and the property holds for the run with its previous level
 abbrev pub Asks : KnownFiles → List (List ℕ) → (RcArguments → Type 0) → Type 0
 Asks file_at words P = ParsedArgumentsSatisfy words (λ asked. ForResolvedArguments file_at asked P)
 
--- the given file has the new level, unless it is a dry run; all other files are unchanged
+-- unless this is a dry run, the given file contains the new level; all other files are unchanged
 abbrev pub Keeps : Asked → KnownFiles → KnownFiles → Type 0
 Keeps asked old new = KeepsIn asked.options.dry asked.file asked.new old new
 
@@ -156,8 +157,8 @@ abbrev pub IsStatusOf : Option (List ℕ) → ℕ → ReportList → ℕ → Rep
 IsStatusOf file inner told status tells =
     ((status ≡ inner) × (tells ≡ told)) ⊎ (IsSome file × (status ≡ DEVICE_FAULT) × AllScriptsEnded inner)
 
--- in a dry run nothing is requested from the host; otherwise the scripts of the run were run, and the status is the one
--- after keeping the level
+-- in a dry run nothing is requested from the host; otherwise the scripts of the run were run, and the status is the
+-- one after the new level was saved
 abbrev pub RunsRequestedScripts : KnownFiles → KnownNames → Asked → Option (List HostCall) → Option (List HostCall)
     → Option (List ℕ) → ReportList → ℕ → Option (List ℕ) → ReportList → Type 0
 RunsRequestedScripts file_at names_at asked old new before told status after tells =

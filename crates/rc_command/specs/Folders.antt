@@ -1,4 +1,4 @@
--- The folders of the runlevels, and the names in them, as far as they are known.
+-- The folders of the runlevels, and the known names in them.
 use Rattle.std.specs.Prelude.{◌≡◌, ℕ, List, [], ◌∷◌, ◌++◌, codes, Option, Some, None, IfSome}
 use Rattle.init_words.specs.declared.levels.Level.{Level}
 use Rattle.init_words.specs.Levels.{level_code}

@@ -1,4 +1,4 @@
--- The files of runlevels, as far as they are known.
+-- The known files of runlevels.
 use Rattle.std.specs.Prelude.{◌≡◌, ℕ, Bool, true, false, IfSome, if◌then◌else◌, ◌==◌, List, [], ◌∷◌, Option, Some, None}
 use Rattle.std.specs.Prelude.{option_map}
 use Rattle.std.specs.Str.{bytes_eq}
@@ -14,7 +14,7 @@ KnownFiles = List ℕ → Option (Option (List ℕ))
 abbrev pub AreSame : KnownFiles → KnownFiles → Type 0
 AreSame old new = (at : List ℕ) → new at ≡ old at
 
--- the file at the path has the text, if it is known, and all others are unchanged
+-- the file at the path has the text, if that file is known, and all other files are unchanged
 abbrev pub HasText : List ℕ → List ℕ → KnownFiles → KnownFiles → Type 0
 HasText path text old new =
     (at : List ℕ) → new at ≡ (if bytes_eq at path then option_map (λ known. Some text) (old at) else old at)
@@ -28,17 +28,17 @@ abbrev pub level_in : List ℕ → Option Level
 level_in (code ∷ end ∷ []) = if end == 10 then level_of (code ∷ []) else None
 level_in _ = None
 
--- the previous level for a file: `Some None` if there is no file, none if its text is not a level
+-- the previous level in a file: `Some None` if there is no file, none if its text is not a level
 abbrev pub before_in : Option (List ℕ) → Option (Option Level)
 before_in None = Some None
 before_in (Some text) = option_map Some (level_in text)
 
--- the previous level is this one, or that of the file, if known
+-- this is the previous level: the given one, or the level in the file if its text is known
 abbrev pub IsBeforeIn : KnownFiles → Option Level → Option (List ℕ) → Option Level → Type 0
 IsBeforeIn file_at known_before None before = before ≡ known_before
 IsBeforeIn file_at known_before (Some path) before = IfSome (file_at path) (λ known. before_in known ≡ Some before)
 
--- the given file has the level, unless it is a dry run; all other files are unchanged
+-- unless this is a dry run, the given file contains the level; all other files are unchanged
 abbrev pub KeepsIn : Bool → Option (List ℕ) → Level → KnownFiles → KnownFiles → Type 0
 KeepsIn true file new before after = AreSame before after
 KeepsIn false None new before after = AreSame before after

@@ -37,9 +37,10 @@ const OPTIONS: &[Row] = &[
 pub struct Words {
     /// The folder that contains the folders of the runlevels.
     pub dir: String,
-    /// The previous runlevel, if there was one and it is not in a file.
+    /// The previous runlevel, if there was one and it is not read from a file.
     pub previous: Option<Level>,
-    /// The file that contains the previous runlevel and is given the new one, if `--level-file` is given.
+    /// The file from which the previous runlevel is read and to which the new one is written, if `--level-file` is
+    /// given.
     pub level_file: Option<String>,
     /// The runlevel that is entered.
     pub new: Level,
@@ -52,9 +53,9 @@ pub struct Words {
 /// The options of a run.
 #[derive(Clone, Copy, PartialEq, Eq)]
 pub struct RunOptions {
-    /// Prints what would be run, and runs nothing.
+    /// Prints the commands that would be run, and runs nothing.
     pub dry: bool,
-    /// Reports a script that failed by the exit status.
+    /// Makes the exit status report a script that failed.
     pub strict: bool,
     /// How the scripts are run. It includes the change of level if they are run as sysv-rc runs them.
     pub way: ScriptOptions,
@@ -89,7 +90,7 @@ fn read_matches(alloc: Global, matches: &ArgMatches) -> Result<Words, WordFault>
     )
 }
 
-/// Returns the two runlevels. The previous one is none here if a file contains it.
+/// Returns the two runlevels. The previous one is `None` here if it is to be read from a file.
 fn read_levels(alloc: Global, matches: &ArgMatches) -> Result<LevelChange, WordFault>
     ensures ok { IfOk result (λ levels.
         levels_given (rows_of (found_of matches.now)) ≡ Some levels) }
@@ -107,7 +108,7 @@ fn read_levels(alloc: Global, matches: &ArgMatches) -> Result<LevelChange, WordF
     }
 }
 
-/// Parses the levels in two words.
+/// Parses the previous and the new level from two arguments.
 fn read_both(alloc: Global, before: &str, after: &str) -> Result<LevelChange, WordFault>
     ensures ok { IfOk result (λ levels. levels_of before.now after.now ≡ Some levels) }
     ensures usage { IfErr result (λ fault. IsSome (reason_of fault)
@@ -124,7 +125,7 @@ fn read_both(alloc: Global, before: &str, after: &str) -> Result<LevelChange, Wo
     })
 }
 
-/// Parses the level in a word.
+/// Parses the new level from one argument.
 fn read_new(alloc: Global, after: &str) -> Result<LevelChange, WordFault>
     ensures ok { IfOk result (λ levels. new_of after.now ≡ Some levels) }
     ensures usage { IfErr result (λ fault. IsSome (reason_of fault) → new_of after.now ≡ None) }
@@ -225,7 +226,7 @@ pub(crate) fn entering(sysv: bool, change: LevelChange, options: RunOptions) -> 
     }
 }
 
-/// Reports whether the path consists of the bytes `A-Z a-z 0-9 . _ - /`.
+/// Returns whether the path consists of the bytes `A-Z a-z 0-9 . _ - /`.
 fn is_dir(word: &str) -> bool
     ensures { result ≡ is_dir word.now }
 {
@@ -244,7 +245,7 @@ fn level_of(word: &str) -> Option<Level>
     Level::read(only_byte(word)?)
 }
 
-/// Parses the previous runlevel: `Some(None)` for `N`, and `None` for a word that is neither that nor a level.
+/// Parses the previous runlevel: `Some(None)` for `N`, and `None` for a word that is neither `N` nor a level.
 fn previous_of(word: &str) -> Option<Option<Level>>
     ensures { result ≡ previous_of word.now }
 {

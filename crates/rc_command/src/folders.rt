@@ -13,7 +13,7 @@ use std::rt::Files;
 
 /// Lists folders.
 ///
-/// Its contracts refer to the names in a folder, if they are known. They may be known for no path.
+/// Its contracts refer to the names in a folder, if they are known. They need not be known for any path.
 pub trait Folders {
     /// The names in the folder at a path, or `None` if they are not known.
     ghost names_at: { Self → KnownNames };

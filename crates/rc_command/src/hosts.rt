@@ -14,8 +14,8 @@ use std::rt::{Clock, Files};
 /// A host that uses the operating system.
 pub type RcHost<R> = OsHost<TellingRuntime<R, Worded<R>>, OsSystem<R>>;
 
-/// Creates a host that uses the operating system. Its pauses are a tenth of the time that a script has run, at most a
-/// second.
+/// Creates a host that uses the operating system. A pause lasts a tenth of the time that a script has run, but at most
+/// a second.
 pub fn os_host<R>(rt: R, alloc: Global) -> Result<RcHost<R>, Memory>
 where
     R: Processes + Files<File = File> + Clock + Print + Eprint + Clone + Drop,

@@ -1,4 +1,4 @@
-//! Checks what a run of `rc` inherits from its parent: the ignored signals.
+//! Checks the ignored signals, which a run of `rc` inherits from its parent.
 
 ghost use Rattle.std.specs.Prelude.{◌≡◌, false, map, string_bytes, IfNone, IfSome, IsSome};
 ghost use Rattle.program_io.specs.Reports.{AppendsReport};
@@ -17,7 +17,7 @@ const UNWAITED: &str =
     --default-signal=CHLD rc ..\n";
 
 /// Rejects a command line that runs scripts if SIGCHLD is ignored, and returns the exit status. The system then reaps
-/// each script by itself (wait(2)), so none could be waited for.
+/// each script itself (wait(2)), so `rc` could wait for none.
 pub fn refuse_unwaited<R: Files + Processes, E: Reporter>(
     rt: &R,
     alloc: Global,

@@ -13,7 +13,7 @@ use std::{fs, io};
 
 /// Reads and replaces the files of runlevels.
 ///
-/// Its contracts refer to the file at a path, if it is known. It may be known for no path.
+/// Its contracts refer to the file at a path, if it is known. It need not be known for any path.
 pub trait LevelFiles {
     /// The text of the file at a path, `Some(None)` if there is no file, or `None` if that is not known.
     ghost file_at: { Self → KnownFiles };
@@ -23,7 +23,7 @@ pub trait LevelFiles {
         ensures { IfOk result (λ found. IfSome (file_at self.now path.now)
             (λ known. option_map (λ text. text.items) found ≡ known)) };
 
-    /// Replaces the file at the path by one with this text. If that fails, all files are unchanged.
+    /// Replaces the file at the path with one that has this text. If this fails, all files are unchanged.
     fn put(&mut self, alloc: Global, path: &str, text: &[u8]) -> io::Result<()>
         ensures done { OnOk result
             (HasText path.now text.now (file_at self.old) (file_at self.new)) }

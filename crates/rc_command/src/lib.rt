@@ -1,5 +1,5 @@
-//! The command line of `rc`: its arguments, the folders of links that they name, the run of the scripts, and the report
-//! of a fault.
+//! The command line of `rc`: parses its arguments, reads the folders of links that they name, runs the scripts, and
+//! reports faults.
 #![tactic(auto)]
 
 mod command;

@@ -29,8 +29,8 @@ use rc_driver::{LevelChange, Rc, RunEnd, ScriptOptions, print_links, run_links};
 use std::alloc::Global;
 use std::io::Write;
 
-/// The maximum number of pauses in a run. They last a second at most; a single script reaches the limit after about 27
-/// hours.
+/// The maximum number of pauses in a run. A pause lasts a second at most; a single script reaches the limit after
+/// about 27 hours.
 pub const PAUSES_LIMIT: u32 = 100_000;
 
 /// Exit status: all scripts were carried out, and one of them failed.
@@ -71,9 +71,9 @@ pub const SHORT_USAGE: &str =
 ///   there, the output fails, or memory runs out.
 ///
 /// If `--version` is the only argument, the version is written to `out`. Otherwise a line for each script is written
-/// there: at its end, with `-v` also at its start, and with `-n` the command that would start it. Faults are reported
-/// on `err`. The children are those of the host, the folders are listed by `folders`, and the file of the level is read
-/// and written by `levels`.
+/// to `out`: at its end, with `-v` also at its start, and with `-n` the command that would start it. Faults are
+/// reported on `err`. The children are those of the host, the folders are listed by `folders`, and the file of the
+/// level is read and written by `levels`.
 pub fn run_words<H, F, L, W, E>(
     host: &mut H,
     folders: &F,
@@ -105,7 +105,7 @@ where
         ⊎ Asks (L.file_at levels.old) (map string_bytes words.items) (λ arguments. ReportsPart
         (F.names_at folders.now) arguments (W.contents out.old) (W.contents out.new)) }
     // Nothing was run and nothing was requested from the host; or `run_names` was called for the names in the two
-    // folders, with the calls that the host recorded, and afterwards the level was kept.
+    // folders, with the calls that the host recorded, and then the new level was saved.
     ensures ran { asks_version (map string_bytes words.items) ≡ false
         → (((result ≡ REFUSED) ⊎ (result ≡ DEVICE_FAULT)) × (out.new ≡ out.old)
         × (H.told host.new ≡ H.told host.old))
@@ -116,7 +116,7 @@ where
         (W.contents out.new) (E.reports err.new)) }
     ensures unasked { asks_version (map string_bytes words.items) ≡ true
         → H.told host.new ≡ H.told host.old }
-    // If all scripts were carried out, the given file has the new level. Otherwise all files are unchanged.
+    // If all scripts were carried out, the given file contains the new level. Otherwise all files are unchanged.
     ensures kept { asks_version (map string_bytes words.items) ≡ false → AllScriptsEnded result
         → ParsedArgumentsSatisfy (map string_bytes words.items)
         (λ asked. Keeps asked (L.file_at levels.old) (L.file_at levels.new)) }
@@ -137,7 +137,7 @@ where
     }
 }
 
-/// Runs the scripts for a command line and the previous level, and keeps the new one.
+/// Runs the scripts for a command line and the previous level, and saves the new level.
 fn run_asked<H: Host, F: Folders, L: LevelFiles, W: Write, E: Reporter>(
     host: &mut H,
     folders: &F,
@@ -201,8 +201,8 @@ fn run_asked<H: Host, F: Folders, L: LevelFiles, W: Write, E: Reporter>(
     keep_level(levels, alloc, arguments, status, err)
 }
 
-/// Returns the previous level, which is an argument or in the given file. If the file has none, this is reported, and
-/// the exit status is returned.
+/// Returns the previous level, which is an argument or is in the given file. If the file contains no level, this is
+/// reported, and the exit status is returned.
 fn level_before<L: LevelFiles, E: Reporter>(
     levels: &L,
     alloc: Global,
@@ -247,7 +247,7 @@ fn report_no_level<E: Reporter>(path: &str, err: &mut E) -> u8
     DEVICE_FAULT
 }
 
-/// Keeps the new level in the given file if scripts were run and all were carried out, and returns the exit status.
+/// Saves the new level in the given file if scripts were run and all were carried out, and returns the exit status.
 fn keep_level<L: LevelFiles, E: Reporter>(
     levels: &mut L,
     alloc: Global,
@@ -279,7 +279,7 @@ fn keep_level<L: LevelFiles, E: Reporter>(
     }
 }
 
-/// Reports whether the exit status means that all scripts were carried out.
+/// Returns whether the exit status means that all scripts were carried out.
 fn is_whole(status: u8) -> bool
     ensures { IsTrue result ↔ AllScriptsEnded status }
 {
@@ -290,13 +290,13 @@ fn is_whole(status: u8) -> bool
 /// folder, and returns the exit status.
 ///
 /// - 0: all scripts were carried out.
-/// - 2: all scripts were carried out, one of them failed, and that is to be reported.
+/// - 2: all scripts were carried out, one of them failed, and the exit status is to report that.
 /// - 3: a script has not ended after `PAUSES_LIMIT` pauses.
 /// - 4: the output fails, or memory runs out.
 ///
 /// A line for each script is written to `out` at its end. Faults are reported on `err`, including the script that has
-/// not ended, and each one that was sent a signal because its time was up. In a dry run nothing is run: the command
-/// that would start each script is written, and nothing is requested from the host.
+/// not ended, and each script that was sent a signal because its time limit had passed. In a dry run nothing is run:
+/// the command that would start each script is written, and nothing is requested from the host.
 pub fn run_names<H: Host, W: Write, E: Reporter>(
     alloc: Global,
     host: &mut H,
@@ -335,7 +335,8 @@ pub fn run_names<H: Host, W: Write, E: Reporter>(
     }
 }
 
-/// Returns the scripts for the names in two folders, those of sysv-rc if a change of level is given.
+/// Returns the scripts to run for the names in two folders. If a change of level is given, they are the scripts that
+/// sysv-rc would run.
 fn rc_of<'n>(
     alloc: Global,
     levels: Option<LevelChange>,
@@ -374,7 +375,7 @@ fn run_all<'n, H: Host, W: Write, E: Reporter>(
     report_end(path, options.strict, ended, err)
 }
 
-/// Prints scripts, and reports how that ended.
+/// Prints the commands of scripts, and reports how that ended.
 fn print_all<'n, W: Write, E: Reporter>(
     alloc: Global,
     rc: &mut Rc<'n>,

@@ -25,7 +25,8 @@ pub(crate) fn odd_lines(alloc: Global, path: &str, text: &[u8]) -> Vec<u8> {
     odd
 }
 
-/// If a line would end a header but for the text after its words, returns that text and the number of the line.
+/// If the header with this fault has a line with further text after `### END INIT INFO`, returns that text and the
+/// number of the line.
 pub(crate) fn behind_end<'t>(text: &'t [u8], fault: &FileFault) -> Option<(usize, &'t str)> {
     let last = match fault {
         FileFault::Header(HeaderFault::NoEnd, _) => usize::MAX,

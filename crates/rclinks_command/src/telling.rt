@@ -253,7 +253,7 @@ fn tell_system(
     }
 }
 
-/// Returns whether one of the scripts is to be started after this name.
+/// Returns whether one of the scripts is to be started after the script or facility of this name.
 fn is_named(scripts: &[Script], name: &str) -> bool {
     scripts.iter().any(|script| {
         let header = script.header();

@@ -13,7 +13,7 @@ abbrev pub ReportsCreation : List ℕ → Bool → ReportList → ReportList →
 ReportsCreation path true old new = AppendsReport old new (codes "telinit: created " ++ (path ++ codes "\n"))
 ReportsCreation path false old new = new ≡ old
 
--- nothing is reported if an init reads the channel
+-- if no init reads the channel, or this is not known, that is reported
 abbrev pub ReportsReader : List ℕ → Reading → ReportList → ReportList → Type 0
 ReportsReader path read old new = new ≡ old
 ReportsReader path unread old new = AppendsReport old new
