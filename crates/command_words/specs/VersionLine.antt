@@ -9,7 +9,7 @@ use Rattle.command_words.specs.declared.versions.TheConstants.{KIT, VERSION}
 abbrev pub version_line : List ℕ → List ℕ
 version_line name = name ++ (codes " " ++ (VERSION.now ++ (codes " (" ++ (KIT.now ++ codes ")\n"))))
 
--- a prefix of the version line was written, and the whole line if the status is that of success
+-- a prefix of the version line was written, and the whole line if the status is success
 pub record PrintsVersion (name : List ℕ) (status : ℕ) (old new : Option (List ℕ)) : Type 0 where
   pub part : AppendsPrefix old new (version_line name)
   pub whole : status ≡ DONE → Appends old new (version_line name)

@@ -19,7 +19,7 @@ holds_child id held = list_any (λ child. same_id id child.0) held
 abbrev pub holds_number : ℕ → HeldChildren → Bool
 holds_number number held = list_any (λ child. number == child.1) held
 
--- the children without those of the id
+-- the children, without any child of the id
 abbrev pub without_child : List ℕ → HeldChildren → HeldChildren
 without_child id held = filter (λ child. not (same_id id child.0)) held
 

@@ -19,7 +19,7 @@ pub enum Reply {
     Later,
 }
 
-/// The reason why a host could not do what it was asked.
+/// The reason why a host could not carry out a call.
 #[derive(Clone, Copy, Debug, PartialEq, Eq, Error)]
 pub enum HostFault {
     /// A file, the clock or the output failed.

@@ -31,7 +31,7 @@ whole_length size = size - size % REQUEST
 abbrev pub first_offset : Bool → Option FoundFile → ℕ
 first_offset fresh file = if fresh then whole_length (option_map_or (λ f. f.length) file 0) else 0
 
--- the first look sets the position to that of the first request to read
+-- the first look sets the position to the first request to read
 abbrev pub begun : Bool → Option FoundFile → Progress → Progress
 begun fresh file progress = if progress.begun then progress
     else record progress { begun = true; heard = first_offset fresh file }

@@ -128,8 +128,8 @@ fn found_at<R: Files>(rt: &R, path: &str) -> io::Result<Option<Metadata>> {
     }
 }
 
-/// Waits for this many milliseconds, or until the FIFO has a byte or the other descriptor is ready. Reads what the FIFO
-/// has, and returns whether the other descriptor is ready.
+/// Waits for this many milliseconds, or until the FIFO has a byte or the other descriptor is ready. Reads the bytes in
+/// the FIFO, and returns whether the other descriptor is ready.
 fn heard(mut file: &File, other: Option<RawFd>, limit: i32) -> io::Result<bool> {
     let (is_rung, is_ready) = ready(file.as_raw_fd(), other.unwrap_or(NONE), limit)?;
     if is_rung {
@@ -139,7 +139,8 @@ fn heard(mut file: &File, other: Option<RawFd>, limit: i32) -> io::Result<bool> 
     Ok(is_ready)
 }
 
-/// Waits for this many microseconds, in whole milliseconds, or until the descriptor is ready, and returns whether it is.
+/// Waits for this many microseconds, in whole milliseconds, or until the descriptor is ready. Returns whether it is
+/// ready.
 ///
 /// It does not wait, and returns `None`, if the time is shorter than a millisecond, or if poll(2) fails.
 pub(crate) fn wait_for(descriptor: RawFd, length: u64) -> Option<bool> {

@@ -83,8 +83,8 @@ impl ChannelNotes {
         }
     }
 
-    /// Reports that the channel is a different file than before, or shorter than what was read, or that it belongs to
-    /// another user than before, or than initd.
+    /// Reports that the channel is a different file than before or shorter than the part already read, or that its
+    /// owner has changed or is not the user of initd.
     pub fn note_file<R: Clock + MessageSink>(
         &mut self,
         rt: &R,

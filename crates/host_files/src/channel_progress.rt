@@ -77,7 +77,7 @@ impl Progress {
     }
 
     /// Returns whether the channel was created anew: a different file than before is at the path, or one that is
-    /// shorter than what was read.
+    /// shorter than the part already read.
     pub fn is_replaced(&self, found: &FoundFile) -> bool
         ensures { result ≡ is_replaced self.now found.now }
     {

@@ -139,7 +139,8 @@ impl<A: Allocator + Copy> SkippedNames<A> {
         }
     }
 
-    /// Notes the name as reported. Returns `true` if it was not noted before, or if there is no memory to note it.
+    /// Records the name as reported. Returns `true` if it was not recorded before, or if there is no memory to record
+    /// it.
     fn note(&mut self, name: &[u8]) -> bool {
         let Ok(name) = Vec::from_slice(self.alloc, name) else {
             return true;

@@ -1,5 +1,5 @@
-//! The files that initd reads and writes while it runs: the request channel with its bell, the inittab with its folder,
-//! and the state file. No process is started here; what else a host asks of the system is in `host_system`.
+//! The files that initd reads and writes while it runs: the request channel with its bell, the inittab with its
+//! folder, and the state file. No process is started here; `host_system` has the other calls of a host to the system.
 #![tactic(auto)]
 
 mod bells;

@@ -15,7 +15,7 @@ pub enum ChildEnd {
     Unknown,
 }
 
-/// What a child did, what was sent to it, or what went wrong with it.
+/// An event in the life of a child: its start or end, a signal sent to it, or a failure.
 #[derive(Clone, Copy)]
 pub enum ChildMessage<'a> {
     /// It was started. `start` counts the starts of its id from 1; it is `None` if the count is not known.
@@ -39,19 +39,19 @@ pub enum ChildMessage<'a> {
     },
     /// It can be waited for again.
     Waited(ChildNumber),
-    /// KILL cannot be sent to it, so init waits until it ends without a signal.
+    /// KILL cannot be sent to it, so init waits until it ends on its own.
     Unkilled {
         number: ChildNumber,
         error: &'a Error,
     },
     /// How the last child of an id that is started too often ended.
     LastEnd(ChildEnd),
-    /// It is stopped because of its line in the inittab that was read again.
+    /// It is stopped because of the inittab that was read again, for the reason in `line`.
     Stopped {
         number: ChildNumber,
         line: ChildLine,
     },
-    /// It left this many processes behind. `numbers` has their numbers, each preceded by a blank.
+    /// It left this many processes running. `numbers` has their numbers, each preceded by a blank.
     Left {
         count: u32,
         numbers: &'a str,

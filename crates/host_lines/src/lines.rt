@@ -83,7 +83,7 @@ pub enum HostLine<'a> {
     MadeAnew {
         path: &'a str,
     },
-    /// The channel, or its bell, belongs to another user than before, or than init.
+    /// The channel, or its bell, has a new owner, or an owner other than init's user.
     OtherOwner {
         path: &'a str,
         before: u32,

@@ -4,7 +4,7 @@ use host_lines::Power;
 use initctl_frame::Cause;
 use program_io::REQUEST;
 
-/// Reports what happens to the bytes that the channel has before it is first read.
+/// Reports that the channel has bytes before it is first read, and whether they are read or skipped.
 pub(crate) fn tell_old(rt: &impl Eprint, path: &str, length: u64, fresh: bool) {
     let requests = length / REQUEST as u64;
     let over = length % REQUEST as u64;
@@ -35,7 +35,8 @@ pub(crate) fn tell_made_anew(rt: &impl Eprint, path: &str) {
     let _ = eprintln!(rt; "initd: {path} was replaced or truncated; reading it from the start");
 }
 
-/// Reports that the channel, or its bell, belongs to another user than before, or than init, and what that user can do.
+/// Reports that the channel, or its bell, has a new owner, or an owner other than init's user, and what that user can
+/// do.
 pub(crate) fn tell_other_owner(
     rt: &impl Eprint,
     path: &str,

@@ -10,7 +10,7 @@ use std::io::{Error, ErrorKind};
 /// The error number with which waitpid(2) reports that the child does not exist, or no longer exists (ECHILD).
 const NO_CHILD: i32 = 10;
 
-/// Reports what the id's child did, what was sent to it, or what went wrong with it.
+/// Reports an event in the life of the id's child: its start or end, a signal sent to it, or a failure.
 pub(crate) fn tell_of_child(
     rt: &impl Eprint,
     program: &'static str,

@@ -1,5 +1,5 @@
-//! The wording of what a host prints on standard error and standard output, the printers, and the time in front of a
-//! line.
+//! The wording of the lines that a host prints on standard error and standard output, the printers, and the time in
+//! front of a line.
 //!
 //! A host knows its lines as values (`host_lines`), so a change here affects the proofs of the programs, but not those
 //! of any host. Texts that a contract fixes are defined in `specs/`; `tools/pages` compares the others with initd(8),

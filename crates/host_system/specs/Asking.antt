@@ -107,8 +107,8 @@ SystemCallsForCall settings (Clock seconds) calls held old new = ClockRequest se
 SystemCallsForCall settings (ReadTables parts) calls held old new = TablesRequest settings.inittab parts old new
 SystemCallsForCall settings _ calls held old new = new ≡ old
 
--- The calls, newest first, are those of a host with these settings that held no child before them, and holds these
--- children after them. For these calls, in their order, the system was asked exactly this, after helpers that were run
+-- The calls, newest first, are possible for a host with these settings that held no child before them, and holds these
+-- children after them. The system calls are exactly those for these calls, in their order, after helpers that were run
 -- before the first call.
 abbrev pub AreSystemCallsFor : HostSettings → List HostCall → HeldChildren → List SystemCall → Type 0
 AreSystemCallsFor settings [] held asked = (held ≡ []) × RunsHelpers [] asked

@@ -14,7 +14,7 @@ use Rattle.host_system.specs.Systems.{SystemCall}
 -- The state of a host:
 -- - `faults`: the number of its calls that failed
 -- - `strict`: init rejects an inittab with a faulty line
--- - `verbose`: the host reports what children do
+-- - `verbose`: the host reports the starts, ends and signals of children
 -- - `inittab`: the path of its inittab
 -- - `logs`: the folder of the logs, if the children's output goes to logs
 -- - `groups`: each child has a session of its own, and signals go to its process group

@@ -56,7 +56,7 @@ impl<S: System, A: Allocator> Model for Children<S, A> {
 }
 
 impl<S: System, A: Allocator + Copy> Children<S, A> {
-    /// Returns a value without children. The options determine what is reported about the children.
+    /// Returns a value without children. The options determine which reports about children are made.
     pub(crate) fn new(alloc: A, options: &HostOptions) -> Result<Box<Children<S, A>, A>, Memory>
         ensures { IfOk result (λ children. children.value ≡ []) }
     {

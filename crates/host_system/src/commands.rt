@@ -132,7 +132,7 @@ pub(crate) fn bare_command<A: Allocator + Copy>(
     boxed(alloc, Command::new(alloc, program)?)
 }
 
-/// Adds the words of a text to a command's arguments. If memory runs out, some of them may have been added.
+/// Adds the words of a text to a command's arguments. If memory runs out, some of the words may have been added.
 fn add_words<A: Allocator + Copy>(command: &mut Command<A>, text: &[u8]) -> Result<(), AllocError>
     requires { IsUtf8 text.now }
     ensures { OnOk result (words_in command.new ≡ words_in command.old ++ words_of text.now) }

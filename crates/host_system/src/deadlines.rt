@@ -66,7 +66,7 @@ impl Deadlines {
         }
     }
 
-    /// Notes a reading of the host's clock.
+    /// Records a reading of the host's clock.
     pub(crate) fn note_reading(&mut self, rt: &impl Clock, time: &io::Result<Duration>) {
         if !self.is_wanted {
             return;
@@ -77,7 +77,7 @@ impl Deadlines {
         };
     }
 
-    /// Notes the answer to a signal.
+    /// Records the answer to a signal.
     pub(crate) fn note_signal(&mut self, signal: SignalKind, reply: &Reply) {
         let now = self.seconds();
         if signal == SignalKind::Term && matches!(reply, Reply::Now(Answer::Hit)) {
@@ -85,14 +85,14 @@ impl Deadlines {
         }
     }
 
-    /// Notes that an inittab was read, after which the level is announced settled again.
+    /// Records that inittab was read, after which init announces again that the level is settled.
     pub(crate) fn note_table(&mut self) {
         if self.unsettled.is_none() {
             self.unsettled = Some(self.seconds());
         }
     }
 
-    /// Notes an announcement.
+    /// Records an announcement.
     pub(crate) fn note_announcement<B: Allocator>(&mut self, happening: &HappeningIn<B>) {
         let now = self.seconds();
         match happening {

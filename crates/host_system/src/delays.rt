@@ -69,7 +69,7 @@ impl<A: Allocator + Copy> Delays<A> {
         }
     }
 
-    /// Notes that a child of the id was born and has this delay.
+    /// Records that a child of the id was born and has this delay.
     pub(crate) fn note_start(&mut self, id: Id, delay: u16)
         requires { HasRoom self.old }
         ensures longest { self.new.longest ≡ self.old.longest }
@@ -100,7 +100,7 @@ impl<A: Allocator + Copy> Delays<A> {
         self.starts.swap_remove(id);
     }
 
-    /// Notes a reading of the clock, in seconds.
+    /// Records a reading of the clock, in seconds.
     pub(crate) fn note_time(&mut self, reading: Result<u64, HostFault>)
         ensures longest { self.new.longest ≡ self.old.longest }
         ensures noted { (calls : List HostCall) → AreDelaysAfter (delay_state self.old) calls
@@ -111,7 +111,8 @@ impl<A: Allocator + Copy> Delays<A> {
         }
     }
 
-    /// Notes that the happening was announced: a stage begins without delays.
+    /// Records that the happening was announced. Entering a stage clears the last starts, so that the next start of
+    /// each id is not delayed.
     pub(crate) fn note_announced<B: Allocator>(&mut self, happening: &HappeningIn<B>)
         ensures longest { self.new.longest ≡ self.old.longest }
         ensures noted { (calls : List HostCall) → AreDelaysAfter (delay_state self.old) calls

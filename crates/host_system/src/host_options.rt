@@ -54,9 +54,9 @@ pub struct HostOptions<'a> {
     /// Whether the bell is created at the start, by mkfifo(1), if nothing exists at its path. A failure is reported,
     /// and the host works without a bell.
     pub bell: bool,
-    /// Whether the children are watched while nothing happens, by a helper that exits when one of them ends: waitpid(1),
-    /// or, if there is none, perl(1). The end of a child then ends a pause. While the helper works, pauses do not depend
-    /// on the cost of a turn; while it does not, which is reported, they last at most a second.
+    /// Whether a helper watches the children while nothing happens. It exits when one of them ends; it is waitpid(1),
+    /// or, if there is none, perl(1). The end of a child then ends a pause. While the helper works, pauses do not
+    /// depend on the cost of a turn; while it does not, which is reported, they last at most a second.
     pub watch: bool,
     /// Whether requests that are in the channel when it is first read are skipped: reading then begins after the last
     /// whole request. If the channel does not exist at that time, nothing is skipped.

@@ -220,8 +220,8 @@ impl<
     /// Returns the record of the calls made to the host.
     pub fn calls(&self) -> Noted<CallList>
         ensures value { result.value ≡ self.now.calls }
-        // the calls are those of a host that held no child before them; for these calls, in their order, the system
-        // was asked exactly what is recorded, after helpers that were run before the first call
+        // the calls are possible for a host that held no child before them; the recorded system calls are exactly
+        // those for these calls, in their order, after helpers that were run before the first call
         ensures own { AreSystemCallsFor (settings_of self.now) self.now.calls self.now.held
             self.now.asked }
     {
@@ -237,7 +237,7 @@ impl<
         host.system.calls()
     }
 
-    /// Returns the record of what the host read from its channel's file.
+    /// Returns the record of the host's reading of its channel's file.
     pub fn heard(&self) -> Noted<ChannelCallList>
         ensures value { result.value ≡ self.now.channel.told }
         // the calls returned the bytes that were read from the channel's file, each once and in order, except the rest
@@ -280,7 +280,7 @@ impl<
     S: System + Drop,
     A: Allocator + Copy,
 > OsHostParts<R, S, A> {
-    /// Does what the options ask for before the first call.
+    /// Carries out the actions of the options that precede the first call.
     fn begin(&mut self, options: &HostOptions)
         ensures same { self.new ≡ record self.old { asked = self.new.asked } }
         ensures asked { RunsHelpers self.old.asked self.new.asked }

@@ -79,12 +79,12 @@ impl Pauses {
         pauses
     }
 
-    /// Notes whether something happened.
+    /// Records whether something happened.
     pub(crate) fn note(&mut self, stirred: bool) {
         self.stirred = self.stirred || stirred;
     }
 
-    /// Notes that a turn begins.
+    /// Records that a turn begins.
     pub(crate) fn begin_turn(&mut self, rt: &impl Clock) {
         self.turn = Instant::now(rt).ok();
     }

@@ -179,7 +179,7 @@ impl<R: Processes + Clock + Files + Drop> System for OsSystem<R> {
         &mut self,
         command: &mut Command<A>,
     ) -> io::Result<Process<R::Started>> {
-        // Noted as a failed start, until there is a number to note.
+        // Recorded as a failed start until there is a number to record.
         self.told = noted::<_, Spawned>(&self.told, &*command);
         let child = command.spawn(&self.rt)?;
         let number = child.id();

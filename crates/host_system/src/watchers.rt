@@ -13,8 +13,8 @@ use std::rt::Files;
 
 /// The script of the helper. It becomes waitpid(1) or, if there is none, perl(1), which waits in the same way: by
 /// pidfd_open(2), whose number is 434 on every machine. Both take process numbers as arguments, and exit with status 0
-/// when one of these processes ends. Init itself is the first of them, so that the helper does not outlive it. If perl
-/// cannot watch a process, its status is the error number plus `ERRORS`.
+/// when one of these processes ends. The first of these processes is init itself, so that the helper does not outlive
+/// it. If perl cannot watch a process, its status is the error number plus `ERRORS`.
 const HELPER: &str = "LC_ALL=C; export LC_ALL; \
     command -v waitpid >/dev/null && exec waitpid -c 1 \"$PPID\" \"$@\"; \
     command -v perl >/dev/null || exit 127; \

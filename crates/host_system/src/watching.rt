@@ -19,7 +19,7 @@ const SHORTEST: u64 = 10_000;
 /// The name of the children in messages about the helper.
 const CHILDREN: &str = "the children";
 
-/// Whether the children are to be watched, and which of them are.
+/// The state of the watch: whether the children are to be watched, and whether the helper watches the present ones.
 #[derive(Drop)]
 pub(crate) struct Watching {
     is_wanted: bool,

@@ -109,7 +109,7 @@ default_levels act.Powerfailnow = codes "S0123456789"
 default_levels act.Initdefault = []
 default_levels _ = codes "0123456789"
 
--- entries with this action keep their process field; those of initdefault have none
+-- entries with this action keep their process field; initdefault entries have none
 abbrev pub has_process : Act → Bool
 has_process act.Initdefault = false
 has_process _ = true
@@ -142,8 +142,8 @@ stays_called act.Ondemand = true
 stays_called _ = false
 
 -- an entry that starts in the stage is to be started now: a respawn entry if it has no child and none is being started
--- (idle), an entry of boot or of a level if no start of it was ordered (fresh), an entry for a power event if it was
--- called, and an ondemand entry if it was called and is idle
+-- (idle), an entry of boot or of a level if its start was not ordered yet (fresh), an entry for a power event if it
+-- was called, and an ondemand entry if it was called and is idle
 abbrev pub wanted_by : Act → Bool → Bool → Bool → Bool
 wanted_by act.Respawn idle fresh called = idle
 wanted_by act.Sysinit idle fresh called = fresh

@@ -1,4 +1,4 @@
-//! The actions of inittab(5) and what each of them means for an entry and its process.
+//! The actions of inittab(5), and the meaning of each for an entry and its process.
 
 ghost use Rattle.std.specs.Prelude.{◌≡◌};
 ghost use Rattle.init_words.specs.Actions.{word_of, act_read, starts_by, lives_by, waited_by, ignores_levels, default_levels, has_process, needs_process, is_called_by, is_ondemand, stays_called, wanted_by, is_limited, served_by};
@@ -185,8 +185,8 @@ impl Act {
     }
 
     /// Returns whether an entry with this action that starts in the stage is to be started now: a respawn entry if it
-    /// has no child and none is being started (`idle`), an entry of boot or of a level if no start of it was ordered
-    /// there (`fresh`), an entry for a power event if it was called, and an ondemand entry if it was called and is
+    /// has no child and none is being started (`idle`), an entry of boot or of a level if its start was not ordered
+    /// there yet (`fresh`), an entry for a power event if it was called, and an ondemand entry if it was called and is
     /// idle.
     pub fn is_wanted(self, idle: bool, fresh: bool, called: bool) -> bool
         ensures { result ≡ wanted_by self idle fresh called }

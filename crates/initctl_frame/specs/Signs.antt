@@ -1,4 +1,4 @@
--- The characters that telinit(8) accepts, and what each of them asks for.
+-- The characters that telinit(8) accepts, and the request that each of them makes.
 use Rattle.std.specs.Prelude.{ℕ, Bool, ◌==◌, ◌||◌, if◌then◌else◌, List, codes, Option, Some, None}
 use Rattle.std.specs.List.{list_any}
 use Rattle.init_words.specs.declared.levels.Level.{Level}

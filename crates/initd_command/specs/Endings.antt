@@ -51,7 +51,7 @@ pub record RunRemarks : Type 0 where
 -- - `torn`: no happening begins at the line of the trace with this number
 -- - `unfinished`: the happening at this line of the trace is incomplete; with the verdict on the part before it
 -- - `unwritten`: the verdict could not be written
--- - `turned`: the turns of a run over the operating system ended like this
+-- - `turned`: the turns of a run over the operating system had this end
 -- - `unversioned`: the version could not be written
 pub data Ending : Type 0 where
   done : Ending

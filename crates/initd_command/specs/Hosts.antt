@@ -9,10 +9,10 @@ use Rattle.host_system.specs.Hosts.{HostState}
 use Rattle.host_system.specs.Systems.{SystemCall}
 use Rattle.initd_command.specs.Words.{HostCall, RunArguments}
 
--- The state of a new host for the arguments of a run. Its inittab, logs, groups and longest delay are those of the
--- arguments, and so is whether it is strict, reports what children do, and skips earlier requests. None of its calls
--- failed, it has read nothing from its channel, it has started nothing, and it holds no child. The arguments do not
--- determine what it has asked of the system.
+-- The state of a new host for the arguments of a run. The arguments determine its inittab, logs, groups and longest
+-- delay, and whether it is strict, reports on children, and skips earlier requests. None of its calls failed, it has
+-- read nothing from its channel, it has started nothing, and it holds no child. The arguments do not determine what it
+-- has asked of the system.
 abbrev pub host_with : List SystemCall → RunArguments → HostState
 host_with asked service = record {
   faults = 0;
@@ -39,11 +39,11 @@ pub record HostsState : Type 0 where
 abbrev pub IsAsked : List HostCall → List SystemCall → Type 0
 IsAsked calls asked = (settings : HostSettings) × (held : HeldChildren) × AreSystemCallsFor settings calls held asked
 
--- The settings are known, and the calls are those of a host with these settings that held no child before them. For
--- these calls, in their order, the system was asked exactly this, after helpers that were run before the first call.
--- The bytes that the calls returned are those read from the channel's file, each once and in order, except the rest of
--- the last request; and each request was read whole, from the end of the one before it, unless reading began or the
--- channel was created anew in between.
+-- The settings are known, and the calls are possible for a host with these settings that held no child before them.
+-- The system calls are exactly those for these calls, in their order, after helpers that were run before the first
+-- call. The bytes that the calls returned are those read from the channel's file, each once and in order, except the
+-- rest of the last request; and each request was read whole, from the end of the one before it, unless reading began
+-- or the channel was created anew in between.
 abbrev pub IsOfSystem : HostsState → Option HostSettings → Type 0
 IsOfSystem hosts None = ⊥
 IsOfSystem hosts (Some settings) =

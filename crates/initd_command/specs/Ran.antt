@@ -30,7 +30,7 @@ EndsDrained level table calls = TurnsFrom level table calls (λ past.
 -- - `turns`: the calls are those of turns from the opening on, in which a level is settled if the system does its part
 -- - `fronts`: if the answers so far were possible, everything went well up to each call
 -- - `drains`: if the turns ended drained, init is drained after the calls
--- - `notes`: if the log was fresh and took the whole trace, the notes are those of the trace
+-- - `notes`: if the log was fresh and took the whole trace, the notes are true of the trace
 -- - `most`: there are no more turns than the arguments allow, and fewer only if the run was to end when drained, and
 --   is drained
 -- - `asked`: there is a verdict exactly if the run is to be judged
@@ -56,8 +56,8 @@ MakesLogged state fresh has_ended service table end calls = (made : MakesTurns f
     × (fresh → HadAll state (IsOpening service.level table) calls)
 
 -- The bytes are the text of this trace, given oldest first, or, if the first flag is true, of its brief form. If not
--- all of it was written, they are a prefix of that text; for a brief form, possibly that of a trace that continues this
--- one.
+-- all of it was written, they are a prefix of that text; for a brief form, they may be a prefix of the brief form of a
+-- trace that continues this one.
 abbrev pub IsWritten : Bool → List ℕ → Bool → List Event → Type 0
 IsWritten false bytes whole trace = KnowsEnd whole trace (Some bytes)
 IsWritten true bytes whole trace = EndsBrief (λ all written. KnowsEnd all written (Some bytes)) whole trace

@@ -136,7 +136,7 @@ fn check_file<R: Eprint, T: Texts, W: Write, E: Reporter>(
     }
 }
 
-/// Passes a trace to a judge that has received no text yet, and writes and reports what the judge found.
+/// Passes a trace to a judge that has received no text yet, and writes and reports the judge's finding.
 fn judge_text<R: Eprint, T: Texts, W: Write, E: Reporter>(
     texts: &T,
     alloc: Global,

@@ -42,7 +42,7 @@ turns_read word =
     option_and_then (λ turns. if nat_lt 0 turns then Some turns else None)
     (number_read (TURNS_LIMIT + 1) (without_zeros word))
 
--- the maximum number of turns, given whether there is no limit and the word for a number; only one of them may be given
+-- the maximum number of turns, given whether --forever is set and the value of --turns; only one of these may be given
 abbrev pub turns_in : Bool → Option Text → Option ℕ
 turns_in false None = Some TURNS_DEFAULT
 turns_in false (Some word) = turns_read word

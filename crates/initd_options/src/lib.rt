@@ -1,4 +1,4 @@
-//! The command line of `initd`: its commands, options and arguments, and which of them are rejected; see initd(8).
+//! The command line of `initd`: its commands, options and arguments, and the reasons for rejecting them; see initd(8).
 #![tactic(auto)]
 
 mod command;

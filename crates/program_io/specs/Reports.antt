@@ -17,7 +17,8 @@ LastReportNonempty reports = (last : List ℕ) × (earlier : ReportList) × (rep
 abbrev pub fault_text : List ℕ → List ℕ → List ℕ
 fault_text name fault = name ++ (codes ": " ++ (fault ++ codes "\n"))
 
--- the line `NAME: ACT PATH: REASON`, where `more` is added to the reason: what follows from the failure, or what to do
+-- the line `NAME: ACT PATH: REASON`, where `more` is added to the reason: the consequence of the failure, or the
+-- remedy
 abbrev pub failure_text : List ℕ → List ℕ → List ℕ → List ℕ → List ℕ → List ℕ
 failure_text name act path reason more =
     fault_text name (act ++ (codes " " ++ (path ++ (codes ": " ++ (reason ++ more)))))

@@ -1,4 +1,4 @@
-//! The command-line arguments of a program, and what it reports if they cannot be read.
+//! The command-line arguments of a program, and the report if they cannot be read.
 
 ghost use Rattle.std.specs.Prelude.{◌≡◌, ◌≢◌};
 ghost use Rattle.std.specs.IoError.{error_kind};

@@ -25,8 +25,8 @@ pub fn report_fault<E: Reporter>(name: &str, fault: &str, err: &mut E) -> u8
 
 /// Reports that an operation on a path failed, as the line `NAME: ACT PATH: REASON`, and returns the exit status.
 ///
-/// `act` is what failed, such as `cannot read`. `more` is added to the reason: what follows from the failure, or what
-/// to do.
+/// `act` is what failed, such as `cannot read`. `more` is added to the reason: the consequence of the failure, or the
+/// remedy.
 pub fn report_failure<E: Reporter>(
     name: &str,
     act: &str,

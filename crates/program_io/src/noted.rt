@@ -25,7 +25,7 @@ impl<T> Model for Noted<T> {
 }
 
 impl<T> Noted<T> {
-    /// Notes the value that `M` derives from `x`. It does nothing when a program runs.
+    /// Returns a note of the value that `M` derives from `x`. It does nothing when a program runs.
     pub fn of<X, M: Reads<X, T>>(x: &X) -> Noted<T>
         ensures { result.value ≡ M.value x.now }
     {
@@ -35,7 +35,7 @@ impl<T> Noted<T> {
         }
     }
 
-    /// Notes the same value again.
+    /// Returns another note of the same value.
     pub fn again(&self) -> Noted<T>
         ensures { result.value ≡ self.now.value }
     {

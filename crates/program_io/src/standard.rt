@@ -13,7 +13,7 @@ use std::rt::Files;
 /// The file descriptor of standard error, the last of the three.
 const LAST_STANDARD: i32 = 2;
 
-/// The null device in place of those of standard input, output and error that were closed when the program started.
+/// The null device in place of each of standard input, output and error that was closed when the program started.
 ///
 /// It stays open until the program exits. Otherwise, a file that the program opens would get the free descriptor, and
 /// messages would be written into that file. It is open for reading only, so that writing to it fails.

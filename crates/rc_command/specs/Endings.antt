@@ -1,4 +1,4 @@
--- How a run of `rc` ends, and what it writes.
+-- The ways in which a run of `rc` ends, and the output that it writes.
 use Rattle.std.specs.Prelude.{◌≡◌, ◌⊎◌, ℕ, Bool, true, false, if◌then◌else◌, List, [], ◌++◌, codes, length, Option}
 use Rattle.std.specs.Prelude.{Some, None, IsSome}
 use Rattle.std.specs.List.{list_any}
@@ -151,8 +151,8 @@ Asks file_at words P = ParsedArgumentsSatisfy words (λ asked. ForResolvedArgume
 abbrev pub Keeps : Asked → KnownFiles → KnownFiles → Type 0
 Keeps asked old new = KeepsIn asked.options.dry asked.file asked.new old new
 
--- the status is that of the run, and nothing more is reported; or it is that of a fault, if a file is given and the new
--- level could not be written to it although all scripts were carried out
+-- the status is the one of the run, and nothing more is reported; or, if all scripts were carried out but the new
+-- level could not be written to the given file, the status is the one for a fault
 abbrev pub IsStatusOf : Option (List ℕ) → ℕ → ReportList → ℕ → ReportList → Type 0
 IsStatusOf file inner told status tells =
     ((status ≡ inner) × (tells ≡ told)) ⊎ (IsSome file × (status ≡ DEVICE_FAULT) × AllScriptsEnded inner)

@@ -1,4 +1,4 @@
-//! Runs or prints the scripts behind the links of two runlevels.
+//! Runs or prints the scripts to which the links of two runlevels lead.
 
 ghost use Rattle.std.specs.Prelude.{◌≡◌, ◌≢◌, ◌++◌, ◌⊎◌, ◌↔◌, ℕ, true, false, codes, IfErr, IfOk, IfSome, IsSome, IsTrue, None, OnErr, OnOk, List, Option, map, string_bytes};
 ghost use Rattle.host_calls.specs.Calls.{HostCall};

@@ -40,12 +40,12 @@ LeavesOne scripts rest = (found : PlanFault Global) × (position : ℕ) × IsRef
     × IsFaultAt scripts found position
     × (rest ≡ take position scripts ++ drop (position + 1) scripts)
 
--- some scripts are omitted in this way, one after another; the list has the scripts before each step, the last step
--- first
+-- some scripts are omitted, one after another, each because of a fault that it causes; the list has the scripts before
+-- each step, the last step first
 abbrev pub LeavesOut : List (List ScriptText) → List ScriptText → List ScriptText → Type 0
 LeavesOut [] scripts rest = rest ≡ scripts
 LeavesOut (before ∷ steps) scripts rest = LeavesOut steps scripts before × LeavesOne before rest
 
--- any number of scripts are omitted in this way
+-- any number of scripts are omitted, each because of a fault that it causes
 abbrev pub LeavesSome : List ScriptText → List ScriptText → Type 0
 LeavesSome scripts rest = (steps : List (List ScriptText)) × LeavesOut steps scripts rest

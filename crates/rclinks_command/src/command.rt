@@ -103,7 +103,7 @@ fn files_of<'w>(
 /// The first fault ends the run and is reported on `err`. Warnings about headers are also reported on `err`, whatever
 /// the status. The options change this:
 ///
-/// - `--all`: reports all faults; the status is that of the first.
+/// - `--all`: reports all faults; the first fault determines the status.
 /// - `--skip`: omits scripts that can't be read or planned.
 /// - `--all-last`: puts scripts that name `$all` last.
 /// - `--write DIR`: creates the links in the folders of a directory instead of printing them, and removes numbered

@@ -1,5 +1,5 @@
-//! The command line of `rclinks`: reads init scripts, reports what is wrong with them, and prints or creates the links
-//! in the runlevels' folders, with the least numbers that the scripts' headers allow (LSB Core 5.0).
+//! The command line of `rclinks`: reads init scripts, reports faults in them, and prints or creates the links in the
+//! runlevels' folders, with the least numbers that the scripts' headers allow (LSB Core 5.0).
 #![tactic(auto)]
 
 mod answer;

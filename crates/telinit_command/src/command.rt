@@ -72,7 +72,7 @@ pub fn frame_of(words: &Words) -> Option<[u8; BLOCK]>
 
 /// Returns the request of a command line. `home` is the folder of the channel in the environment, or empty.
 pub(crate) fn read_asked(alloc: Global, home: &str, words: Vec<String>) -> Result<Asked, WordFault>
-    // This is what the arguments ask for, with the defaults for options that are not given.
+    // This is the request of the arguments, with the defaults for options that are not given.
     ensures ok { IfOk result (λ asked. IsRequestFor home.now (map string_bytes words.items)
         (string_bytes asked.path) asked.block) }
     ensures usage { IfErr result (λ fault. IsSome (reason_of fault)
