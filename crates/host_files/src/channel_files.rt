@@ -99,7 +99,7 @@ impl Model for ChannelCallList {
     ghost view = { λ _. [] };
 }
 
-/// Derives the empty list of answers.
+/// Creates the empty list of answers.
 struct Empty;
 
 impl Reads<(), ChannelCallList> for Empty {
@@ -115,7 +115,7 @@ pub fn nothing_read() -> Noted<ChannelCallList>
     Noted::of::<(), Empty>(&())
 }
 
-/// Derives a list with one more answer: the file that was found at the path.
+/// Adds an answer to the list: the file that was found at the path.
 struct Found;
 
 impl<'a> Reads<(&'a Noted<ChannelCallList>, &'a Option<FoundFile>), ChannelCallList> for Found {
@@ -125,7 +125,7 @@ impl<'a> Reads<(&'a Noted<ChannelCallList>, &'a Option<FoundFile>), ChannelCallL
     ghost value = { λ said. found said.1.now ∷ said.0.now.value };
 }
 
-/// Derives a list with one more answer: a request that was read at a position.
+/// Adds an answer to the list: a request that was read at a position.
 struct ReadAt;
 
 impl<'a> Reads<(&'a Noted<ChannelCallList>, u64, &'a [u8; REQUEST]), ChannelCallList> for ReadAt {

@@ -128,7 +128,7 @@ impl<A: Allocator + Copy> SkippedNames<A> {
         }
     }
 
-    /// Enables reports, except of the names that are in the folder now.
+    /// Enables reports, except for the names that are in the folder now.
     pub(crate) fn tell_further<R: Files>(&mut self, rt: &R, folder: &str) {
         self.is_asked = true;
         let Ok(list) = listed(rt, self.alloc, folder) else {

@@ -24,7 +24,7 @@ impl Model for CallList {
     ghost view = { λ list. list.calls.items };
 }
 
-/// Derives the empty list of calls.
+/// Creates the empty list of calls.
 struct Empty;
 
 impl Reads<(), CallList> for Empty {
@@ -40,7 +40,7 @@ pub fn no_calls() -> Noted<CallList>
     Noted::of::<(), Empty>(&())
 }
 
-/// Derives a list with one more call, which `M` derives from its arguments and its answer.
+/// Adds a call to the list; `M` derives the call from its arguments and its answer.
 struct ByCall<M> {
     marker: PhantomData<M>,
 }
@@ -58,7 +58,7 @@ pub fn and_call<X: Copy, M: Reads<X, Call>>(before: &Noted<CallList>, call: X) -
     Noted::of::<(&Noted<CallList>, X), ByCall<M>>(&(before, call))
 }
 
-/// Derives the call of a start.
+/// Derives the recorded call for a start.
 pub struct Start;
 
 impl<'a> Reads<(&'a Id, &'a [u8], &'a Reply), Call> for Start {
@@ -67,7 +67,7 @@ impl<'a> Reads<(&'a Id, &'a [u8], &'a Reply), Call> for Start {
     ghost value = { λ made. Start made.0.now made.1.now made.2.now };
 }
 
-/// Derives the call of a look.
+/// Derives the recorded call for a look.
 pub struct Look;
 
 impl<'a> Reads<(&'a Id, &'a Reply), Call> for Look {
@@ -76,7 +76,7 @@ impl<'a> Reads<(&'a Id, &'a Reply), Call> for Look {
     ghost value = { λ made. Look made.0.now made.1.now };
 }
 
-/// Derives the call of a signal.
+/// Derives the recorded call for a signal.
 pub struct Signal;
 
 impl<'a> Reads<(&'a Id, SignalKind, &'a Reply), Call> for Signal {
@@ -85,7 +85,7 @@ impl<'a> Reads<(&'a Id, SignalKind, &'a Reply), Call> for Signal {
     ghost value = { λ made. Signal made.0.now made.1 made.2.now };
 }
 
-/// Derives the call for a late answer.
+/// Derives the recorded call for a late answer.
 pub struct Late;
 
 impl<'a> Reads<&'a Option<(Id, Answer)>, Call> for Late {
@@ -94,7 +94,7 @@ impl<'a> Reads<&'a Option<(Id, Answer)>, Call> for Late {
     ghost value = { λ made. Late made.now };
 }
 
-/// Derives the call that read the clock.
+/// Derives the recorded call for a reading of the clock.
 pub struct Clock;
 
 impl Reads<Result<u64, HostFault>, Call> for Clock {
@@ -103,7 +103,7 @@ impl Reads<Result<u64, HostFault>, Call> for Clock {
     ghost value = { λ made. Clock made };
 }
 
-/// Derives the call that read bytes into the front of a buffer.
+/// Derives the recorded call for bytes that were read into the front of a buffer.
 pub struct TakeBytes;
 
 impl<'a> Reads<(&'a [u8], Result<usize, HostFault>), Call> for TakeBytes {
@@ -114,7 +114,7 @@ impl<'a> Reads<(&'a [u8], Result<usize, HostFault>), Call> for TakeBytes {
     ghost value = { λ made. TakeBytes (length made.0.now) (front_read made.1 made.0.now) };
 }
 
-/// Derives the call that read the files of the inittab.
+/// Derives the recorded call for a reading of the inittab's files.
 pub struct ReadTables;
 
 impl<'a, A: Allocator> Reads<&'a Result<Vec<Part<A>, A>, HostFault>, Call> for ReadTables {
@@ -124,7 +124,7 @@ impl<'a, A: Allocator> Reads<&'a Result<Vec<Part<A>, A>, HostFault>, Call> for R
     ghost value = { λ made. ReadTables (parts_read (λ parts. parts.items) made.now) };
 }
 
-/// Derives the call that carried a text, with the text that was read back.
+/// Derives the recorded call for a text that was carried and read back.
 pub struct Carry;
 
 impl<'a, A: Allocator> Reads<(&'a [u8], &'a Result<Vec<u8, A>, HostFault>), Call> for Carry {
@@ -134,7 +134,7 @@ impl<'a, A: Allocator> Reads<(&'a [u8], &'a Result<Vec<u8, A>, HostFault>), Call
     ghost value = { λ made. Carry made.0.now (text_read (λ back. back.items) made.1.now) };
 }
 
-/// Derives the call that announced a happening.
+/// Derives the recorded call for the announcement of a happening.
 pub struct Announce;
 
 impl<'a, A: Allocator> Reads<&'a HappeningIn<A>, Call> for Announce {
@@ -143,7 +143,7 @@ impl<'a, A: Allocator> Reads<&'a HappeningIn<A>, Call> for Announce {
     ghost value = { λ made. Announce made.now };
 }
 
-/// Derives the call of a pause.
+/// Derives the recorded call for a pause.
 pub struct Pause;
 
 impl Reads<(), Call> for Pause {

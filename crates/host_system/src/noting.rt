@@ -25,7 +25,7 @@ impl Model for SystemCallList {
     ghost view = { λ _. [] };
 }
 
-/// Derives the empty list of calls.
+/// Creates the empty list of calls.
 struct Empty;
 
 impl Reads<(), SystemCallList> for Empty {
@@ -51,7 +51,7 @@ pub(crate) fn noted<'a, X: Copy, M: Reads<(&'a Noted<SystemCallList>, X), System
     Noted::of::<(&'a Noted<SystemCallList>, X), M>(&(before, call))
 }
 
-/// Derives a list with the start of a program. The start is recorded as failed until `Started` records its success.
+/// Adds the start of a program to the list. The start is recorded as failed until `Started` records its success.
 pub(crate) struct Spawned;
 
 impl<'a, A: Allocator> Reads<(&'a Noted<SystemCallList>, &'a Command<A>), SystemCallList>
@@ -63,7 +63,7 @@ impl<'a, A: Allocator> Reads<(&'a Noted<SystemCallList>, &'a Command<A>), System
     ghost value = { λ asked. spawn (words_in asked.1.now) None ∷ asked.0.now.value };
 }
 
-/// Derives a list in which the newest call started the process with this number.
+/// Records that the newest call, a start, started the process with this number.
 pub(crate) struct Started;
 
 impl<'a> Reads<(&'a Noted<SystemCallList>, u32), SystemCallList> for Started {
@@ -72,7 +72,7 @@ impl<'a> Reads<(&'a Noted<SystemCallList>, u32), SystemCallList> for Started {
     ghost value = { λ asked. born asked.1 asked.0.now.value };
 }
 
-/// Derives a list with a wait for the process with a number.
+/// Adds a wait for the process with this number to the list.
 pub(crate) struct Waited;
 
 impl<'a> Reads<
@@ -89,7 +89,7 @@ impl<'a> Reads<
     ghost value = { λ asked. try_wait asked.1.0 (waited asked.1.1.now) ∷ asked.0.now.value };
 }
 
-/// Derives a list with a KILL to the process with a number.
+/// Adds a KILL of the process with this number to the list.
 pub(crate) struct Killed;
 
 impl<'a> Reads<(&'a Noted<SystemCallList>, (u32, &'a io::Result<()>)), SystemCallList> for Killed {
@@ -100,7 +100,7 @@ impl<'a> Reads<(&'a Noted<SystemCallList>, (u32, &'a io::Result<()>)), SystemCal
     ghost value = { λ asked. send Kill asked.1.0 (is_ok asked.1.1.now) ∷ asked.0.now.value };
 }
 
-/// Derives a list with a TERM to the process with a number.
+/// Adds a TERM to the process with this number to the list.
 pub(crate) struct Terminated;
 
 impl<'a> Reads<(&'a Noted<SystemCallList>, (u32, &'a io::Result<()>)), SystemCallList>
@@ -112,7 +112,7 @@ impl<'a> Reads<(&'a Noted<SystemCallList>, (u32, &'a io::Result<()>)), SystemCal
     ghost value = { λ asked. send Term asked.1.0 (is_ok asked.1.1.now) ∷ asked.0.now.value };
 }
 
-/// Derives a list with a signal to a process group.
+/// Adds a signal to the process group of the process with this number to the list.
 pub(crate) struct GroupSent;
 
 impl<'a> Reads<
@@ -129,7 +129,7 @@ impl<'a> Reads<
         send_group asked.1.0 asked.1.1 (is_ok asked.1.2.now) ∷ asked.0.now.value };
 }
 
-/// Derives a list with a program that was run to its end.
+/// Adds a program that was run to its end to the list.
 pub(crate) struct Ran;
 
 impl<'a, A: Allocator> Reads<(&'a Noted<SystemCallList>, &'a Command<A>), SystemCallList> for Ran {
@@ -140,7 +140,7 @@ impl<'a, A: Allocator> Reads<(&'a Noted<SystemCallList>, &'a Command<A>), System
     ghost value = { λ asked. run (words_in asked.1.now) ∷ asked.0.now.value };
 }
 
-/// Derives a list with a reading of the clock.
+/// Adds a reading of the clock to the list.
 pub(crate) struct ClockRead;
 
 impl<'a> Reads<(&'a Noted<SystemCallList>, &'a io::Result<Duration>), SystemCallList>
@@ -154,7 +154,7 @@ impl<'a> Reads<(&'a Noted<SystemCallList>, &'a io::Result<Duration>), SystemCall
         read_clock (option_map as_nanos (result_ok asked.1.now)) ∷ asked.0.now.value };
 }
 
-/// Derives a list with a reading of the file at a path.
+/// Adds a reading of the file at a path to the list.
 pub(crate) struct FileRead;
 
 impl<'a, A: Allocator> Reads<

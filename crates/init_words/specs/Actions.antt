@@ -12,7 +12,7 @@ use Rattle.init_words.specs.declared.stages.Stage.{Stage}
 use Rattle.init_words.specs.declared.stages.Stage.TheVariants.{Sysinit, Boot, Run}
 use Rattle.init_words.specs.Levels.{names, same_level}
 
--- the word of an action in inittab(5)
+-- the name of an action in inittab(5)
 abbrev pub word_of : Act → List ℕ
 word_of act.Sysinit = codes "sysinit"
 word_of act.Boot = codes "boot"
@@ -37,7 +37,7 @@ acts =
     ∷ act.Powerwait ∷ act.Powerfail ∷ act.Powerokwait ∷ act.Powerfailnow
     ∷ act.Off ∷ act.Initdefault ∷ act.Ctrlaltdel ∷ act.Kbrequest ∷ []
 
--- the action with this word, which must be in lower case; none if there is no such action
+-- the action with this name, which must be in lower case; none if there is no such action
 unfoldable pub act_read : List ℕ → Option Act
 act_read word = find (λ a. bytes_eq (word_of a) word) acts
 

@@ -47,7 +47,7 @@ pub const ACTS: [Act; 15] = [
 ];
 
 impl Act {
-    /// Returns the word of inittab(5) for the action, in lower case.
+    /// Returns the name of the action in inittab(5), in lower case.
     pub fn word(self) -> &'static [u8]
         ensures { result.now ≡ word_of self }
     {
@@ -70,7 +70,7 @@ impl Act {
         }
     }
 
-    /// Returns the action with this word of inittab(5), which must be in lower case.
+    /// Returns the action with this name in inittab(5), which must be in lower case.
     #[tactic(auto, unfolding(crate::specs::Actions::act_read))]
     pub fn read(word: &[u8]) -> Option<Act>
         ensures { result ≡ act_read word.now }

@@ -209,7 +209,7 @@ abbrev pub IsReadOf : List NamedText → Inittab → Type 0
 IsReadOf parts read =
     (are_readable (texts_of parts) ≡ true) × (read.faults.items ≡ told_of parts) × (read.table ≡ table_in parts)
 
--- this was read from the files of the run's inittab, and the run accepts it
+-- this table, with its faults, was read from the files of the run's inittab, and the run accepts it
 abbrev pub IsInittab : KnownTexts → RunArguments → Inittab → Type 0
 IsInittab text_at service read = (parts : List NamedText) × AreFiles text_at service parts × IsReadOf parts read
     × (is_taken service read.faults.items read.table ≡ true)

@@ -51,7 +51,7 @@ impl Model for ReportList {
     ghost view = { λ _. [] };
 }
 
-/// Derives the empty list of reports.
+/// Creates the empty list of reports.
 struct Empty;
 
 impl Reads<(), ReportList> for Empty {
@@ -60,7 +60,7 @@ impl Reads<(), ReportList> for Empty {
     ghost value = { λ _. [] };
 }
 
-/// Derives a list with one more report.
+/// Adds a report to the list.
 struct Whole;
 
 impl<'a> Reads<(&'a Noted<ReportList>, &'a [u8]), ReportList> for Whole {
@@ -69,7 +69,7 @@ impl<'a> Reads<(&'a Noted<ReportList>, &'a [u8]), ReportList> for Whole {
     ghost value = { λ added. added.1.now ∷ added.0.now.value };
 }
 
-/// Derives a list with one more report, whose text is given in pieces.
+/// Adds a report, whose text is given in pieces, to the list.
 struct Pieces;
 
 impl<'a> Reads<(&'a Noted<ReportList>, &'a [&'a str]), ReportList> for Pieces {
@@ -78,7 +78,7 @@ impl<'a> Reads<(&'a Noted<ReportList>, &'a [&'a str]), ReportList> for Pieces {
     ghost value = { λ added. flat_map (λ text. text.now) added.1.now ∷ added.0.now.value };
 }
 
-/// Derives a list with one more report, whose text is given formatted.
+/// Adds a report, whose text is given formatted, to the list.
 struct Formatted;
 
 impl<'a, D: Display> Reads<(&'a Noted<ReportList>, &'a D), ReportList> for Formatted {

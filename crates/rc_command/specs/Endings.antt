@@ -83,7 +83,7 @@ AreNames names_at arguments previous names =
     ArePrevious names_at arguments.dir arguments.previous previous
     × AreNamesAt names_at (folder_of arguments.dir arguments.new) names
 
--- the scripts of the run were run, with the calls that the host recorded
+-- the scripts for these arguments were run, with the calls that the host recorded
 abbrev pub RunsArguments : KnownNames → RcArguments → Option (List HostCall) → Option (List HostCall) → Option (List ℕ)
     → ReportList → ℕ → Option (List ℕ) → ReportList → Type 0
 RunsArguments names_at arguments old new before told status after tells =
