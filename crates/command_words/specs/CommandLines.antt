@@ -87,7 +87,7 @@ pub record AddsAll (old : Command) (rules : List Rule) (new : Command) : Type 0 
 abbrev pub IsLine : App → Command → Type 0
 IsLine app made = (app_of made ≡ app) × ((out-Command made).has_globals ≡ false)
 
--- the values that the arguments of a call give the rows of a command line; none if clap finds a fault in them
+-- the values that the arguments give to the rows of a command line; none if clap finds a fault in the arguments
 abbrev pub given_by : App → List Text → Option (List Row)
 given_by line words = if length (fault_of line words) == 0 then Some (matches_of line words) else None
 

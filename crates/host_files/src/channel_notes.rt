@@ -117,8 +117,8 @@ impl ChannelNotes {
     /// Reports that the channel was written to since it was read to this end, although its length is unchanged.
     ///
     /// It is reported only if the length has been the same for some time, both before and after the time of writing
-    /// changed. For a moment, a file that is appended to has its new time before its new length, and a file that is
-    /// truncated has it after its new length.
+    /// changed. While a file is being appended to, its new time is briefly visible before its new length; while it is
+    /// being truncated, its new time is briefly visible only after its new length.
     fn note_written(&mut self, rt: &(impl Clock + MessageSink), path: &str, found: &FoundFile) {
         let end = (found.length, found.written.0, found.written.1);
         let before = self.end.unwrap_or(end);

@@ -26,7 +26,7 @@ impl<A: Allocator + Copy> Output<A> {
         }
     }
 
-    /// Prints init's announcement of the happening, if it has one, without delay. Returns whether that worked; a
+    /// Prints init's announcement of the happening, if it has one, without delay. Returns whether it was printed; a
     /// failure is reported.
     pub(crate) fn announce<R: MessageSink, B: Allocator>(
         &mut self,
@@ -37,7 +37,7 @@ impl<A: Allocator + Copy> Output<A> {
         self.note(rt, &printed)
     }
 
-    /// Prints the faults of the lines of an inittab's parts. Returns whether that worked; a failure is reported.
+    /// Prints the faults of the lines of an inittab's parts. Returns whether they were printed; a failure is reported.
     pub(crate) fn print_faults<R: MessageSink, B: Allocator>(
         &mut self,
         rt: &R,

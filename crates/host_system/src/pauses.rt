@@ -36,7 +36,7 @@ pub(crate) struct Pauses {
     by_cost: bool,
     /// Whether something has happened since the last pause.
     stirred: bool,
-    /// The sum of all pauses since something last happened, if each pause is a tenth of those before it.
+    /// The sum of all pauses since something last happened, if each pause is a tenth of that sum.
     passed: Option<u64>,
     /// When the turn began.
     turn: Option<Instant>,

@@ -108,7 +108,7 @@ pub trait System {
     /// Returns the descriptor that is ready when the helper has exited; `None` if there is no helper.
     fn watch_descriptor(&self) -> Option<RawFd>;
 
-    /// Waits for the helper, which has exited or is about to, and returns its status.
+    /// Waits for the helper, which has exited or is about to exit, and returns its status.
     fn join_watch(&mut self) -> Option<ExitStatus>
         ensures { told self.new ≡ told self.old };
 

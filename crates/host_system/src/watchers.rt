@@ -81,7 +81,7 @@ impl<P: OpenProcess + Drop> Watcher<P> {
         Some(reader.as_raw_fd())
     }
 
-    /// Waits for the helper, which has exited or is about to, and returns its status.
+    /// Waits for the helper, which has exited or is about to exit, and returns its status.
     pub(crate) fn join(&mut self) -> Option<ExitStatus> {
         let (mut helper, _) = self.helper.take()?;
         helper.wait().ok()

@@ -33,8 +33,7 @@ EndsVersion done old new = Appends old new (version_line (codes "initd"))
 EndsVersion unversioned old new = AppendsPrefix old new (version_line (codes "initd"))
 EndsVersion _ old new = ⊥
 
--- the known texts at the paths of traces to judge; with --pieces none, because nothing is known of a trace with its
--- pieces
+-- the known texts at the paths of traces to judge; with --pieces, no text is known
 abbrev pub judged_at : KnownTexts → CheckArguments → KnownTexts
 judged_at text_at options = if options.pieces then (λ _. None) else text_at
 

@@ -97,8 +97,8 @@ fn report_limit<E: Reporter>(alloc: Global, notes: &RunNotes, core: &Core, err: 
     report_waiting(alloc, core, err);
 }
 
-/// Reports that all turns were made, if the trace was lost, and with it the notes on later children. Instead of these,
-/// it names the children in init's records.
+/// Makes the same report for a run whose trace was lost, and with it the notes on later children. It names the
+/// children in init's records instead.
 fn report_lost_limit<E: Reporter>(alloc: Global, core: &Core, err: &mut E)
     ensures { (running : Option (List (List ℕ × ℕ))) × ReportsLimit running
         (waiting_text core.now) (E.reports err.old) (E.reports err.new) }

@@ -184,10 +184,10 @@ delay_given rows = delay_in (first_of (codes "--respawn-delay") rows)
 -- files that are kept, if not all; and whether each happening is judged. For the run: the level to go to, if given;
 -- the maximum number of turns; whether it ends when nothing is left to do and no child is running; whether its end is
 -- specified; the longest pause, in hundredths of a second; and the id whose last status becomes the status of the run,
--- if given. The others: whether each start and end of a child is reported; the folder of the children's output, if
--- given; whether signals go to process groups; the longest delay of a start in seconds, if starts are delayed; whether
--- an inittab with a faulty line is rejected; whether lines begin with the time; whether the bell is created; and
--- whether the children are watched.
+-- if given. Finally: whether each start and end of a child is reported; the folder of the children's output, if given;
+-- whether signals go to process groups; the longest delay of a start in seconds, if starts are delayed; whether an
+-- inittab with a faulty line is rejected; whether lines begin with the time; whether the bell is created; and whether
+-- the children are watched.
 pub record RunArguments : Type 0 where
   pub inittab : Text
   pub inittab_dir : Option Text

@@ -94,8 +94,8 @@ line_with facilities line =
     record line { files = files_with facilities (is_some line.dir && not line.bare) line.files }
 
 -- The property holds for the scripts that are planned. Without --skip, these are the scripts of all files. With
--- --skip, these are the files that are scripts, except some that were omitted, each because there was no plan with it.
--- In both cases, the facility `$all` is added if the scripts that name it come last.
+-- --skip, these are the scripts of all files that are scripts, except some that were omitted, each because there was
+-- no plan with it. In both cases, the facility `$all` is added if the scripts that name it come last.
 abbrev pub ScriptsOf : KnownTexts → (skips last : Bool) → List (List ℕ) → (List ScriptText → Type 0) → Type 0
 ScriptsOf text_at false last paths P =
     (scripts : List ScriptText) × AreScripts text_at paths scripts × P (with_all last scripts)
