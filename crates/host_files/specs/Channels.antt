@@ -18,7 +18,7 @@ abbrev pub is_another : Progress → FoundFile → Bool
 is_another progress file = option_map_or
     (λ known. progress.missing || not (known.0 == file.device && known.1 == file.number)) progress.file false
 
--- the channel was created anew: it is a different file, or shorter than the part already read
+-- the channel was replaced or truncated: it is a different file, or shorter than the part already read
 abbrev pub is_replaced : Progress → FoundFile → Bool
 is_replaced progress file = is_another progress file || nat_lt file.length progress.heard
 
@@ -36,7 +36,7 @@ abbrev pub begun : Bool → Option FoundFile → Progress → Progress
 begun fresh file progress = if progress.begun then progress
     else record progress { begun = true; heard = first_offset fresh file }
 
--- a channel that was created anew, or does not exist, is read from its first byte on
+-- a channel that was replaced or truncated, or does not exist, is read from its first byte on
 abbrev pub moved : Option FoundFile → Progress → Progress
 moved None progress = record progress { heard = 0; missing = true }
 moved (Some file) progress = record {
@@ -58,7 +58,7 @@ progress_of fresh (read position block ∷ told) =
     let progress = progress_of fresh told in record progress { heard = progress.heard + REQUEST }
 
 -- each request was read whole, at the current position: the end of the request before it, unless reading began, or the
--- channel was created anew, in between
+-- channel was replaced or truncated, in between
 abbrev pub ReadsConsecutively : Bool → List ChannelCall → Type 0
 ReadsConsecutively fresh [] = ⊤
 ReadsConsecutively fresh (found file ∷ told) = ReadsConsecutively fresh told

@@ -114,7 +114,7 @@ impl ChannelNotes {
         self.note_torn(rt, path, found.length);
     }
 
-    /// Reports that the channel was written to since it was read to this end, although its length is unchanged.
+    /// Reports that the channel was written to after it was read to its end, although its length is unchanged.
     ///
     /// It is reported only if the length has been the same for some time, both before and after the time of writing
     /// changed. While a file is being appended to, its new time is briefly visible before its new length; while it is

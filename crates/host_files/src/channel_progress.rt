@@ -76,8 +76,8 @@ impl Progress {
         }
     }
 
-    /// Returns whether the channel was created anew: a different file than before is at the path, or one that is
-    /// shorter than the part already read.
+    /// Returns whether the channel was replaced or truncated: a different file than before is at the path, or a file
+    /// that is shorter than the part already read.
     pub fn is_replaced(&self, found: &FoundFile) -> bool
         ensures { result ≡ is_replaced self.now found.now }
     {

@@ -144,11 +144,12 @@ impl<F: ChannelFile + Drop, A: Allocator + Copy> Channel<F, A> {
 
     /// Reads the channel's next bytes into the buffer.
     ///
-    /// - Only whole requests are read, so that no part of a torn one is left if the channel is created anew.
+    /// - Only whole requests are read, so that no part of an incomplete one is left if the channel is replaced or
+    ///   truncated.
     /// - A channel that does not exist has no bytes.
     /// - If a different file is at the path, or the file is shorter than the part already read, the channel was
-    ///   created anew, and is read from its first byte on. If a lock is held, the lock of that file is taken first; if
-    ///   another initd holds it, that is an error.
+    ///   replaced or truncated, and is read from its first byte on. If a lock is held, the lock of that file is taken
+    ///   first; if another initd holds it, that is an error.
     /// - Anything but a plain file is not opened, because opening a FIFO would block until it has a writer.
     pub fn take_bytes<R: Files<File = File> + Clock + MessageSink>(
         &mut self,

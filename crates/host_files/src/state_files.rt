@@ -74,8 +74,8 @@ impl<A: Allocator + Copy> StateFile<A> {
         Ok(())
     }
 
-    /// Writes the text to the path beside the state file, renames it to the path of the state file, and returns the
-    /// text that it reads back from there.
+    /// Writes the text to a file next to the state file, renames that file to the path of the state file, and returns
+    /// the text that it reads back from there.
     pub fn carry<R: Files<File = File> + MessageSink, B: Allocator>(
         &mut self,
         rt: &R,

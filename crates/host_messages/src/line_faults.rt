@@ -67,7 +67,8 @@ fn add_place<A: Allocator, B: Allocator>(
     Ok(())
 }
 
-/// Reports what to do about each part that begins with a byte order mark, which the line about its fault does not show.
+/// Reports each part that begins with a byte order mark, and what to do about it, because the line about the fault
+/// does not mention the mark.
 pub(crate) fn tell_marked<B: Allocator>(rt: &impl Eprint, parts: &[Part<B>]) {
     for part in parts {
         if part.bytes.starts_with(b"\xef\xbb\xbf") {

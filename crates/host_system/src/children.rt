@@ -195,7 +195,7 @@ impl<S: System, A: Allocator + Copy> Children<S, A> {
         }
     }
 
-    /// Returns how the id's child ended, if it has. If the id has no child, the error is `NotFound`.
+    /// Returns how the id's child ended, if it has ended. If the id has no child, the error is `NotFound`.
     fn try_wait<R: MessageSink + Clock>(
         &mut self,
         rt: &R,

@@ -65,7 +65,7 @@ impl<S: System> HeldChild<S> {
         self.number
     }
 
-    /// Returns how the child ended, if it has (waitpid(2) with WNOHANG).
+    /// Returns how the child ended, if it has ended (waitpid(2) with WNOHANG).
     ///
     /// If the child cannot be waited for, that is reported, and again each minute while the stage is not settled. It is
     /// also reported when the child can be waited for again.

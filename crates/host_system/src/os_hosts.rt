@@ -242,7 +242,7 @@ impl<
         ensures value { result.value ≡ self.now.channel.told }
         // the calls returned the bytes that were read from the channel's file, each once and in order, except the rest
         // of the last request; and each request was read whole, from the end of the one before it, unless reading
-        // began or the channel was created anew in between
+        // began, or the channel was replaced or truncated, in between
         ensures own { AreBytesOfChannel self.now.calls self.now.channel }
     {
         let host = &*self.host;

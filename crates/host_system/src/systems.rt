@@ -64,7 +64,7 @@ pub trait System {
     fn number_of(&self, process: &Self::Started) -> u32
         ensures { result ≡ number process.now };
 
-    /// Returns how a process ended, if it has (waitpid(2) with WNOHANG).
+    /// Returns how a process ended, if it has ended (waitpid(2) with WNOHANG).
     fn try_wait(&mut self, process: &mut Self::Started) -> io::Result<Option<ExitStatus>>
         // recorded with the number of the process and the outcome
         ensures told { told self.new

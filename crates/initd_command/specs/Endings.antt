@@ -19,7 +19,7 @@ use Rattle.initd_command.specs.declared.run.TheConstants.{CAPPED, UNLED, UNPRINT
 use Rattle.initd_command.specs.Turned.{End, ReportsEnd, ReportsText, end_status}
 use Rattle.command_words.specs.Faults.{usage_report}
 
--- The report about a trace that was judged, besides the verdict:
+-- The report about a trace that was judged, in addition to the verdict:
 -- - `within`: its path, if it begins within a run
 -- - `open_line`: the line at which its last happening begins, if that is incomplete
 -- - `count`: the number of its complete happenings

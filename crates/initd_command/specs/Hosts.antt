@@ -42,8 +42,8 @@ IsAsked calls asked = (settings : HostSettings) × (held : HeldChildren) × AreS
 -- The settings are known, and the calls are possible for a host with these settings that held no child before them.
 -- The system calls are exactly those for these calls, in their order, after helpers that were run before the first
 -- call. The bytes that the calls returned are those read from the channel's file, each once and in order, except the
--- rest of the last request; and each request was read whole, from the end of the one before it, unless reading began
--- or the channel was created anew in between.
+-- rest of the last request; and each request was read whole, from the end of the one before it, unless reading began,
+-- or the channel was replaced or truncated, in between.
 abbrev pub IsOfSystem : HostsState → Option HostSettings → Type 0
 IsOfSystem hosts None = ⊥
 IsOfSystem hosts (Some settings) =

@@ -13,7 +13,7 @@ use Rattle.initd_command.specs.Lines.{front_line}
 use Rattle.initd_command.specs.Endings.{Ending, EndsUnread, TraceJudgement, refused, lawful, unlawful, torn, unfinished}
 use Rattle.initd_command.specs.Endings.{unwritten}
 
--- the report about a trace, besides the verdict
+-- the report about a trace, in addition to the verdict
 abbrev pub judged_of : JudgedTrace → TraceJudgement
 judged_of told = record {
   within = option_map (λ path. path.now) told.within;

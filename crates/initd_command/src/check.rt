@@ -21,8 +21,8 @@ use std::rt::Files;
 use trace_pieces::PiecedFiles;
 use trace_verdict::{Breach, Finding, TextJudge};
 
-/// The report about a trace besides the verdict: its path, if it begins within a run; the line at which its last
-/// happening begins, if that is incomplete; and the number of its complete happenings.
+/// The report about a trace in addition to the verdict: its path, if it begins within a run; the line at which its
+/// last happening begins, if that is incomplete; and the number of its complete happenings.
 #[derive(Clone, Copy)]
 struct JudgedTrace<'a> {
     within: Option<&'a str>,

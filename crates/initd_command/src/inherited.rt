@@ -32,7 +32,7 @@ pub(crate) fn refuse_unwaited<R: Files + Processes>(rt: &R, alloc: Global) -> Re
     Ok(())
 }
 
-/// Reports which of the signals that are meant to stop a process each child ignores, because initd ignores them.
+/// Reports which of the signals that normally stop a process every child ignores because initd ignores them.
 pub(crate) fn tell_ignored<R: Files + Eprint>(rt: &R, alloc: Global) {
     let ignored = told_of(ignored_signals(rt, alloc).unwrap_or(0));
     let hup = named(ignored, HUP, " HUP");

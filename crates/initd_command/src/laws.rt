@@ -29,8 +29,8 @@ pub fn law_of_telinit()
         → AppendsRequest home words old new → IsNext home words old new }
 {}
 
-/// States that the calls of a host returned all bytes of its channel, if its file only grew, the host read it to the
-/// end, and everything that was read was returned.
+/// States that the calls of a host returned all bytes of its channel, if the channel's file only grew, the host read
+/// it to the end, and the calls returned everything that was read.
 ///
 /// The bytes are all bytes of the file, or all bytes after whole requests that the host skipped, as with `--fresh`. So
 /// [`law_of_telinit`] applies to them. The function does nothing: its contract is the law.

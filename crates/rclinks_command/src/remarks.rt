@@ -85,7 +85,7 @@ fn odd_level(word: &[u8]) -> Option<&'static str> {
     }
 }
 
-/// Returns the warning about the runlevels that are in both lists of a header.
+/// Returns the warnings about runlevels that are in both Default-Start and Default-Stop of a header.
 pub(crate) fn odd_header(alloc: Global, path: &str, header: &Header) -> Vec<u8> {
     let mut odd = Vec::new(alloc);
     for level in header.default_start() {
