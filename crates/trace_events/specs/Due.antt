@@ -1,4 +1,4 @@
--- The steps that init owes, rank by rank (init(8)). `past` is the trace so far, the newest happening first.
+-- The steps that are due, in order of rank (init(8)). `past` is the trace so far, newest happening first.
 use Rattle.std.specs.Prelude.{ℕ, Bool, true, false, not, ◌&&◌, ◌||◌, ◌==◌, if◌then◌else◌, List, [], ◌∷◌, ◌++◌, filter}
 use Rattle.std.specs.Prelude.{Option, Some, None, is_none}
 use Rattle.std.specs.List.{list_any, list_all}
@@ -35,43 +35,43 @@ steps_if false steps = []
 abbrev pub none_excluded : List Event → Bool
 none_excluded past = not (list_any (is_excluded past) (kept_children past))
 
--- 1: before the first stage, enter Sysinit with the seconds of the goal
+-- 1: before the first stage, enter Sysinit with the grace period of the goal
 abbrev pub due_first : Goal → Option Stage → List Event → List Step
 due_first goal None past = Enter Sysinit (goal_of goal past).grace ∷ []
 due_first goal (Some stage) past = []
 
--- 2: at a quiet point, re-execute init, if that was requested
+-- 2: at a quiet point, re-execute init if a request asks for it
 abbrev pub due_reexec : List Event → List Step
 due_reexec past = step_if (is_quiet past && wants_reexec past) Reexec
 
--- 3: at a quiet point, read inittab again, if it is to be read again
+-- 3: at a quiet point, reread inittab if a request requires it
 abbrev pub due_reread : List Event → List Step
 due_reread past = step_if (is_quiet past && wants_reread past) Reread
 
--- 4: At a quiet point, the pending request for another level.
--- This enters the level, or Boot if the level is not S and Boot was never entered, with the seconds of the request.
+-- 4: At a quiet point, carry out the pending request for another level.
+-- The step enters the level, or Boot if the level is not S and Boot was never entered, with the requested grace period.
 abbrev pub enter_level : Option Goal → List Event → List Step
 enter_level None past = []
 enter_level (Some wish) past =
     let first_way = not (same_level wish.level S) && not (was_booted past) in
     Enter (if first_way then Boot else Run wish.level) wish.grace ∷ []
 
--- the same, at a quiet point, for the pending request
+-- at a quiet point, the step that enters the requested level, if such a request is pending
 abbrev pub due_level : List Event → List Step
 due_level past = steps_if (is_quiet past) (enter_level (level_wish past) past)
 
--- 5: At a quiet point in a runlevel, the pending power events, then the pending letters.
--- This calls the entries for each of these power events that is pending.
+-- 5: At a quiet point in a runlevel, carry out the pending power events, then the pending letters.
+-- For each of these power events that is pending, the step that calls its entries.
 abbrev pub power_steps : List PowerKind → List Event → List Step
 power_steps [] past = []
 power_steps (kind ∷ kinds) past = step_if (is_power_pending kind past) (Power kind) ++ power_steps kinds past
 
--- call the entries for each of these letters that is pending
+-- for each of these letters that is pending, the step that calls its entries
 abbrev pub letter_steps : List Letter → List Event → List Step
 letter_steps [] past = []
 letter_steps (letter ∷ rest) past = step_if (is_letter_pending letter past) (Call letter) ++ letter_steps rest past
 
--- both, at a quiet point in a runlevel
+-- at a quiet point in a runlevel, the steps for the pending power events and letters
 abbrev pub due_news : List Event → List Step
 due_news past =
     steps_if (is_quiet past && in_run (stage_of past)) (power_steps powers past ++ letter_steps letters past)
@@ -88,14 +88,14 @@ removed_ids (_ ∷ past) = removed_ids past
 abbrev pub record_ids : List Event → List (List ℕ)
 record_ids past = ids_of (table_of past) ++ filter (λ id. has_child id (known_children past)) (removed_ids past)
 
--- 6: If no request is pending, in record order, the signals that are due to known children whose ids have no open
+-- 6: If no request is pending, send the signals that are due to known children whose ids have no open order, in record
 -- order.
--- This is the order to send one signal, if it is due.
+-- The step that orders this signal for the id, if there is one.
 abbrev pub stop_step : List ℕ → Option OrderKind → List Step
 stop_step id None = []
 stop_step id (Some ask) = Order id ask ∷ []
 
--- the signals that are due to the children of the id among these
+-- the signals that are due to those of these children that belong to the id
 abbrev pub stops_of : List ℕ → List Child → List Event → List Step
 stops_of id [] past = []
 stops_of id (child ∷ children) past =
@@ -111,13 +111,13 @@ stops_among (id ∷ ids) past =
 abbrev pub due_stops : List Event → List Step
 due_stops past = steps_if (not (is_request_pending past)) (stops_among (record_ids past) past)
 
--- 7: If no request is pending and no kept child is excluded, the starts and holds in table order, up to and including
--- the first owed entry.
--- This entry can be started: it is wanted, and has no kept child and no open order.
+-- 7: If no request is pending and no kept child is excluded, start or hold the entries in table order, up to and
+-- including the first owed entry.
+-- The entry can be started: it is wanted, and has no kept child and no open order.
 abbrev pub can_start : Entry → List Event → Bool
 can_start e past = is_wanted e past && not (has_child e.id (kept_children past)) && is_none (open_of e.id past)
 
--- start the entry; if the respawn limit applies to it, it is skipped while it is held, and held if its window is full
+-- start the entry; if the respawn limit applies to it, skip it while it is held, and hold it if its window is full
 abbrev pub start_steps : Entry → List Event → List Step
 start_steps e past =
     if is_limited e.act then
@@ -135,14 +135,15 @@ abbrev pub due_starts : List Event → List Step
 due_starts past =
     steps_if (not (is_request_pending past) && none_excluded past) (starts_among (table_of past) past)
 
--- 8: the stage is over: no request is pending, this is a quiet point, no kept child is excluded, no entry is wanted,
--- and no entry that init waits for has a kept child
+-- 8: When the stage is over, enter the next one.
+-- The stage is over at a quiet point if no request is pending, no kept child is excluded, no entry is wanted, and no
+-- entry that init waits for has a kept child.
 abbrev pub is_over : List Event → Bool
 is_over past = not (is_request_pending past) && is_quiet past && none_excluded past
     && list_all (λ e. not (is_wanted e past) && not (waited_of e && has_child e.id (kept_children past)))
     (table_of past)
 
--- after Sysinit enter Boot, or S if that is the goal; after Boot enter the goal's level; both with the goal's seconds
+-- after Sysinit, enter Boot, or S if that is the goal; after Boot, enter the goal's level; use the goal's grace period
 abbrev pub next_stage : Goal → Option Stage → List Step
 next_stage goal (Some Sysinit) = Enter (if same_level goal.level S then Run S else Boot) goal.grace ∷ []
 next_stage goal (Some Boot) = Enter (Run goal.level) goal.grace ∷ []
@@ -152,7 +153,7 @@ next_stage goal _ = []
 abbrev pub due_stage : Goal → List Event → List Step
 due_stage goal past = steps_if (is_over past) (next_stage (goal_of goal past) (stage_of past))
 
--- the level was announced settled since the last Enter or table
+-- init has announced that the level is settled since the last Enter or table
 abbrev pub is_announced : List Event → Bool
 is_announced [] = false
 is_announced (happened.Settle level ∷ past) = true
@@ -161,7 +162,7 @@ is_announced (happened.NewTable table ∷ past) = false
 is_announced (_ ∷ past) = is_announced past
 
 -- the entry does not keep the level from being settled: it is not owed and, if it names the level, it is served (an
--- entry is kept up if it is held or has one of these children)
+-- entry that init keeps running is served if it is held or has one of these children)
 abbrev pub is_served : Level → List Child → List Event → Entry → Bool
 is_served level there past e = not (is_owed e past)
     && (not (names (At level) e.levels.items)
@@ -174,21 +175,21 @@ is_settled level there past =
     is_level level (stage_of past) && not (list_any (is_excluded past) there)
     && list_all (is_served level there past) (table_of past)
 
--- 9: If no request is pending and no order is open, the announcement that the level is settled, once.
--- This announces that the runlevel in force is settled, judged by the known children.
+-- 9: If no request is pending and no order is open, announce once that the level is settled.
+-- The announcement that the runlevel in force is settled, if it is, judged by the known children.
 abbrev pub settle_step : Option Stage → List Event → List Step
 settle_step (Some (Run level)) past = step_if (is_settled level (known_children past) past) (Settle level)
 settle_step _ past = []
 
--- if no request is pending, no order is open, and the level was not announced yet
+-- the announcement, if no request is pending, no order is open, and init has not made it yet
 abbrev pub due_settle : List Event → List Step
 due_settle past =
     steps_if (not (is_request_pending past) && is_idle past && not (is_announced past))
     (settle_step (stage_of past) past)
 
--- 10: In record order, the looks that a round asks for.
--- A look at the id is to be made: since the last round began, when the id had a known child, no child of it was born
--- and no Look at it was ordered.
+-- 10: In record order, make the looks of the current round.
+-- The id has yet to be looked at: it had a known child when the last round began, and since then no child of the id was
+-- born and no Look at it was ordered.
 abbrev pub wants_look : List ℕ → List Event → Bool
 wants_look id [] = false
 wants_look id (happened.Birth i n ∷ past) = not (same_id id i) && wants_look id past
@@ -196,7 +197,7 @@ wants_look id (happened.Asked i Look ∷ past) = not (same_id id i) && wants_loo
 wants_look id (happened.Nudge ∷ past) = has_child id (known_children past)
 wants_look id (_ ∷ past) = wants_look id past
 
--- the id can be looked at: it has a known child and no open order, and a look at it is to be made
+-- init can look at the id: the id has a known child and no open order, and has yet to be looked at in this round
 abbrev pub can_look : List ℕ → List Event → Bool
 can_look id past = has_child id (known_children past) && is_none (open_of id past) && wants_look id past
 
@@ -209,7 +210,7 @@ looks_among (id ∷ ids) past = step_if (can_look id past) (Order id Look) ++ lo
 abbrev pub due_looks : List Event → List Step
 due_looks past = looks_among (record_ids past) past
 
--- the due steps, by rank
+-- all due steps, in order of rank
 abbrev pub due : Goal → List Event → List Step
 due goal past =
     due_first goal (stage_of past) past ++ due_reexec past ++ due_reread past ++ due_level past
@@ -233,6 +234,6 @@ same_step Reexec Reexec = true
 same_step Idle Idle = true
 same_step _ _ = false
 
--- the step is one of those due
+-- the step is due
 abbrev pub is_due : Goal → Step → List Event → Bool
 is_due goal step past = list_any (same_step step) (due goal past)

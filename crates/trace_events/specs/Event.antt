@@ -1,4 +1,4 @@
--- A happening, regardless of the memory that holds its table, and which happenings are acts of the system on an order.
+-- A happening as the definitions see it, whatever its allocator; and the happenings that are acts of the system.
 use Rattle.std.specs.Prelude.{ℕ, List, Option, Some, None}
 use Rattle.trace_events.specs.Words.{Entry, Answer}
 use Rattle.init_words.specs.declared.orders.Answer.TheVariants as answer
@@ -6,20 +6,20 @@ use Rattle.trace_events.specs.declared.happenings.Happening.{Happening}
 use Rattle.trace_events.specs.declared.happenings.Happening.TheVariants.{Birth, NoBirth, Reaped, Still, NoLook, Hit}
 use Rattle.trace_events.specs.declared.happenings.Happening.TheVariants.{Miss}
 
--- a happening: its table is seen as the list of its entries
+-- a happening whose table is a list of entries
 abbrev pub Event : Type 0
 Event = Happening (List Entry)
 
--- an act of the system on an order: the id that the order was about, and the answer that the act is
+-- an act by which the system answers an order: the id that the order was about, and the answer
 pub record SystemAct : Type 0 where
   pub id : List ℕ
   pub answer : Answer
 
--- the act on an id with this answer
+-- the act that gives this answer for an id
 abbrev pub act_on : List ℕ → Answer → Option SystemAct
 act_on id given = Some (record { id = id; answer = given })
 
--- the act that a happening is, if any; a death is not one, because it answers no order
+-- the act of the system that a happening records, if any; a death is not one, because it answers no order
 abbrev pub act_in : Event → Option SystemAct
 act_in (Birth id n) = act_on id (answer.Born n)
 act_in (NoBirth id) = act_on id answer.NotBorn

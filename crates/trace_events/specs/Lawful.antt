@@ -1,4 +1,4 @@
--- The seven laws for a single happening, given the trace before it, and for a whole trace.
+-- The seven laws of a trace: which law a happening breaks, given the trace before it, and which traces are lawful.
 use Rattle.std.specs.Prelude.{ℕ, Bool, true, false, not, ◌&&◌, ◌||◌, if◌then◌else◌, List, [], ◌∷◌, length, Option, Some}
 use Rattle.std.specs.Prelude.{None, is_none}
 use Rattle.std.specs.Option.{option_map_or}
@@ -20,7 +20,7 @@ has_no_unreaped_child id past = not (has_child id (unreaped_children past))
 abbrev pub has_startable_entry : List ℕ → List Event → Bool
 has_startable_entry id past = option_map_or (λ (e : Entry). starts_now e past) (entry_of id (table_of past)) false
 
--- 3: at a Birth, no earlier entry is owed
+-- 3: at a Birth, no entry before that of the id is owed
 abbrev pub is_in_turn : List ℕ → List Event → Bool
 is_in_turn id past = not (is_owed_before id past)
 
@@ -30,17 +30,17 @@ no_unreaped_is_excluded past = not (list_any (is_excluded past) (unreaped_childr
 
 -- 5: at a Settle, the level is settled, judged by the unreaped children (`is_settled`)
 
--- 6: An entry to which the respawn limit applies is started only if it is not held and its window is not full, and held
--- only if it is not held and its window is full.
+-- 6: If the respawn limit applies to an entry, init starts it only if it is not held and its window is not full, and
+-- holds it only if it is not held yet and its window is full.
 -- The limit applies to the entry of this id.
 abbrev pub is_limited_id : List ℕ → List Event → Bool
 is_limited_id id past = option_map_or is_limited (act_of id (table_of past)) false
 
--- 6: a Start of the id keeps the respawn limit
+-- 6: the respawn limit allows a Start of the id now
 abbrev pub is_free : List ℕ → List Event → Bool
 is_free id past = not (is_limited_id id past) || not (is_held id past) && not (is_full id past)
 
--- 6: a Hold of the id keeps the respawn limit
+-- 6: the respawn limit allows a Hold of the id now
 abbrev pub is_due_hold : List ℕ → List Event → Bool
 is_due_hold id past = is_limited_id id past && not (is_held id past) && is_full id past
 
@@ -48,8 +48,8 @@ is_due_hold id past = is_limited_id id past && not (is_held id past) && is_full 
 abbrev pub may_term : List ℕ → List Event → Bool
 may_term id past = list_any (λ child. is_child_of id child && is_excluded past child) (unreaped_children past)
 
--- 7: at a Kill, the id has an excluded unreaped child that was sent a TERM, told in its spell at least the grace period
--- ago
+-- 7: at a Kill, the id has an excluded unreaped child that was sent a TERM, and init learned of it in the child's spell,
+-- at least the grace period ago
 abbrev pub may_kill : List ℕ → List Event → Bool
 may_kill id past =
     list_any
@@ -57,7 +57,7 @@ may_kill id past =
     && list_any (is_grace_over (grace_of past) (time_of past)) (spell_hits child past))
     (unreaped_children past)
 
--- the law with the smallest number that the happening breaks, if any
+-- the number of the lowest-numbered law that the happening breaks, if any
 abbrev pub broken : Event → List Event → Option ℕ
 broken (Birth id number) past =
     if not (has_no_unreaped_child id past) then Some 1 else if not (has_startable_entry id past) then Some 2
@@ -74,17 +74,17 @@ abbrev pub is_lawful : List Event → Bool
 is_lawful [] = true
 is_lawful (happening ∷ past) = is_none (broken happening past) && is_lawful past
 
--- a breach: the position of its happening in the trace, from 0, and the smallest law that it breaks
+-- a breach: the position of the happening in the trace, counted from 0, and the lowest-numbered law that it breaks
 pub record Fault : Type 0 where
   pub position : ℕ
   pub law : ℕ
 
--- the breach of this law, if any, by the happening at this position
+-- the breach by the happening at this position, if it breaks a law
 abbrev pub breach_at : ℕ → Option ℕ → Option Fault
 breach_at position None = None
 breach_at position (Some law) = Some (record { position = position; law = law })
 
--- the fault of the earlier happening, if there is one, otherwise that of the later
+-- the earlier of two breaches: the first if there is one, otherwise the second
 abbrev pub earlier : Option Fault → Option Fault → Option Fault
 earlier None later = later
 earlier (Some fault) later = Some fault

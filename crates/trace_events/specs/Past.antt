@@ -1,7 +1,6 @@
 -- What a trace says about the state of a system: the table and the stage in force, the children, the open orders
 -- (init(8)).
--- A trace is a list of happenings, THE NEWEST FIRST, so the first happening of a kind in the list is the last one that
--- happened.
+-- A trace is a list of happenings, NEWEST FIRST, so the first happening of a kind in the list is the most recent one.
 use Rattle.std.specs.Prelude.{ℕ, Bool, true, false, not, ◌&&◌, ◌||◌, ◌==◌, if◌then◌else◌, max, min, List, [], ◌∷◌, ◌++◌}
 use Rattle.std.specs.Prelude.{filter, Option, Some, None}
 use Rattle.std.specs.List.{list_any}
@@ -10,26 +9,26 @@ use Rattle.trace_events.specs.declared.happenings.Happening.TheVariants.{NewTabl
 use Rattle.trace_events.specs.declared.happenings.Happening.TheVariants.{Told, Clock}
 use Rattle.trace_events.specs.Event.{Event, SystemAct, act_in}
 
--- the table in force: that of the last NewTable; empty before the first
+-- the table in force: the table of the last NewTable, or empty before the first
 abbrev pub table_of : List Event → List Entry
 table_of [] = []
 table_of (NewTable table ∷ past) = table
 table_of (_ ∷ past) = table_of past
 
--- the stage in force: that of the last Enter; none before the first
+-- the stage in force: the stage of the last Enter, or none before the first
 abbrev pub stage_of : List Event → Option Stage
 stage_of [] = None
 stage_of (Enter stage grace ∷ past) = Some stage
 stage_of (_ ∷ past) = stage_of past
 
--- the seconds between SIGTERM and SIGKILL: those of the last Enter; 0 before the first
+-- the seconds between SIGTERM and SIGKILL, as given by the last Enter, or 0 before the first
 abbrev pub grace_of : List Event → ℕ
 grace_of [] = 0
 grace_of (Enter stage grace ∷ past) = grace
 grace_of (_ ∷ past) = grace_of past
 
--- the time: the greatest clock reading so far, each cut to the limit, so a clock that is set back changes nothing; 0
--- before the first reading
+-- the time: the greatest clock reading so far, capped at the limit, so setting the clock back changes nothing; 0 before
+-- the first reading
 abbrev pub time_of : List Event → ℕ
 time_of [] = 0
 time_of (Clock reading ∷ past) = max (min reading CLOCK_LIMIT) (time_of past)
@@ -61,7 +60,7 @@ has_child id children = list_any (is_child_of id) children
 abbrev pub newborn : List ℕ → ℕ → List Event → Child
 newborn id number past = record { id = id; number = number; act = act_of id (table_of past) }
 
--- the unreaped children, the youngest first: those that were born and not reaped since
+-- the unreaped children, youngest first: those that were born and have not been reaped
 abbrev pub unreaped_children : List Event → List Child
 unreaped_children [] = []
 unreaped_children (Birth id number ∷ past) = newborn id number past ∷ unreaped_children past
@@ -69,8 +68,8 @@ unreaped_children (Reaped id number status ∷ past) =
     filter (λ child. not (is_child id number child)) (unreaped_children past)
 unreaped_children (_ ∷ past) = unreaped_children past
 
--- the kept children: those born whose reaping init was not told of. A birth adds its child at the front. A Told
--- replaces the children of its id by the unreaped ones of this id, also at the front.
+-- the kept children: those that were born, until init learns that they were reaped. A birth adds its child at the
+-- front. A Told replaces the children of its id with the unreaped children of this id, also at the front.
 abbrev pub kept_children : List Event → List Child
 kept_children [] = []
 kept_children (Birth id number ∷ past) = newborn id number past ∷ kept_children past
@@ -79,8 +78,8 @@ kept_children (Told id ∷ past) =
     ++ filter (λ child. not (is_child_of id child)) (kept_children past)
 kept_children (_ ∷ past) = kept_children past
 
--- the known children: those whose birth init was told of, but not their reaping. A Told replaces the children of its id
--- by the unreaped ones of this id, at the front.
+-- the known children: those whose birth init has learned of, until it learns that they were reaped. A Told replaces the
+-- children of its id with the unreaped children of this id, at the front.
 abbrev pub known_children : List Event → List Child
 known_children [] = []
 known_children (Told id ∷ past) =
@@ -100,14 +99,14 @@ abbrev pub is_living : ℕ → List Event → Bool
 is_living number past =
     list_any (λ child. has_number number child && not (is_dead child.id number past)) (unreaped_children past)
 
--- the open order of an id: the last order given for it, unless something was told about the id since
+-- the open order of an id: the last order given for it, until init learns what the system did for the id
 abbrev pub open_of : List ℕ → List Event → Option OrderKind
 open_of id [] = None
 open_of id (Asked i ask ∷ past) = if same_id id i then Some ask else open_of id past
 open_of id (Told i ∷ past) = if same_id id i then None else open_of id past
 open_of id (_ ∷ past) = open_of id past
 
--- the undone order of an id after this act: none if the act is on the id
+-- the undone order of an id after this act: none if the act is about the id
 abbrev pub undone_by : List ℕ → Option SystemAct → Option OrderKind → Option OrderKind
 undone_by id None before = before
 undone_by id (Some act) before = if same_id id act.id then None else before
@@ -119,12 +118,12 @@ undone_of id (Asked i ask ∷ past) = if same_id id i then Some ask else undone_
 undone_of id (Told i ∷ past) = if same_id id i then None else undone_of id past
 undone_of id (happening ∷ past) = undone_by id (act_in happening) (undone_of id past)
 
--- the system has acted for the id, and init has not been told, after this act
+-- after this act, there is an act of the system for the id of which init has not learned
 abbrev pub untold_by : List ℕ → Option SystemAct → Bool → Bool
 untold_by id None before = before
 untold_by id (Some act) before = same_id id act.id || before
 
--- the system has acted for the id, and init has not been told
+-- the system has acted for the id, and init has not learned of it yet
 abbrev pub is_untold : List ℕ → List Event → Bool
 is_untold id [] = false
 is_untold id (Told i ∷ past) = not (same_id id i) && is_untold id past
@@ -135,7 +134,7 @@ pub record Open : Type 0 where
   pub id : List ℕ
   pub ask : OrderKind
 
--- all open orders, the newest first; each id has at most one
+-- all open orders, newest first; each id has at most one
 abbrev pub open_orders : List Event → List Open
 open_orders [] = []
 open_orders (Asked id ask ∷ past) =

@@ -32,7 +32,7 @@ abbrev pub is_status : Status → Bool
 is_status (Exit code) = nat_lt code 256
 is_status Killed = true
 
--- the seconds of a request for a level are at most an hour
+-- if the request is for a level, its seconds are at most an hour
 abbrev pub is_request : Request → Bool
 is_request (got.Level level seconds) = is_seconds seconds
 is_request _ = true
@@ -43,7 +43,7 @@ is_hand_over (handed.Cut bytes) = is_count bytes
 is_hand_over (handed.Older generation) = is_count generation
 is_hand_over _ = true
 
--- the id of the happening is an id, its table is a table, and its numbers are in their ranges
+-- all values of the happening are in range: its id is valid, its table is valid, and its numbers are within their limits
 abbrev pub is_in_range : Event → Bool
 is_in_range (NewTable table) = is_table table
 is_in_range (Enter stage seconds) = is_seconds seconds
@@ -66,7 +66,7 @@ is_in_range _ = true
 abbrev pub are_in_range : List Event → Bool
 are_in_range trace = list_all is_in_range trace
 
--- the seconds that the happening names, if any, are at most an hour
+-- the seconds between SIGTERM and SIGKILL in the happening, if any, are at most an hour
 abbrev pub is_short : Event → Bool
 is_short (Enter stage seconds) = is_seconds seconds
 is_short (Got request) = is_request request

@@ -1,5 +1,4 @@
--- Runs: traces in which init takes the first due step until it rests, and only then the system acts, or something
--- passes between init and the system.
+-- Runs: traces in which init takes the first due step until it rests; any other happening comes only when init rests.
 use Rattle.std.specs.Prelude.{Bool, true, false, ◌&&◌, List, [], ◌∷◌, Option, Some, None}
 use Rattle.trace_events.specs.Words.{is_distinct}
 use Rattle.trace_events.specs.declared.happenings.Happening.TheVariants.{NewTable, NotRead, Enter, Call, Power, Asked}
@@ -11,7 +10,7 @@ use Rattle.trace_events.specs.Event.{Event}
 use Rattle.trace_events.specs.Due.{due, first, same_step}
 use Rattle.trace_events.specs.Sound.{may_come}
 
--- init rests: nothing is due, or the first due step is to read inittab or to re-execute init
+-- init rests: no step is due, or the first due step is to reread inittab or to re-execute init
 abbrev pub is_rest : Step → Bool
 is_rest step.Idle = true
 is_rest step.Reread = true
@@ -22,7 +21,7 @@ abbrev pub is_reread : Step → Bool
 is_reread step.Reread = true
 is_reread _ = false
 
--- the step of init that a happening is, if any; a table is not one, because a script supplies it
+-- the step of init that a happening records, if any; a new table is not a step, because it comes from outside
 abbrev pub step_in : Event → Option Step
 step_in (Enter stage grace) = Some (step.Enter stage grace)
 step_in (Call letter) = Some (step.Call letter)
@@ -37,8 +36,8 @@ abbrev pub is_next_by : Step → Option Step → Bool
 is_next_by due_now None = is_rest due_now
 is_next_by due_now (Some taken) = same_step due_now taken
 
--- the happening may be the next one of a run in which this step is the first due: a NewTable or NotRead comes only if
--- inittab is to be read
+-- the happening may come next in a run whose first due step is this one; a NewTable or NotRead may come only if that
+-- step is to reread inittab
 abbrev pub is_next : Step → Event → Bool
 is_next due_now (NewTable table) = is_reread due_now
 is_next due_now NotRead = is_reread due_now

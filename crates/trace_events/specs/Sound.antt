@@ -1,5 +1,5 @@
--- Which traces are sound: what init may do, what the system may do, and what may pass between them. The laws of the
--- headline theorem hold for every sound trace.
+-- Sound traces: what init may do, what the system may do, and what the two may exchange. The seven laws hold for every
+-- sound trace.
 use Rattle.std.specs.Prelude.{Bool, true, false, not, ◌&&◌, ◌||◌, List, [], ◌∷◌}
 use Rattle.std.specs.List.{list_any}
 use Rattle.trace_events.specs.Words.{Start, Look, Term, Kill, is_distinct}
@@ -18,7 +18,7 @@ use Rattle.trace_events.specs.Due.{is_due}
 -- The happening may come next. Init takes a step only if it is due, and a table without repeated ids only at a quiet
 -- point. The outcome of a start needs an undone Start of the id, that of a look an undone Look, and that of a signal an
 -- undone Term or Kill. The number of a newborn child is not that of an unreaped one, only a living child dies, and a
--- look reaps only a dead child of its id. A Told of an id needs an act for it that was not told yet. A failure to read
+-- look reaps only a dead child of its id. A Told needs an act for its id of which init has not learned. A failure to read
 -- inittab, a clock reading, a round, a request, and a hand-over may come at any time.
 abbrev pub may_come : Goal → Event → List Event → Bool
 may_come goal (NewTable table) past = is_quiet past && is_distinct table
@@ -46,7 +46,7 @@ may_come goal Nudge past = true
 may_come goal (Got request) past = true
 may_come goal (Handed how) past = true
 
--- a sound trace begins with a table without repeated ids, and each later happening may come after those before it
+-- a sound trace begins with a table without repeated ids, and each later happening is one that may come next
 abbrev pub is_sound : Goal → List Event → Bool
 is_sound goal [] = false
 is_sound goal (NewTable table ∷ []) = is_distinct table

@@ -1,5 +1,5 @@
--- The spell of an excluded child: the time since it was last not excluded, or since its birth if it always was.
--- The signals told in the spell decide which is next: TERM, then KILL after the grace period (init(8)).
+-- The spell of an excluded child: the time since it became excluded, or since its birth if it always was.
+-- The signals that init learns of in the spell decide which is next: TERM, then KILL after the grace period (init(8)).
 use Rattle.std.specs.Prelude.{ℕ, Bool, false, not, ◌&&◌, ◌||◌, ◌+◌, if◌then◌else◌, nat_le, List, [], ◌∷◌, ◌++◌, map}
 use Rattle.std.specs.Prelude.{Option, Some, None}
 use Rattle.trace_events.specs.Words.{OrderKind, Term, Kill, same_id}
@@ -8,12 +8,12 @@ use Rattle.trace_events.specs.Event.{Event}
 use Rattle.trace_events.specs.Past.{Child, open_of, grace_of, time_of}
 use Rattle.trace_events.specs.Wanted.{is_excluded, is_order}
 
--- a Hit that was told: the order that it answered, and the time when it was told
+-- a signal that was sent: the order that it answered, and the time when init learned of it
 pub record Signal : Type 0 where
   pub order : Option OrderKind
   pub time : ℕ
 
--- the orders of the Hits of the id since its last birth that have not been told
+-- the orders answered by the Hits of the id since its last birth of which init has not learned
 abbrev pub untold_hits : List ℕ → List Event → List (Option OrderKind)
 untold_hits id [] = []
 untold_hits id (Birth i n ∷ past) = if same_id id i then [] else untold_hits id past
@@ -21,7 +21,7 @@ untold_hits id (Told i ∷ past) = if same_id id i then [] else untold_hits id p
 untold_hits id (Hit i ∷ past) = if same_id id i then open_of id past ∷ untold_hits id past else untold_hits id past
 untold_hits id (_ ∷ past) = untold_hits id past
 
--- a Miss of the id since its last birth has not been told
+-- init has not learned of a Miss of the id since its last birth
 abbrev pub has_untold_miss : List ℕ → List Event → Bool
 has_untold_miss id [] = false
 has_untold_miss id (Birth i n ∷ past) = not (same_id id i) && has_untold_miss id past
@@ -29,11 +29,11 @@ has_untold_miss id (Told i ∷ past) = not (same_id id i) && has_untold_miss id 
 has_untold_miss id (Miss i ∷ past) = same_id id i || has_untold_miss id past
 has_untold_miss id (_ ∷ past) = has_untold_miss id past
 
--- a Hit of this order, told at this time
+-- a Hit that answered this order, of which init learned at this time
 abbrev pub told_at : ℕ → Option OrderKind → Signal
 told_at time order = record { order = order; time = time }
 
--- the Hits of the child of which init is told by this happening
+-- the Hits of the child of which init learns with this happening
 abbrev pub tells_hits : Child → Event → List Event → List Signal
 tells_hits child (Told i) past =
     if same_id child.id i then map (told_at (time_of past)) (untold_hits child.id past) else []
@@ -44,40 +44,40 @@ is_birth_of id (Birth i n) = same_id id i
 is_birth_of id _ = false
 
 -- the happening belongs to the spell of the child: the child is excluded after it, and it is not the child's birth
--- (of two unreaped children with the same id, which no sound trace has, the younger one's birth counts)
+-- (if two unreaped children have the same id, as in no sound trace, only the younger one's birth counts)
 abbrev pub in_spell : Child → Event → List Event → Bool
 in_spell child happening past = is_excluded (happening ∷ past) child && not (is_birth_of child.id happening)
 
--- the Hits of the child of which init was told in its spell, the newest first
+-- the Hits of the child of which init learned in its spell, newest first
 abbrev pub spell_hits : Child → List Event → List Signal
 spell_hits child [] = []
 spell_hits child (happening ∷ past) =
     if in_spell child happening past then tells_hits child happening past ++ spell_hits child past else []
 
--- init is told by this happening that a signal missed the child
+-- with this happening, init learns that a signal could not be sent to the child
 abbrev pub tells_miss : Child → Event → List Event → Bool
 tells_miss child (Told i) past = same_id child.id i && has_untold_miss child.id past
 tells_miss child _ past = false
 
--- init was told in the spell of the child that a signal missed it, and no round has begun since
+-- init learned in the spell of the child that a signal could not be sent to it, and no round has begun since
 abbrev pub is_missed : Child → List Event → Bool
 is_missed child [] = false
 is_missed child (Nudge ∷ past) = false
 is_missed child (happening ∷ past) =
     in_spell child happening past && (tells_miss child happening past || is_missed child past)
 
--- the signal was a TERM, told at least the grace period ago
+-- the signal was a TERM, and init learned of it at least the grace period ago
 abbrev pub is_grace_over : ℕ → ℕ → Signal → Bool
 is_grace_over grace now signal = is_order Term signal.order && nat_le (signal.time + grace) now
 
--- the signal that is due to an excluded child after these Hits: TERM if there are none, KILL if there is one, which was
--- a TERM told at least the grace period ago
+-- the signal that is due to an excluded child after these Hits: TERM if there are none; KILL if there is exactly one, a
+-- TERM of which init learned at least the grace period ago
 abbrev pub stop_by : ℕ → ℕ → List Signal → Option OrderKind
 stop_by grace now [] = Some Term
 stop_by grace now (signal ∷ []) = if is_grace_over grace now signal then Some Kill else None
 stop_by grace now _ = None
 
--- the signal that is due to the child; none if it is not excluded or if a signal missed it
+-- the signal that is due to the child; none if it is not excluded, or if a signal to it failed in this round
 abbrev pub stop_due : Child → List Event → Option OrderKind
 stop_due child past =
     if is_excluded past child && not (is_missed child past) then

@@ -1,4 +1,4 @@
--- Which entries were asked or called, which are wanted or owed, and which children are excluded (inittab(5), init(8)).
+-- Entries that are asked, called, wanted or owed, and children that are excluded (inittab(5), init(8)).
 use Rattle.std.specs.Prelude.{ℕ, Bool, false, not, ◌&&◌, ◌||◌, if◌then◌else◌, List, [], ◌∷◌, Option, Some, None}
 use Rattle.std.specs.List.{list_any}
 use Rattle.trace_events.specs.Words.{Entry, Act, OnCall, Stage, OrderKind, Start, same_id, same_act, is_called_by}
@@ -8,7 +8,7 @@ use Rattle.trace_events.specs.declared.happenings.Happening.TheVariants.{NewTabl
 use Rattle.trace_events.specs.Event.{Event}
 use Rattle.trace_events.specs.Past.{table_of, stage_of, Child, has_child, open_of, kept_children}
 
--- the entry starts in the stage; before the first stage none does
+-- the entry starts in the stage; no entry starts before the first stage
 abbrev pub starts_in : Entry → Option Stage → Bool
 starts_in e None = false
 starts_in e (Some stage) = starts_of e stage
@@ -17,21 +17,21 @@ starts_in e (Some stage) = starts_of e stage
 abbrev pub starts_now : Entry → List Event → Bool
 starts_now e past = starts_in e (stage_of past)
 
--- there is an order, and it is of this kind
+-- the order exists and is of this kind
 abbrev pub is_order : OrderKind → Option OrderKind → Bool
 is_order ask None = false
 is_order ask (Some given) = same_ask ask given
 
--- there are two actions, and they are the same
+-- both actions exist and are the same
 abbrev pub same_acts : Option Act → Option Act → Bool
 same_acts (Some a) (Some b) = same_act a b
 same_acts _ _ = false
 
--- a table brings the id: it has the id, and the table before it did not, or had another action for it
+-- a table adds or changes the id: it has the id, and the table before it did not or had another action for the id
 abbrev pub adds_or_changes : List ℕ → List Entry → List Entry → Bool
 adds_or_changes id table before = list_any (has_id id) table && not (same_acts (act_of id table) (act_of id before))
 
--- asked: a Start of the id was ordered since the last Enter and since the last table that brought the id
+-- asked: a Start of the id was ordered since the last Enter and since the last table that added or changed the id
 abbrev pub is_asked : List ℕ → List Event → Bool
 is_asked id [] = false
 is_asked id (Enter stage grace ∷ past) = false
@@ -39,8 +39,8 @@ is_asked id (NewTable table ∷ past) = not (adds_or_changes id table (table_of 
 is_asked id (Asked i Start ∷ past) = same_id id i || is_asked id past
 is_asked id (_ ∷ past) = is_asked id past
 
--- called: since the last Enter and the last table, the entry was called by a power event or a letter, in a stage in
--- which it starts, and no Start of it was ordered since then; if its action stays called, a Start does not end the call
+-- called: since the last Enter and the last table, a power event or a letter called the entry in a stage in which it
+-- starts, and no Start of it was ordered after that; for an action that stays called, a Start does not end the call
 abbrev pub is_called : Entry → List Event → Bool
 is_called e [] = false
 is_called e (Enter stage grace ∷ past) = false
@@ -51,7 +51,7 @@ is_called e (Call letter ∷ past) =
 is_called e (Asked i Start ∷ past) = (stays_called e.act || not (same_id e.id i)) && is_called e past
 is_called e (_ ∷ past) = is_called e past
 
--- nothing of the id runs: it has no kept child and no open Start
+-- the id has no running child: it has no kept child and no open Start
 abbrev pub has_no_running_child : List ℕ → List Event → Bool
 has_no_running_child id past = not (has_child id (kept_children past)) && not (is_order Start (open_of id past))
 

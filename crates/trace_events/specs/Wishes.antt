@@ -1,4 +1,4 @@
--- The pending requests, which were received but not yet carried out, and the goal (telinit(8), initreq.h).
+-- Pending requests, which init has received but not yet carried out, and the goal (telinit(8), initreq.h).
 use Rattle.std.specs.Prelude.{Bool, true, false, not, ◌&&◌, ◌||◌, if◌then◌else◌, List, [], ◌∷◌, Option, Some, None}
 use Rattle.std.specs.Prelude.{is_some}
 use Rattle.std.specs.List.{list_any}
@@ -22,7 +22,7 @@ abbrev pub in_run : Option Stage → Bool
 in_run (Some (Run l)) = true
 in_run _ = false
 
--- the goal: the level and the seconds of the last request for a level, or the initial goal if there was none
+-- the goal: the level and the grace period of the last request for a level, or the initial goal if there was none
 abbrev pub goal_of : Goal → List Event → Goal
 goal_of opening [] = opening
 goal_of opening (Got (got.Level l s) ∷ past) = record { level = l; grace = s }
@@ -35,7 +35,7 @@ wants_reexec (Handed how ∷ past) = false
 wants_reexec (Got got.Reexec ∷ past) = true
 wants_reexec (_ ∷ past) = wants_reexec past
 
--- inittab is to be read again: since it was last read, or could not be read, a request to read it came, or a request
+-- init must reread inittab: since it last read inittab or failed to, it received a request to reread it, or a request
 -- for a level that was not in force
 abbrev pub wants_reread : List Event → Bool
 wants_reread [] = false
@@ -45,14 +45,14 @@ wants_reread (Got got.Reload ∷ past) = true
 wants_reread (Got (got.Level l s) ∷ past) = not (is_level l (stage_of past)) || wants_reread past
 wants_reread (_ ∷ past) = wants_reread past
 
--- the level and the seconds of the last request for a level since the last Enter
+-- the level and the grace period of the last request for a level since the last Enter
 abbrev pub last_requested_level : List Event → Option Goal
 last_requested_level [] = None
 last_requested_level (Enter stage grace ∷ past) = None
 last_requested_level (Got (got.Level l s) ∷ past) = Some (record { level = l; grace = s })
 last_requested_level (_ ∷ past) = last_requested_level past
 
--- in a runlevel, the requested level if it is another one; otherwise none
+-- the requested level, if init is in a runlevel and the request is for another one
 abbrev pub other_than : Option Stage → Option Goal → Option Goal
 other_than (Some (Run l)) (Some heard) = if same_level heard.level l then None else Some heard
 other_than _ _ = None
@@ -94,7 +94,7 @@ is_request_pending past =
     wants_reexec past || wants_reread past || is_some (level_wish past) || in_run (stage_of past)
     && are_calls_pending past
 
--- the stage Boot was entered before
+-- init has entered the stage Boot
 abbrev pub was_booted : List Event → Bool
 was_booted [] = false
 was_booted (Enter Boot grace ∷ past) = true

@@ -1,4 +1,4 @@
-//! Copies happenings.
+//! Copies a happening from one allocator to another.
 
 ghost use Rattle.std.specs.Prelude.{◌≡◌, IfOk};
 
@@ -6,7 +6,7 @@ use crate::happenings::{Happening, HappeningIn};
 use init_words::Memory;
 use std::alloc::Allocator;
 
-/// Copies a happening into memory of this allocator.
+/// Returns a copy of the happening, allocated with `alloc`.
 pub fn happening_copy<A: Allocator + Copy, B: Allocator>(
     alloc: A,
     happening: &HappeningIn<B>,

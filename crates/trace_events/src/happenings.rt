@@ -1,4 +1,4 @@
-//! What happens in a run: steps of init, answers of its host, requests, clock readings, hand-overs.
+//! The events of a run: steps of init, answers of the system, requests, clock readings, hand-overs.
 
 use init_words::{ChildNumber, Id, Letter, Level, OrderKind, PowerKind, Stage, Status};
 use initctl_frame::HeardRequest;
@@ -6,27 +6,27 @@ use inittab_text::Table;
 
 /// One happening of a run: a line of its trace.
 ///
-/// `NewTable` and `Enter` to `Settle` are acts of init, `Birth` to `Miss` are acts of the system, and all others pass
-/// between the two. Times are in whole seconds; child numbers are those of the system.
+/// `NewTable` and `Enter` to `Settle` are acts of init, `Birth` to `Miss` are acts of the system, and the others are
+/// exchanged between the two. Times are in whole seconds; child numbers are those of the system.
 #[derive(Drop)]
 pub enum Happening<T = Table> {
-    /// This table is in force from now on.
+    /// Init adopts this table.
     NewTable(T),
-    /// Inittab was to be read again, but could not be read.
+    /// Init could not reread inittab.
     NotRead,
-    /// A stage begins, with this number of seconds between SIGTERM and SIGKILL.
+    /// Init enters a stage, with this number of seconds between SIGTERM and SIGKILL.
     Enter(Stage, u16),
-    /// The ondemand entries of a letter are called.
+    /// Init calls the ondemand entries of a letter.
     Call(Letter),
-    /// The entries for a power event are called.
+    /// Init calls the entries for a power event.
     Power(PowerKind),
     /// Init gives the system an order about an entry.
     Asked(Id, OrderKind),
-    /// An entry that respawns too fast is held for five minutes.
+    /// Init holds an entry that respawns too fast for five minutes.
     Hold(Id),
     /// Init announces that the runlevel is settled.
     Settle(Level),
-    /// A child was born.
+    /// The system started a child.
     Birth(Id, ChildNumber),
     /// A start failed.
     NoBirth(Id),
@@ -38,34 +38,34 @@ pub enum Happening<T = Table> {
     Still(Id),
     /// A look failed.
     NoLook(Id),
-    /// A signal was sent.
+    /// The system sent the signal.
     Hit(Id),
-    /// A signal could not be sent.
+    /// The system could not send the signal.
     Miss(Id),
-    /// Init was told what the system did on the order for this id.
+    /// Init learned what the system did about the order for this id.
     Told(Id),
     /// A clock reading, in seconds.
     Clock(u64),
-    /// A round begins: each child is to be looked at.
+    /// A round begins, in which init looks at each child.
     Nudge,
-    /// A request was received.
+    /// Init received a request.
     Got(HeardRequest),
-    /// Init was to be re-executed, and its state was handed over.
+    /// Init was asked to re-execute, and tried to hand over its state.
     Handed(Handed),
 }
 
 /// The result of handing over init's state.
 #[derive(Clone, Copy, PartialEq, Eq)]
 pub enum Handed {
-    /// The text came back complete and was taken over.
+    /// The saved state came back complete, and init resumed from it.
     Whole,
-    /// Only this number of its bytes came back.
+    /// Only this number of bytes of the saved state came back.
     Cut(u64),
-    /// An older text came back, of this generation.
+    /// An older saved state came back, of this generation.
     Older(u64),
-    /// No text was written, carried or taken over.
+    /// The state could not be saved, passed on or resumed from.
     Failed,
 }
 
-/// A happening whose table is in memory of this allocator.
+/// A happening whose table is allocated with `A`.
 pub type HappeningIn<A> = Happening<Table<A>>;

@@ -39,7 +39,7 @@ fn of_hand_over(how: &Handed)
 }
 
 /// States that the values of a happening are in range if its seconds are at most an hour, because the types bound all
-/// other values. The function does nothing: its contract is the law.
+/// other values. The function does nothing; its contract states the law.
 pub fn law_of_ranges<A: Allocator>(happening: &HappeningIn<A>)
     ensures { is_short happening.now ≡ true → is_in_range happening.now ≡ true }
 {

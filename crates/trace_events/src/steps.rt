@@ -1,15 +1,14 @@
-//! The steps of init, and the goal towards which it works. `specs/Due` defines which steps are due.
+//! The steps that init takes, and its goal: the runlevel to reach. `specs/Due` defines which steps are due.
 //!
-//! The steps are tested by everything that reads or writes traces: the rows of `test_traces` and `test_core`. A new
-//! step also needs a text (`trace_text`), its laws, and a place in the core; the prover points out each of these
-//! places.
+//! The rows of `test_traces` and `test_core` test these steps. A new step also needs a text (`trace_text`), its laws, and
+//! a place in the core; the prover reports each of these that is missing.
 
 ghost use Rattle.std.specs.Prelude.{◌≡◌};
 ghost use Rattle.trace_events.specs.Wishes.{in_run, is_level};
 
 use init_words::{Id, Letter, Level, OrderKind, PowerKind, Stage};
 
-/// The next step of init.
+/// A step of init.
 #[derive(Clone, Copy, PartialEq, Eq)]
 pub enum Step {
     /// Enter a stage, with this number of seconds between SIGTERM and SIGKILL.

@@ -1,11 +1,11 @@
--- Which happenings a log over a writer took, as shown by the writer's bytes.
+-- The state of a log that writes to a writer: the writer's bytes show which happenings the log has taken.
 use Rattle.std.specs.Prelude.{◌≡◌, ◌<◌, ℕ, Bool, true, false, List, [], ◌++◌, length, Option, Some, None}
 use Rattle.trace_events.specs.Event.{Event}
 use Rattle.trace_events.specs.Range.{is_in_range, are_in_range}
 use Rattle.trace_text.specs.Lines.{event_text, trace_text}
 use Rattle.trace_log.specs.Logs.{LogState}
 
--- a log over a writer: the writer, and whether the log has failed
+-- a log that writes to a writer: the writer, and whether the log has failed
 pub record Stream (W : Type 0) : Type 0 where
   pub writer : W
   pub failed : Bool
@@ -18,8 +18,8 @@ pub record IsCut (part : List ℕ) : Type 0 where
   pub joined : part ++ rest ≡ event_text happening
   pub short : 0 < length rest
 
--- The bytes are the text of the trace, whose numbers are in range. If the log has failed, they are followed by a proper
--- prefix, possibly empty, of the text of the happening that it did not take.
+-- The bytes are the text of the trace, whose numbers are in range. If the log has failed, a proper prefix, possibly
+-- empty, of the text of the happening that it failed to take follows.
 pub record HasText (failed : Bool) (trace : List Event) (bytes : List ℕ) : Type 0 where
   pub ranged : are_in_range trace ≡ true
   pub part : List ℕ
@@ -27,12 +27,12 @@ pub record HasText (failed : Bool) (trace : List Event) (bytes : List ℕ) : Typ
   pub nothing : failed ≡ false → part ≡ []
   pub cut : failed ≡ true → IsCut part
 
--- the writer's bytes are known, and they are such a text
+-- the writer's bytes are known, and satisfy `HasText`
 abbrev pub KnowsText : Bool → List Event → Option (List ℕ) → Type 0
 KnowsText failed trace None = ⊥
 KnowsText failed trace (Some bytes) = HasText failed trace bytes
 
--- the log took the happenings whose text its writer has, if the writer's bytes are known
+-- the state of the log as contracts see it: it has taken the happenings whose text its writer is known to have
 abbrev pub stream_state : {W : Type 0} → (W → Option (List ℕ)) → Stream W → LogState
 stream_state contents log =
     record { taken = λ trace. KnowsText log.failed trace (contents log.writer); failed = log.failed; noted = None }

@@ -1,10 +1,10 @@
-//! Why a log failed to take a happening.
+//! The error of a log that could not record a happening.
 
 use init_words::Memory;
 use std::error::Error;
 use std::{fmt, io};
 
-/// The reason why a log failed to take a happening.
+/// The reason why a log could not record a happening.
 #[derive(Clone, Copy, Debug, PartialEq, Eq)]
 pub enum LogFault {
     /// The writer failed, or wrote no byte.

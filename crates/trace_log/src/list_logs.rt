@@ -36,7 +36,7 @@ impl<A: Allocator> ListLog<A> {
         }
     }
 
-    /// Returns the happenings taken, oldest first.
+    /// Returns the recorded happenings, oldest first.
     pub fn list(&self) -> &[HappeningIn<A>]
         ensures { result.now ≡ self.now.list }
     {
@@ -50,7 +50,7 @@ impl<A: Allocator + Copy> Log for ListLog<A> {
 
     ghost state = { list_state };
 
-    /// Appends a copy of the happening. Lack of memory is the only fault.
+    /// Appends a copy of the happening. Fails only with `Memory`.
     fn take<B: Allocator>(&mut self, happening: &HappeningIn<B>) -> Result<(), LogFault>
         requires { self.old.failed ≡ false }
         ensures flag { self.new.failed ≡ is_err result }
@@ -91,7 +91,7 @@ impl<A: Allocator + Copy> EndedLog for ListLog<A> {
 
     ghost has_ended = { λ list whole trace. list.items ≡ trace };
 
-    /// Returns the list. Nothing is held back.
+    /// Returns the list, which has all recorded happenings.
     fn end(self) -> (Vec<HappeningIn<A>, A>, bool) {
         let ListLog { list, failed } = self;
         (list, !failed)

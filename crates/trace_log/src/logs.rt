@@ -1,4 +1,4 @@
-//! The trait of a log, the destination of the happenings of a run.
+//! The trait of a log, which records the happenings of a run.
 
 ghost use Rattle.std.specs.Prelude.{◌≡◌, Bool, true, false, is_err, List, OnOk, OnErr};
 ghost use Rattle.trace_events.specs.Event.{Event};
@@ -9,16 +9,16 @@ use crate::faults::LogFault;
 use std::alloc::Allocator;
 use trace_events::HappeningIn;
 
-/// A log of a run, which takes the happenings of its trace, oldest first, until it fails. What it took before it failed
-/// stays taken.
+/// A log, which records the happenings of a run, oldest first, until it fails. It keeps what it recorded before the
+/// failure.
 ///
-/// A contract sees whether a log has failed, and which happenings it took, provided that each happening given to it can
-/// occur in a trace: its seconds are at most 3,600. A log may hide what it took.
+/// Contracts state whether a log has failed. They state which happenings it has taken only if each of them can occur in
+/// a trace: its seconds are at most 3,600. A log may also keep this to itself.
 pub trait Log {
-    /// The happenings taken, oldest first; whether the log has failed; and the id whose ends it notes, if any.
+    /// The happenings taken, oldest first; whether the log has failed; and the id whose exit statuses it notes, if any.
     ghost state: { Self → LogState };
 
-    /// Takes a happening. A log that returns an error has failed, and must not be given any further happening.
+    /// Records a happening. A log that returns an error has failed; the caller must not pass it any further happening.
     fn take<B: Allocator>(&mut self, happening: &HappeningIn<B>) -> Result<(), LogFault>
         requires { (state self.old).failed ≡ false }
         ensures flag { (state self.new).failed ≡ is_err result }
@@ -33,16 +33,16 @@ pub trait Log {
         ensures { result ≡ (state self.now).failed };
 }
 
-/// A log that is ended after its run, when it passes on what it still holds back. It must not be given any happening
-/// after that.
+/// A log that the caller ends after the run. It then passes on any happenings that it still holds back, and accepts no
+/// more.
 pub trait EndedLog: Log {
-    /// What remains of the log after its end.
+    /// The value that `end` returns, such as the list or the writer of the log.
     type Left;
 
-    /// What remains of a log that took this trace, oldest first. The flag says whether it passed on everything.
+    /// Whether this value can remain of a log that took this trace, oldest first. The flag is true if it passed on everything.
     ghost has_ended: { Self.Left → Bool → List Event → Type 0 };
 
-    /// Ends the log. Returns what remains of it, and whether everything was passed on.
+    /// Ends the log. Returns what remains of it, and whether it passed on everything.
     fn end(self) -> (Self::Left, bool)
         ensures failed { (Self.state self).failed ≡ true → result.1 ≡ false }
         ensures ended { (trace : List Event)

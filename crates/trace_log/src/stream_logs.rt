@@ -13,11 +13,11 @@ use std::io::Write;
 use std::marker::Model;
 use trace_events::HappeningIn;
 
-/// A log that writes the text of each happening when it takes it, and keeps nothing. With a file as the writer, the
-/// trace is on disk up to the last happening taken.
+/// A log that writes the text of each happening immediately and keeps nothing in memory. If the writer is a file, the
+/// file has the trace up to the last happening recorded.
 ///
-/// If the writer fails, a part of the text of the refused happening may have been written; if memory allocation fails,
-/// nothing was.
+/// If the writer fails, part of the text of the happening may have been written; if memory allocation fails, none of it
+/// was written.
 #[derive(Drop)]
 pub struct StreamLog<W, A: Allocator = Global> {
     writer: W,
@@ -37,7 +37,7 @@ impl<W: Write, A: Allocator> StreamLog<W, A> {
     ghost use Rattle.std.specs.Prelude.{[], false, IfSome};
     ghost use Rattle.trace_log.specs.Streams.{stream_state};
 
-    /// Creates a log over a writer that has no bytes yet. This does not allocate; `take` uses the allocator.
+    /// Creates a log that writes to `writer`, which must be empty. This does not allocate; `take` uses the allocator.
     pub fn new(alloc: A, writer: W) -> StreamLog<W, A>
         requires { IfSome (W.contents writer) (λ bytes. bytes ≡ []) }
         ensures value { result ≡ record { writer = writer; failed = false } }
@@ -51,8 +51,8 @@ impl<W: Write, A: Allocator> StreamLog<W, A> {
         }
     }
 
-    /// Returns the writer. Its bytes are the text of the happenings taken, followed, if the log has failed, by a
-    /// possibly empty part of the text of one more.
+    /// Returns the writer. Its bytes are the text of the recorded happenings. If the log has failed, a possibly empty
+    /// part of the text of one more happening follows.
     pub fn writer(&self) -> &W
         ensures { result.now ≡ self.now.writer }
     {
@@ -72,7 +72,7 @@ impl<W: Write, A: Allocator + Copy> Log for StreamLog<W, A> {
     ghost state = { stream_state W.contents };
 
     /// Writes the text of a happening. Fails with `Device` if the writer failed or wrote no byte, and with `Memory` if
-    /// there was no memory for the text.
+    /// memory allocation failed.
     fn take<B: Allocator>(&mut self, happening: &HappeningIn<B>) -> Result<(), LogFault>
         requires { self.old.failed ≡ false }
         ensures flag { self.new.failed ≡ is_err result }
@@ -105,7 +105,7 @@ impl<W: Write, A: Allocator + Copy> EndedLog for StreamLog<W, A> {
 
     ghost has_ended = { λ writer whole trace. KnowsText (not whole) trace (W.contents writer) };
 
-    /// Returns the writer. Nothing is held back.
+    /// Returns the writer, which has the text of all recorded happenings.
     fn end(self) -> (W, bool) {
         let StreamLog {
             writer,

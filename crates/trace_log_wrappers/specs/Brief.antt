@@ -1,12 +1,12 @@
--- The brief form of a trace. It omits the looks that found nothing. Of the readings of the clock and the rounds between
--- two other happenings it keeps only the greatest reading and one round.
+-- The brief form of a trace. It omits the looks that found nothing. Between two other happenings, it keeps only the
+-- greatest reading of the clock and one round.
 use Rattle.std.specs.Prelude.{◌≡◌, ℕ, Bool, true, false, not, ◌&&◌, if◌then◌else◌, max, List, [], ◌∷◌}
 use Rattle.init_words.specs.declared.orders.OrderKind.TheVariants.{Look}
 use Rattle.init_words.specs.Ids.{same_id}
 use Rattle.trace_events.specs.declared.happenings.Happening.TheVariants.{Asked, Still, Told, Clock, Nudge}
 use Rattle.trace_events.specs.Event.{Event}
 
--- the newest happening is the order of a look, or that a look found nothing
+-- the newest happening is the order of a look, or the result that a look found nothing
 abbrev pub in_look : List Event → Bool
 in_look (Asked id Look ∷ past) = true
 in_look (Still id ∷ past) = true
@@ -19,7 +19,7 @@ with_telling id (Still i ∷ Asked j Look ∷ brief) =
     if same_id id i && same_id id j && not (in_look brief) then brief else Told id ∷ Still i ∷ Asked j Look ∷ brief
 with_telling id brief = Told id ∷ brief
 
--- adds a reading of the clock; of two adjacent readings the greater one is kept
+-- adds a reading of the clock; keeps only the greater of two adjacent readings
 abbrev pub with_reading : ℕ → List Event → List Event
 with_reading reading (Clock before ∷ brief) = Clock (max reading before) ∷ brief
 with_reading reading brief = Clock reading ∷ brief
@@ -29,7 +29,7 @@ abbrev pub with_early_reading : ℕ → List Event → List Event
 with_early_reading reading (Nudge ∷ brief) = Nudge ∷ with_reading reading brief
 with_early_reading reading brief = with_reading reading brief
 
--- adds a round; of two adjacent rounds one is kept
+-- adds a round; keeps only one of two adjacent rounds
 abbrev pub with_round : List Event → List Event
 with_round (Nudge ∷ brief) = Nudge ∷ brief
 with_round brief = Nudge ∷ brief
@@ -46,7 +46,7 @@ abbrev pub brief_of : List Event → List Event
 brief_of [] = []
 brief_of (happening ∷ past) = with_event happening (brief_of past)
 
--- nothing of the trace can be omitted: adding each happening to its past only puts it in front
+-- no happening of the trace can be omitted: adding a happening to those before it changes none of them
 abbrev pub IsBrief : List Event → Type 0
 IsBrief [] = Unit {0}
 IsBrief (happening ∷ past) = (with_event happening past ≡ happening ∷ past) × IsBrief past

@@ -1,4 +1,4 @@
--- The state of a log of brief traces: which happenings it holds back, because a later one may omit or change them, and
+-- The state of a log of brief traces: which happenings it holds back, because they may still be omitted or changed, and
 -- which it writes.
 use Rattle.std.specs.Prelude.{ℕ, Bool, true, false, not, ◌&&◌, ◌≡◌, if◌then◌else◌, max, List, [], ◌∷◌, ◌++◌, Option}
 use Rattle.std.specs.Prelude.{Some, None, is_none, is_some}
@@ -11,23 +11,23 @@ use Rattle.trace_log_wrappers.specs.declared.held.HeldLook.{HeldLook}
 use Rattle.trace_log_wrappers.specs.declared.held.HeldLook.TheVariants.{Ordered, FoundNothing}
 use Rattle.trace_log_wrappers.specs.Brief.{in_look, brief_of}
 
--- the happenings of a held look, newest first
+-- the happenings of the look held back, newest first
 abbrev pub look_events : Option HeldLook → List Event
 look_events None = []
 look_events (Some (Ordered id)) = Asked id Look ∷ []
 look_events (Some (FoundNothing id)) = Still id ∷ Asked id Look ∷ []
 
--- the happening of a held round
+-- the happening of the round held back
 abbrev pub round_events : Bool → List Event
 round_events true = Nudge ∷ []
 round_events false = []
 
--- the happening of a held reading of the clock
+-- the happening of the reading of the clock held back
 abbrev pub reading_events : Option ℕ → List Event
 reading_events None = []
 reading_events (Some reading) = Clock reading ∷ []
 
--- all happenings that are held, newest first: at most a look, a round and a reading
+-- all happenings held back, newest first: at most a look, a round and a reading
 abbrev pub held_events : HeldBack → List Event
 held_events held = look_events held.look ++ round_events held.round ++ reading_events held.reading
 
@@ -41,22 +41,22 @@ is_round_or_reading (Clock reading ∷ past) = true
 is_round_or_reading (Nudge ∷ past) = true
 is_round_or_reading _ = false
 
--- the newest happenings are a look that may still be omitted
+-- the newest happenings belong to a look that may still be omitted
 abbrev pub ends_look : List Event → Bool
 ends_look (Asked id Look ∷ past) = not (in_look past)
 ends_look (Still i ∷ Asked j Look ∷ past) = same_id i j && not (in_look past)
 ends_look _ = false
 
--- No later happening changes what was written, newest first. Its newest happening is not a round or a reading. If no
--- round or reading is held, `within` says whether its newest happening belongs to a look, and it does not end with a
--- look that may still be omitted. A look is held only if it is not written right after another look.
+-- No later happening can change the happenings written, newest first. The newest of them is not a round or a reading. If
+-- no round or reading is held, `within` is true exactly if the newest belongs to a look, and they do not end with a look
+-- that may still be omitted. A look is held only if it does not directly follow another look.
 pub record Settled (held : HeldBack) (written : List Event) : Type 0 where
   pub no_round : is_round_or_reading written ≡ false
   pub within : is_bare held ≡ true → held.within ≡ in_look written
   pub no_look : is_bare held ≡ true → ends_look written ≡ false
   pub not_nested : is_some held.look ≡ true → (is_bare held && held.within) ≡ false
 
--- the happenings held and those written are together the brief form of the trace
+-- the happenings written and those held back are together the brief form of the trace
 pub record Holds (held : HeldBack) (written trace : List Event) : Type 0 where
   pub brief : held_events held ++ written ≡ brief_of trace
   pub settled : Settled held written
@@ -66,7 +66,7 @@ abbrev pub greater_reading : ℕ → Option ℕ → ℕ
 greater_reading reading None = reading
 greater_reading reading (Some before) = max reading before
 
--- the state after a happening that is held back, given the look that is held; none if it is not held back
+-- the state after this happening is held back, given the look that is held; none if it cannot be held back
 abbrev pub held_back_by : Event → Option HeldLook → HeldBack → Option HeldBack
 held_back_by (Clock reading) None held = Some (record held { reading = Some (greater_reading reading held.reading) })
 held_back_by Nudge None held = Some (record held { round = true })
@@ -78,24 +78,24 @@ held_back_by (Told id) (Some (FoundNothing i)) held =
     if same_id id i then Some (record held { look = None }) else None
 held_back_by _ _ held = None
 
--- the state after a happening that is held back; none if it is not held back
+-- the state after this happening is held back; none if it cannot be held back
 abbrev pub held_back : Event → HeldBack → Option HeldBack
 held_back happening held = held_back_by happening held.look held
 
--- the state after a happening that is not held back; if it is a reading or a round, it is the only one held
+-- the state after a happening that cannot be held back; but a reading or a round is then the only one held back
 abbrev pub held_behind : Event → HeldBack
 held_behind (Clock reading) = record { reading = Some reading; round = false; look = None; within = true }
 held_behind Nudge = record { reading = None; round = true; look = None; within = true }
 held_behind happening = record { reading = None; round = false; look = None; within = in_look (happening ∷ []) }
 
--- the happenings written for one that is not held back, besides those that were held: the happening itself, unless it
--- is a reading or a round
+-- the happenings that are written when one comes that cannot be held back, after those held back: the happening itself,
+-- unless it is a reading or a round
 abbrev pub written_of : Event → List Event
 written_of (Clock reading) = []
 written_of Nudge = []
 written_of happening = happening ∷ []
 
--- the state after a happening, given the state if it is held back
+-- the state after a happening, given the state if it can be held back
 abbrev pub next_by : Event → Option HeldBack → HeldBack
 next_by happening None = held_behind happening
 next_by happening (Some held) = held
@@ -104,11 +104,11 @@ next_by happening (Some held) = held
 abbrev pub next_held : Event → HeldBack → HeldBack
 next_held happening held = next_by happening (held_back happening held)
 
--- the happenings that are written for a happening, newest first, given the state if it is held back
+-- the happenings that are written when this one comes, newest first, given the state if it can be held back
 abbrev pub newly_by : Event → HeldBack → Option HeldBack → List Event
 newly_by happening held None = written_of happening ++ held_events held
 newly_by happening held (Some next) = []
 
--- the happenings that are written for a happening, newest first
+-- the happenings that are written when this one comes, newest first
 abbrev pub newly_written : Event → HeldBack → List Event
 newly_written happening held = newly_by happening held (held_back happening held)

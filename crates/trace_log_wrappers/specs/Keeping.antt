@@ -1,4 +1,4 @@
--- What a brief log has passed on and what it holds, for the trace that it took, and what remains after its end.
+-- The happenings that a brief log has passed on and holds back, given the trace that it took, and its state after `end`.
 use Rattle.std.specs.Prelude.{◌≡◌, ◌≤◌, Bool, true, false, List, ◌++◌, length, reverse, None}
 use Rattle.trace_events.specs.Event.{Event}
 use Rattle.trace_log.specs.Logs.{LogState}
@@ -15,25 +15,25 @@ pub record Brief (L : Type 0) : Type 0 where
 abbrev pub brief_first : List Event → List Event
 brief_first trace = reverse (brief_of (reverse trace))
 
--- what was passed on, oldest first, and what is held are together the brief form of the trace
+-- the happenings passed on, oldest first, and those held back are together the brief form of the trace
 pub record Writes (log : LogState) (held : HeldBack) (trace : List Event) : Type 0 where
   pub written : List Event
   pub is : log.taken written
   pub holds : Holds held (reverse written) (reverse trace)
 
--- The happenings are a prefix of the brief form of the trace, or of the trace followed by the one happening at which a
--- log failed.
+-- The happenings are a prefix of the brief form of the trace, or of the trace followed by the one happening that the
+-- log failed to take.
 pub record IsPart (trace written : List Event) : Type 0 where
   pub more : List Event
   pub most : length more ≤ 1
   pub rest : List Event
   pub front : written ++ rest ≡ brief_first (trace ++ more)
 
--- the log took such a part of the brief form
+-- the log took a part of the brief form (`IsPart`)
 abbrev pub HasPart : (List Event → Type 0) → List Event → Type 0
 HasPart taken trace = (written : List Event) × IsPart trace written × taken written
 
--- a brief log, which has failed or not, took the trace
+-- the brief log took the trace; the flag says whether it has failed
 abbrev pub BriefLogAccepted : Bool → LogState → HeldBack → List Event → Type 0
 BriefLogAccepted false log held trace = Writes log held trace
 BriefLogAccepted true log held trace = HasPart log.taken trace
@@ -46,16 +46,16 @@ brief_state state log = record {
   noted = None;
 }
 
--- the brief form of the trace was passed on, or only a part of it
+-- the log took the brief form of the trace if the flag is true, and otherwise a part of it
 abbrev pub HandsOn : Bool → (List Event → Type 0) → List Event → Type 0
 HandsOn true taken trace = taken (brief_first trace)
 HandsOn false taken trace = HasPart taken trace
 
--- what remains after the end, depending on whether the other log ended with everything that it took
+-- the state after `end`; the flag says whether the other log passed on everything that it took
 abbrev pub EndsBrief : (Bool → List Event → Type 0) → Bool → List Event → Type 0
 EndsBrief has_ended true trace = has_ended true (brief_first trace)
 EndsBrief has_ended false trace = HasPart (λ written. (whole : Bool) × has_ended whole written) trace
 
--- if the log had taken some happenings, it has now taken those, possibly followed by others
+-- the log has taken the same happenings as before, possibly followed by others
 abbrev pub Grows : LogState → LogState → Type 0
 Grows old new = (before : List Event) → old.taken before → (more : List Event) × new.taken (before ++ more)

@@ -1,4 +1,4 @@
--- The notes on the happenings that a log takes.
+-- The notes on the happenings that a log has taken.
 use Rattle.std.specs.Prelude.{◌≡◌, ℕ, Bool, true, false, List, Option, Some, None}
 use Rattle.std.specs.List.{IsDistinct}
 use Rattle.std.specs.Map.{keys_of, lookup}
@@ -7,35 +7,35 @@ use Rattle.init_words.specs.Ids.{same_id}
 use Rattle.trace_events.specs.Event.{Event}
 use Rattle.trace_log_wrappers.specs.Ends.{last_end, number_of}
 
--- the id whose last end is noted, if any, and that end; the numbers of the unreaped children by id, and whether there
--- was memory to note all of them
+-- the id whose last exit status is noted, if any, and that status; the numbers of the unreaped children by id, and
+-- whether there was enough memory to note all of them
 pub record Notes : Type 0 where
   pub wanted : Option (List ℕ)
   pub last : Option Status
   pub running : List (List ℕ × ℕ)
   pub complete : Bool
 
--- the id is the one whose last end is noted
+-- the id is the one whose last exit status is noted
 abbrev pub is_wanted : List ℕ → Option (List ℕ) → Bool
 is_wanted id None = false
 is_wanted id (Some wanted) = same_id id wanted
 
--- it is the last end of the noted id in this trace, newest first, if there is a noted id
+-- if an id is noted, this is its last exit status in the trace, newest first
 abbrev pub IsLast : Option Status → Option (List ℕ) → List Event → Type 0
 IsLast last wanted past = (id : List ℕ) → is_wanted id wanted ≡ true → last ≡ last_end id past
 
--- the number that the list gives an id
+-- the number of this id in the list
 abbrev pub number_in : List ℕ → List (List ℕ × ℕ) → Option ℕ
 number_in id running = lookup (same_id id) running
 
--- the list has no id twice, and gives each id the number of its unreaped child in this trace, newest first, or none if
--- it has none
+-- the list has no id twice, and has for each id the number of its unreaped child in this trace, newest first, or none if
+-- the id has no unreaped child
 abbrev pub IsRunning : List (List ℕ × ℕ) → List Event → Type 0
 IsRunning running past =
     IsDistinct same_id (keys_of running) × ((id : List ℕ) → number_in id running ≡ number_of id past)
 
--- the notes are those of this trace, newest first; if there was no memory to note all children, nothing is said about
--- their list
+-- the notes are right for this trace, newest first; if memory ran out before all children were noted, nothing is stated
+-- about the list
 pub record AreNotesOf (notes : Notes) (past : List Event) : Type 0 where
   pub last : IsLast notes.last notes.wanted past
   pub running : notes.complete ≡ true → IsRunning notes.running past

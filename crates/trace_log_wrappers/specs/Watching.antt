@@ -1,4 +1,4 @@
--- The state of a log that watches another log.
+-- The state of a log that notes and judges the happenings that it passes on to another log.
 use Rattle.std.specs.Prelude.{reverse}
 use Rattle.trace_check.specs.Judging.{Judging}
 use Rattle.trace_log.specs.Logs.{LogState}
@@ -13,7 +13,7 @@ pub record Watched (L : Type 0) : Type 0 where
   pub judge : Judging
   pub judgement : Judgement
 
--- the log took what the other log took, and its notes and its verdict are about that
+-- the log has taken the same happenings as the other log, and its notes and its verdict are about these happenings
 abbrev pub watched_state : {L : Type 0} → (L → LogState) → Watched L → LogState
 watched_state state watched = record {
   taken = λ trace. AreNotesOf watched.notes (reverse trace)

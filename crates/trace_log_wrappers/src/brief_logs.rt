@@ -1,5 +1,5 @@
-//! A log of the brief form of a trace. It holds back the happenings that a later one may omit or change, and passes the
-//! rest on to another log.
+//! A log of the brief form of a trace. It holds back each happening that may still be omitted or changed because of a
+//! later one, and passes the others on to another log.
 
 ghost use Rattle.std.specs.Prelude.{◌≡◌, ◌++◌, ◌∷◌, [], List, true, false, is_err, reverse, OnOk, OnErr};
 ghost use Rattle.trace_events.specs.Event.{Event};
@@ -17,8 +17,8 @@ use trace_log::{EndedLog, Log, LogFault};
 
 /// A log that passes on the brief form of its trace to another log.
 ///
-/// It holds back at most four happenings: a reading of the clock, a round, the order of a look, and that the look found
-/// nothing. It does not allocate. `end` passes on what is held; `into_log` drops it.
+/// It holds back at most four happenings: a reading of the clock, a round, the order of a look, and its result if it
+/// found nothing. It does not allocate. `end` passes on the happenings held back; `into_log` drops them.
 #[derive(Drop)]
 pub struct BriefLog<L> {
     log: L,
@@ -106,7 +106,7 @@ fn write_look<L: Log>(log: &mut L, look: &Option<HeldLook>) -> Result<(), LogFau
     }
 }
 
-/// Passes everything held on to the log.
+/// Passes all happenings held back on to the log.
 fn write_held<L: Log>(log: &mut L, held: &HeldBack) -> Result<(), LogFault>
     requires { (L.state log.old).failed ≡ false }
     ensures flag { (L.state log.new).failed ≡ is_err result }
@@ -137,7 +137,7 @@ fn write_new<L: Log, B: Allocator>(log: &mut L, happening: &HappeningIn<B>) -> R
     }
 }
 
-/// Passes everything held on to the log, and then the happening, unless it is a reading or a round.
+/// Passes all happenings held back on to the log, and then the happening, unless it is a reading or a round.
 fn write_all<L: Log, B: Allocator>(
     log: &mut L,
     held: &HeldBack,
@@ -159,7 +159,7 @@ fn write_all<L: Log, B: Allocator>(
 }
 
 impl<L: Log> BriefLog<L> {
-    /// Creates a brief log in front of a log that has taken nothing.
+    /// Creates a brief log that passes its happenings on to `log`, which must be empty.
     pub fn new(log: L) -> BriefLog<L>
         ensures log { result.log ≡ log }
         ensures nothing { (L.state log).taken [] → (brief_state L.state result).taken [] }
@@ -170,7 +170,7 @@ impl<L: Log> BriefLog<L> {
         }
     }
 
-    /// Holds a happening back, or passes on to the log what was held, followed by the happening.
+    /// Holds the happening back, or passes it on to the other log after all those held back.
     fn step<B: Allocator>(&mut self, happening: &HappeningIn<B>) -> Result<(), LogFault>
         requires { (L.state self.old.log).failed ≡ false }
         ensures flag { (L.state self.new.log).failed ≡ is_err result }
@@ -211,8 +211,8 @@ impl<L: Log> Log for BriefLog<L> {
 
     ghost state = { brief_state L.state };
 
-    /// Takes a happening: holds it back, or passes on to the log what was held, followed by the happening. The
-    /// happenings passed on and held are together the brief form of those taken.
+    /// Takes a happening: holds it back, or passes it on to the other log after all those held back. The happenings
+    /// passed on and those held back are together the brief form of those taken.
     fn take<B: Allocator>(&mut self, happening: &HappeningIn<B>) -> Result<(), LogFault>
         requires { (L.state self.old.log).failed ≡ false }
         ensures flag { (L.state self.new.log).failed ≡ is_err result }
@@ -232,7 +232,7 @@ impl<L: Log> Log for BriefLog<L> {
     }
 }
 
-/// Passes everything held on to the log, unless the log has failed. Returns whether the log took it.
+/// Passes all happenings held back on to the log, unless it has failed. Returns whether the log took them.
 fn hand_on<L: Log>(log: &mut L, held: &HeldBack) -> bool
     ensures failed { (L.state log.old).failed ≡ true → result ≡ false }
     ensures handed { (trace : List Event)
@@ -252,8 +252,8 @@ impl<L: EndedLog> EndedLog for BriefLog<L> {
 
     ghost has_ended = { λ left whole trace. EndsBrief (L.has_ended left) whole trace };
 
-    /// Passes everything held on to the other log, and ends that log. It has then taken the brief form of the trace, or
-    /// a part of it.
+    /// Passes all happenings held back on to the other log, and ends it. That log has then taken the brief form of the
+    /// trace, or if it failed, a part of it.
     fn end(self) -> (L::Left, bool) {
         let BriefLog { mut log, held } = self;
         let handed = hand_on(&mut log, &held);

@@ -1,4 +1,4 @@
-//! The part of a brief trace that is held back because a later happening may still change or omit it.
+//! The part of a brief trace that is held back, because it may still be changed or omitted when the next happening comes.
 
 ghost use Rattle.std.specs.Prelude.{◌≡◌, None, Some, false, if◌then◌else◌};
 ghost use Rattle.init_words.specs.Ids.{same_id};
@@ -8,7 +8,7 @@ use init_words::{Id, OrderKind};
 use std::alloc::Allocator;
 use trace_events::{Happening, HappeningIn};
 
-/// A look that is held back. It is omitted if it found nothing and its `told` comes next.
+/// A look that is held back. It is omitted if it found nothing and `told` is the next happening.
 #[derive(Clone, Copy)]
 pub enum HeldLook {
     /// The look was ordered.
@@ -26,8 +26,8 @@ pub struct HeldBack {
     /// Whether a round is held.
     pub round: bool,
     pub look: Option<HeldLook>,
-    /// Whether the last happening written is the order of a look, or that a look found nothing. Only used if no reading
-    /// and no round is held.
+    /// Whether the last happening written is the order of a look (`ask ID look`) or its empty result (`still ID`). This
+    /// matters only if neither a reading nor a round is held.
     pub within: bool,
 }
 
@@ -51,8 +51,8 @@ impl HeldBack {
         !self.round && self.reading.is_none()
     }
 
-    /// Returns the state after a happening that is held back, or `None` if everything held has to be written now,
-    /// followed by this happening.
+    /// Returns the state after this happening is held back, or `None` if it can't be: then all happenings held back must
+    /// be written now, followed by this one.
     pub fn hold_back<A: Allocator>(&self, happening: &HappeningIn<A>) -> Option<HeldBack>
         ensures { result ≡ held_back happening.now self.now }
     {
@@ -73,7 +73,7 @@ impl HeldBack {
         }
     }
 
-    /// Does what `hold_back` does, if no look is held.
+    /// Does the same as `hold_back` when no look is held.
     fn hold_first<A: Allocator>(&self, happening: &HappeningIn<A>) -> Option<HeldBack>
         ensures { result ≡ held_back_by happening.now None self.now }
     {
@@ -97,7 +97,7 @@ impl HeldBack {
         }
     }
 
-    /// Replaces the look that is held if the two ids are equal, and returns `None` otherwise.
+    /// Returns the state with the held look replaced by `look` if the two ids are equal, and `None` otherwise.
     fn if_same(&self, id: &Id, looked: &Id, look: Option<HeldLook>) -> Option<HeldBack>
         ensures { result ≡ if same_id id.now looked.now
             then Some (record self.now { look = look }) else None }
@@ -115,8 +115,8 @@ impl HeldBack {
         HeldBack { look, ..*self }
     }
 
-    /// Returns the state after a happening that is not held back. It is written at once, unless it is a reading or a
-    /// round, which is then the only one held.
+    /// Returns the state after a happening for which `hold_back` returned `None`. The happening has been written, unless
+    /// it is a reading or a round: then it is the only one held back.
     pub fn behind<A: Allocator>(happening: &HappeningIn<A>) -> HeldBack
         ensures { result ≡ held_behind happening.now }
     {

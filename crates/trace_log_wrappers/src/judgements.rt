@@ -10,10 +10,10 @@ use std::alloc::Allocator;
 use trace_check::{Law, TraceJudge};
 use trace_events::HappeningIn;
 
-/// The verdict on the happenings that a log took.
+/// The verdict on the happenings that a log has taken.
 #[derive(Clone, Copy, PartialEq, Eq)]
 pub enum Judgement {
-    /// No happening broke a law. The number is that of the happenings judged.
+    /// No happening broke a law. The value is the number of happenings judged.
     Lawful(u64),
     /// The position of the first happening that broke a law, counted from 0, and the lowest-numbered law that it broke.
     Breach(u64, Law),

@@ -15,15 +15,15 @@ ghost use Rattle.trace_log_wrappers.specs.Holding.{Holds, next_held, newly_writt
 
 /// States the laws of brief traces in its contract. The function itself does nothing.
 pub fn law_of_brief()
-    // For every list of happenings: those that are not a look, a `told`, a reading of the clock or a round all stay, in
-    // order; the brief form can't be shortened further.
+    // For every list of happenings: the brief form keeps, in order, all those that are not a look, a `told`, a reading
+    // of the clock or a round; and it can't be shortened further.
     ensures lasting { (trace : List Event)
         → lasting_events trace ≡ lasting_events (brief_of trace) }
     ensures short { (trace : List Event) → IsBrief (brief_of trace) }
     ensures twice { (trace : List Event) → brief_of (brief_of trace) ≡ brief_of trace }
 
-    // For every trace whose looks are free, sound or not: its brief form is lawful exactly if it is, and the first
-    // breaches of both are of the same law. The looks of every sound trace are free.
+    // For every trace whose looks are free, sound or not: its brief form is lawful exactly if the trace is, and
+    // otherwise the first breach of each breaks the same law. The looks of every sound trace are free.
     ensures free { (goal : Goal) (trace : List Event)
         → IsTrue (is_sound goal trace) → IsTrue (are_looks_free trace) }
     ensures judged { (trace : List Event)
@@ -31,7 +31,7 @@ pub fn law_of_brief()
     ensures breach { (trace : List Event)
         → IsTrue (are_looks_free trace) → first_broken trace ≡ first_broken (brief_of trace) }
 
-    // For every sound trace: its brief form is sound with the same opening goal, and so breaks no law.
+    // For every sound trace: its brief form is sound with the same initial goal, and so breaks no law.
     ensures sound { (goal : Goal) (trace : List Event)
         → IsTrue (is_sound goal trace) → IsTrue (is_sound goal (brief_of trace)) }
     ensures lawful { (goal : Goal) (trace : List Event)
@@ -39,7 +39,7 @@ pub fn law_of_brief()
     ensures unbroken { (goal : Goal) (trace : List Event)
         → IsTrue (is_sound goal trace) → first_breach (brief_of trace) ≡ None }
 
-    // For every sound trace: init reads the same values off its brief form.
+    // For every sound trace: its brief form yields the same values of these functions.
     ensures time { ReadsSame time_of }
     ensures unreaped { ReadsSame unreaped_children }
     ensures orders { ReadsSame open_orders }
@@ -49,8 +49,8 @@ pub fn law_of_brief()
     ensures full { (id : List ℕ) → ReadsSame (is_full id) }
 {}
 
-/// States in its contract that the happenings held and those written are together the brief form of the trace: at the
-/// beginning, and after each happening. The function itself does nothing.
+/// States in its contract that the happenings written and those held back are together the brief form of the trace,
+/// initially and after each happening. The function itself does nothing.
 pub fn law_of_held()
     ensures first { Holds
         (record { reading = None; round = false; look = None; within = false }) [] [] }

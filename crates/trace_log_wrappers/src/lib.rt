@@ -1,8 +1,9 @@
-//! Logs that pass their happenings on to another log: one passes on the brief form of the trace; the other notes what
-//! is reported at the end of a run, and judges the run while it continues.
+//! Logs that pass their happenings on to another log. `BriefLog` passes on the brief form of the trace. `NotingLog`
+//! collects the report for the end of a run, and checks the laws during the run.
 //!
-//! A brief trace lacks the idle rounds of a trace and the looks that found nothing. The brief form of a sound trace is sound, so it can be judged in place of the trace. It cannot be replayed: the
-//! omitted looks were due, so a brief trace is in general not a run in which each step is the first due one.
+//! The brief form of a trace omits idle rounds and looks that found nothing. The brief form of a sound trace is sound,
+//! so it can be judged in place of the trace. It cannot be replayed: the omitted looks were due, so in general not every
+//! step of a brief trace is the first due one.
 #![tactic(auto)]
 
 mod brief_logs;

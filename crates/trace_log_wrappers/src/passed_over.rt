@@ -1,4 +1,4 @@
-//! Warnings about requests for a level: one that changes nothing, and a change of level that a later request replaces.
+//! Warnings about requests for a level that change nothing, or that a later request replaces.
 //!
 //! The warnings go to standard error only, so no contract covers them; `tools/pages.d/messages` reads the lines.
 
@@ -7,8 +7,8 @@ use initctl_frame::HeardRequest;
 use std::alloc::Allocator;
 use trace_events::{Happening, HappeningIn};
 
-/// The level in force, the grace period with which it was entered, whether it is settled, and the level that was
-/// requested but not entered yet.
+/// The level in force, its grace period, whether it is settled, and the level that was requested but has not been
+/// entered yet.
 #[derive(Clone, Copy, Default)]
 pub(crate) struct Asked {
     now: Option<Level>,
@@ -18,7 +18,7 @@ pub(crate) struct Asked {
 }
 
 impl Asked {
-    /// Notes a happening, and writes a warning to standard error if a request for a level needs one.
+    /// Notes a happening. Warns on standard error if it is a request for a level that changes nothing or replaces another.
     pub(crate) fn note<A: Allocator>(&mut self, rt: &impl Eprint, happening: &HappeningIn<A>) {
         match happening {
             Happening::Enter(Stage::Run(level), grace) => {
@@ -34,7 +34,7 @@ impl Asked {
         }
     }
 
-    /// Notes a request for a level. A request for the level in force leaves no other level requested.
+    /// Notes a request for a level. A request for the level in force cancels an earlier one for another level.
     fn hear(&mut self, rt: &impl Eprint, asked: Level, grace: u16) {
         let before = self.wish;
         let is_now = self.now == Some(asked);

@@ -1,5 +1,5 @@
-//! Notes on the happenings of a run that are reported at its end: which children are not reaped, and how the last child
-//! of one id ended.
+//! Notes for the report at the end of a run: which children have not been reaped, and the exit status of the last child
+//! of one id.
 
 ghost use Rattle.std.specs.Prelude.{◌≡◌, ◌∷◌, [], true, List, OnOk, Option};
 ghost use Rattle.trace_events.specs.Event.{Event};
@@ -15,10 +15,10 @@ use trace_events::{Happening, HappeningIn};
 /// The child numbers by id, in the order of birth.
 pub type Numbers<A = Global> = IndexMap<Id, ChildNumber, BuildHasherDefault<FoldHasher>, A>;
 
-/// Notes on the happenings of a run.
+/// The notes on a run for its final report.
 #[derive(Drop)]
 pub struct RunNotes<A: Allocator = Global> {
-    /// The id whose last end is noted, if any.
+    /// The id whose last exit status is noted, if any.
     wanted: Option<Id>,
     last: Option<Status>,
     running: Numbers<A>,
@@ -41,7 +41,7 @@ impl<A: Allocator> Model for RunNotes<A> {
 impl<A: Allocator + Copy> RunNotes<A> {
     ghost use Rattle.std.specs.Prelude.{IfSome, IsSome, ◌↔◌, true};
 
-    /// Creates empty notes, which will have the last end of the given id, if any. This does not allocate.
+    /// Creates empty notes, which will record the last exit status of the id `wanted`, if given. This does not allocate.
     pub(crate) fn new(alloc: A, wanted: Option<Id>) -> RunNotes<A>
         ensures nothing { AreNotesOf result [] }
         ensures wanted { result.wanted ≡ wanted }
@@ -54,7 +54,7 @@ impl<A: Allocator + Copy> RunNotes<A> {
         }
     }
 
-    /// Returns how the last child that ended of the noted id did so, or `None` if none has ended.
+    /// Returns the exit status of the last reaped child of the noted id, or `None` if none was reaped.
     pub fn last(&self) -> Option<Status>
         ensures value { result ≡ self.now.last }
         ensures trace { (past : List Event) → AreNotesOf self.now past
@@ -63,7 +63,7 @@ impl<A: Allocator + Copy> RunNotes<A> {
         self.last
     }
 
-    /// Returns the unreaped children, or `None` if there was not enough memory to note all of them.
+    /// Returns the unreaped children, or `None` if memory ran out before all of them were noted.
     pub fn running(&self) -> Option<&Numbers<A>>
         ensures complete { IsSome result ↔ (self.now.complete ≡ true) }
         ensures value { IfSome result (λ numbers. numbers.now.entries ≡ self.now.running) }
@@ -77,7 +77,7 @@ impl<A: Allocator + Copy> RunNotes<A> {
         }
     }
 
-    /// Notes a happening.
+    /// Updates the notes for a happening.
     pub(crate) fn note<B: Allocator>(&mut self, happening: &HappeningIn<B>)
         ensures notes { (past : List Event) → AreNotesOf self.old past
             → AreNotesOf self.new (happening.now ∷ past) }
@@ -90,7 +90,7 @@ impl<A: Allocator + Copy> RunNotes<A> {
     }
 }
 
-/// Returns whether the id is the one whose last end is noted.
+/// Returns whether the id is the one whose last exit status is noted.
 fn is_wanted(id: &Id, wanted: &Option<Id>) -> bool
     ensures { result ≡ is_wanted id.now wanted.now }
 {
@@ -100,7 +100,7 @@ fn is_wanted(id: &Id, wanted: &Option<Id>) -> bool
     }
 }
 
-/// Returns the last end of the noted id after a happening, given the one before it.
+/// Returns the last exit status of the noted id after a happening, given the one before.
 fn end_behind<B: Allocator>(
     last: Option<Status>,
     wanted: &Option<Id>,

@@ -1,4 +1,4 @@
-//! A log that watches what another log takes.
+//! A log that notes and judges the happenings that it passes on to another log.
 
 use crate::judgements::Judgement;
 use crate::passed_over::Asked;
@@ -47,8 +47,8 @@ impl<'a, R: Eprint, L: Log, A: Allocator + Copy> NotingLog<'a, R, L, A> {
     ghost use Rattle.trace_log_wrappers.specs.Judgements.{IsJudgementOf, found_first};
     ghost use Rattle.trace_log_wrappers.specs.Watching.{watched_state};
 
-    /// Creates a watching log in front of `log`. It will note the last end of the id `wanted`, if any, and judge the
-    /// happenings if `is_judged` is set. This does not allocate.
+    /// Creates a log that passes its happenings on to `log`, notes the last exit status of the id `wanted`, if given, and
+    /// judges the happenings if `is_judged` is set. This does not allocate.
     pub fn new(
         rt: &'a R,
         alloc: A,
@@ -96,7 +96,7 @@ impl<'a, R: Eprint, L: Log, A: Allocator + Copy> NotingLog<'a, R, L, A> {
         (log, notes, judgement)
     }
 
-    /// Warns about a breach if it is new.
+    /// Warns if this happening is the first to break a law.
     fn tell<B: Allocator>(&self, before: Judgement, happening: &HappeningIn<B>) {
         if let (Judgement::Lawful(_), Judgement::Breach(position, law)) = (before, self.judgement) {
             tell_breach(self.rt, self.alloc, position, law, happening);
@@ -131,8 +131,8 @@ impl<R: Eprint, L: Log, A: Allocator + Copy> Log for NotingLog<'_, R, L, A> {
 
     ghost state = { watched_state L.state };
 
-    /// Passes the happening on. If the other log takes it, it is noted, and judged unless an earlier happening broke a
-    /// law; otherwise it is neither.
+    /// Passes the happening on. If the other log takes it, this log notes it, and judges it unless an earlier happening
+    /// broke a law.
     fn take<B: Allocator>(&mut self, happening: &HappeningIn<B>) -> Result<(), LogFault>
         requires { (L.state self.old.log).failed ≡ false }
         ensures flag { (L.state self.new.log).failed ≡ is_err result }

@@ -46,7 +46,7 @@ power_word power.Fail = codes "fail"
 power_word power.FailNow = codes "failnow"
 power_word power.Ok = codes "ok"
 
--- the number that stands for the reason why a request was ignored
+-- the number for the reason why init ignored a request
 abbrev pub cause_number : Cause → ℕ
 cause_number cause.Magic = 1
 cause_number cause.Unknown = 2
@@ -102,7 +102,7 @@ words_of (Handed how) = codes "handed" ∷ handed_words how
 abbrev pub words_behind : List (List ℕ) → List ℕ
 words_behind words = flat_map (λ word. 32 ∷ word) words
 
--- the line of these words
+-- the words as a line: separated by single blanks and followed by a newline
 abbrev pub line_of_words : List (List ℕ) → List ℕ
 line_of_words [] = 10 ∷ []
 line_of_words (word ∷ words) = word ++ words_behind words ++ 10 ∷ []

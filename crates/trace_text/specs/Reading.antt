@@ -1,5 +1,5 @@
--- How a line of a trace is read, word by word. The meaning of a text is defined by printing (`Range`): it stands for
--- the trace that is printed like this. The definitions here say how the reader finds that trace.
+-- How a line of a trace is read, word by word. Printing defines what a text means: it means the trace that prints as
+-- this text (`Lines`). The definitions here say how the reader finds that trace.
 use Rattle.std.specs.Prelude.{ℕ, ◌==◌, ◌+◌, ◌&&◌, ◌^◌, if◌then◌else◌, List, [], ◌∷◌, codes, Option, Some, None}
 use Rattle.std.specs.Prelude.{option_and_then}
 use Rattle.std.specs.Option.{option_map}
@@ -33,12 +33,12 @@ use Rattle.trace_events.specs.declared.happenings.Handed.TheVariants as handed
 use Rattle.trace_events.specs.Event.{Event}
 use Rattle.trace_text.specs.Texts.{Begun}
 
--- two values combined; none if one of them is missing
+-- two values combined with `f`; none if either is missing
 abbrev pub both : {X Y Z : Type 0} → (X → Y → Z) → Option X → Option Y → Option Z
 both f (Some x) (Some y) = Some (f x y)
 both f _ _ = None
 
--- three values combined; none if one of them is missing
+-- three values combined with `f`; none if any is missing
 abbrev pub all_three : {W X Y Z : Type 0} → (W → X → Y → Z) → Option W → Option X → Option Y → Option Z
 all_three f (Some w) (Some x) (Some y) = Some (f w x y)
 all_three f _ _ _ = None
@@ -97,14 +97,14 @@ child_of_word word = number_read (2 ^ 32) word
 abbrev pub code_of_word : List ℕ → Option Status
 code_of_word word = option_map Exit (number_read 256 word)
 
--- the happening of a line of one word
+-- the happening on a line of one word
 abbrev pub one_read : List ℕ → Option Event
 one_read word =
     if same_id word (codes "nudge") then Some Nudge
     else if same_id word (codes "notread") then Some NotRead
     else None
 
--- the happening of a line of a word and an id
+-- the happening on a line of a word and an id
 abbrev pub about_read : List ℕ → List ℕ → Option Event
 about_read word id =
     if same_id word (codes "told") then Some (Told id)
@@ -116,14 +116,14 @@ about_read word id =
     else if same_id word (codes "miss") then Some (Miss id)
     else None
 
--- a request of one word
+-- the request that this single word means
 abbrev pub request_read : List ℕ → Option Request
 request_read word =
     if same_id word (codes "reload") then Some got.Reload
     else if same_id word (codes "reexec") then Some got.Reexec
     else None
 
--- a request of two words
+-- the request that these two words mean
 abbrev pub request_pair_read : List ℕ → List ℕ → Option Request
 request_pair_read word given =
     if same_id word (codes "call") then option_map got.Call (letter_of_word given)
@@ -131,21 +131,21 @@ request_pair_read word given =
     else if same_id word (codes "nothing") then option_map got.Nothing (cause_of_word given)
     else None
 
--- the outcome of a hand-over in one word
+-- the outcome of a hand-over that this single word means
 abbrev pub handed_read : List ℕ → Option HandOver
 handed_read word =
     if same_id word (codes "whole") then Some handed.Whole
     else if same_id word (codes "none") then Some handed.Failed
     else None
 
--- the outcome of a hand-over in two words
+-- the outcome of a hand-over that these two words mean
 abbrev pub handed_pair_read : List ℕ → List ℕ → Option HandOver
 handed_pair_read word given =
     if same_id word (codes "cut") then option_map handed.Cut (number_read (2 ^ 64) given)
     else if same_id word (codes "older") then option_map handed.Older (number_read (2 ^ 64) given)
     else None
 
--- the happening of a line of two words
+-- the happening on a line of two words
 abbrev pub two_read : List ℕ → List ℕ → Option Event
 two_read word given =
     if same_id word (codes "clock") then option_map Clock (number_read (2 ^ 64) given)
@@ -157,7 +157,7 @@ two_read word given =
     else if same_id word (codes "handed") then option_map Handed (handed_read given)
     else option_and_then (about_read word) (id_read given)
 
--- the happening of a line of three words
+-- the happening on a line of three words
 abbrev pub three_read : List ℕ → List ℕ → List ℕ → Option Event
 three_read word first second =
     if same_id word (codes "ask") then both Asked (id_read first) (order_of_word second)
@@ -167,11 +167,11 @@ three_read word first second =
     else if same_id word (codes "handed") then option_map Handed (handed_pair_read first second)
     else None
 
--- the request for a level, with its seconds
+-- the receipt of a request for a level, with its grace period
 abbrev pub level_wanted : Level → ℕ → Event
 level_wanted level seconds = Got (got.Level level seconds)
 
--- the happening of a line of four words
+-- the happening on a line of four words
 abbrev pub four_read : List ℕ → List ℕ → List ℕ → List ℕ → Option Event
 four_read word first second third =
     if same_id word (codes "reaped") && same_id third (codes "killed") then
@@ -180,14 +180,14 @@ four_read word first second third =
     both level_wanted (level_of_word second) (seconds_of_word third)
     else None
 
--- the happening of a line of five words
+-- the happening on a line of five words
 abbrev pub five_read : List ℕ → List ℕ → List ℕ → List ℕ → List ℕ → Option Event
 five_read word first second third fourth =
     if same_id word (codes "reaped") && same_id third (codes "exit") then
     all_three Reaped (id_read first) (child_of_word second) (code_of_word fourth)
     else None
 
--- the happening of these words, unless it is a new table
+-- the happening on a line of these words; none for a `use` line
 abbrev pub words_read : List (List ℕ) → Option Event
 words_read (word ∷ []) = one_read word
 words_read (word ∷ given ∷ []) = two_read word given
@@ -210,8 +210,8 @@ words_in line = pieces_of 32 line
 abbrev pub use_begun : ℕ → List ℕ → Option Begun
 use_begun count text = option_map (λ parts. (NewTable parts.0, parts.1)) (table_begun count text)
 
--- the first happening of a text, given its first line, the number of entries that it announces, if any, and the text
--- after it
+-- the first happening of a text, given the first line, the number of entries that this line announces, if any, and the
+-- text after the line
 abbrev pub begun_by : Option ℕ → List ℕ → List ℕ → Option Begun
 begun_by None line text = option_map (λ happening. (happening, text)) (words_read (words_in line))
 begun_by (Some count) line text = use_begun count text

@@ -1,4 +1,4 @@
--- The text of a trace as it is read: which happening begins it, and when a text is not that of a trace.
+-- Results of reading the text of a trace: the happening at its start, and where a text stops being a trace.
 use Rattle.std.specs.Prelude.{◌≡◌, ◌≢◌, ℕ, true, ◌+◌, List, [], ◌++◌, length}
 use Rattle.text_lines.specs.Lines.{newlines}
 use Rattle.trace_events.specs.declared.happenings.Happening.TheVariants.{NewTable}
@@ -22,7 +22,7 @@ abbrev pub BeginsNone : List ℕ → Type 0
 BeginsNone text =
     (happening : Event) (more : List ℕ) → is_in_range happening ≡ true → event_text happening ++ more ≢ text
 
--- the text is that of a trace up to the line of this number, counted from 1, and no happening begins there
+-- the text is a trace up to the line with this number, counted from 1, and no happening begins at that line
 pub record Stops (text : List ℕ) (number : ℕ) : Type 0 where
   pub trace : List Event
   pub rest : List ℕ
@@ -32,8 +32,8 @@ pub record Stops (text : List ℕ) (number : ℕ) : Type 0 where
   pub some : rest ≢ []
   pub none : BeginsNone rest
 
--- why the text was not read: no happening begins at this line; or memory allocation failed, which says nothing about
--- the text
+-- why the text could not be read: no happening begins at this line, or memory allocation failed, which implies nothing
+-- about the text
 abbrev pub UnreadTrace : List ℕ → ReadFault → Type 0
 UnreadTrace text (fault.Line number) = Stops text number
 UnreadTrace text fault.Memory = Unit {0}

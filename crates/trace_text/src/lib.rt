@@ -1,10 +1,10 @@
-//! Prints the text of a trace and reads it again: one line per happening, followed for a new table by the lines of the
+//! Prints and reads the text of a trace: one line per happening; the line of a new table is followed by the lines of the
 //! table (init-trace(5)).
 #![tactic(auto)]
 
 mod printing;
 mod reading;
-/// The words of a line.
+/// Reads the words of a line.
 pub mod words;
 
 pub use printing::{print, print_one, print_table};

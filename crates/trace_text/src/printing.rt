@@ -44,7 +44,7 @@ fn cause_number(why: Cause) -> u8
     }
 }
 
-/// Appends the words, each preceded by a blank. If memory allocation fails, a part of them may have been appended.
+/// Appends the words, each preceded by a blank. If memory allocation fails, some of them may have been appended.
 fn put_words<A: Allocator>(text: &mut Vec<u8, A>, words: &[&[u8]]) -> Result<(), Memory>
     ensures { OnOk result (text.new.items ≡ text.old.items
         ++ words_behind (map (λ word. word.now) words.now)) }
@@ -56,7 +56,7 @@ fn put_words<A: Allocator>(text: &mut Vec<u8, A>, words: &[&[u8]]) -> Result<(),
     Ok(())
 }
 
-/// Appends the line of these words. If memory allocation fails, a part of it may have been appended.
+/// Appends a line of these words. If memory allocation fails, a part of the line may have been appended.
 fn put_line<A: Allocator>(text: &mut Vec<u8, A>, first: &[u8], rest: &[&[u8]]) -> Result<(), Memory>
     ensures { OnOk result (text.new.items ≡ text.old.items
         ++ line_of_words (first.now ∷ map (λ word. word.now) rest.now)) }
@@ -232,7 +232,7 @@ pub fn print_table<A: Allocator + Copy, B: Allocator>(
     Ok(text)
 }
 
-/// Returns the text of one happening: a line, followed for a new table by the lines of the table.
+/// Returns the text of one happening: its line, and for a new table also the lines of the table.
 pub fn print_one<A: Allocator + Copy, B: Allocator>(
     alloc: A,
     happening: &HappeningIn<B>,

@@ -16,13 +16,13 @@ use text_lines::cut;
 use thiserror::Error;
 use trace_events::{Happening, HappeningIn};
 
-/// The length in bytes of the longest line of a trace, which is that of an inittab entry, without its newline.
+/// The length in bytes of the longest line of a trace, without its newline. That line is an inittab entry.
 pub const LINE_LIMIT: usize = 161;
 
-/// The reason why the text of a trace was not read.
+/// The reason why the text of a trace could not be read.
 #[derive(Clone, Copy, Debug, PartialEq, Eq, Error)]
 pub enum ReadFault {
-    /// No happening begins at the line of this number, counted from 1.
+    /// No happening begins at the line with this number, counted from 1.
     #[error("line {0} does not begin a happening")]
     Line(u64),
     /// Memory allocation failed.
@@ -92,7 +92,7 @@ pub fn first_happening<A: Allocator + Copy>(
 ) -> Result<Option<(HappeningIn<A>, &[u8])>, Memory>
     ensures found { IfOk result (λ found. IfSome found (λ parts.
         (is_in_range parts.0 ≡ true) × (event_text parts.0 ++ parts.1.now ≡ text.now))) }
-    // No other happening begins the text.
+    // The text does not begin with any other happening.
     ensures only { IfOk result (λ found. (happening : Event) (more : List _)
         → is_in_range happening ≡ true → event_text happening ++ more ≡ text.now
         → option_map {U = Begun} (λ parts. (parts.0, parts.1.now)) found ≡ Some (happening, more)) }
@@ -121,12 +121,12 @@ fn keep<A: Allocator>(
     Ok(())
 }
 
-/// Reads the text of a trace, and returns its happenings, oldest first. They are those that print as this text. If the
-/// text is not that of a trace, the fault `Line` gives the number of the first line at which no happening begins.
+/// Reads the text of a trace and returns its happenings, oldest first. Printing them yields the same text. If the text
+/// is not a trace, the fault `Line` gives the number of the first line at which no happening begins.
 pub fn read<A: Allocator + Copy>(alloc: A, text: &[u8]) -> Result<Vec<HappeningIn<A>, A>, ReadFault>
     ensures read { IfOk result (λ trace.
         (are_in_range trace.items ≡ true) × (trace_text trace.items ≡ text.now)) }
-    // No other trace has this text, and a text that is that of a trace is read.
+    // No other trace has this text, and the text of a trace is read unless memory allocation fails.
     ensures only { (trace : List Event) → are_in_range trace ≡ true → trace_text trace ≡ text.now
         → MatchResult result (λ got. got.items ≡ trace) (λ fault. fault ≡ ReadFault.Memory) }
     ensures unread { IfErr result (λ fault. UnreadTrace text.now fault) }

@@ -309,7 +309,7 @@ fn read_five<A: Allocator>(
     None
 }
 
-/// Reads the happening of a line that is split after its first word.
+/// Reads the happening of a line, given its first word and the rest of the line.
 fn read_behind_one<A: Allocator>(word: &[u8], rest: &[u8]) -> Option<HappeningIn<A>>
     ensures { result ≡ words_read (word.now ∷ words_in rest.now) }
 {
