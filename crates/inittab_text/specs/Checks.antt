@@ -1,4 +1,4 @@
--- The nine checks of a line, in their order (inittab(5)).
+-- The nine checks of a line, in order (inittab(5)).
 use Rattle.std.specs.Prelude.{ℕ, Bool, not, ◌&&◌, nat_lt, nat_le, if◌then◌else◌, List, length, Option, Some, None}
 use Rattle.std.specs.Prelude.{is_some, Result, Ok, Err}
 use Rattle.std.specs.List.{list_all}
@@ -17,7 +17,7 @@ use Rattle.inittab_text.specs.Lines.{FieldBytes, fields_of, is_ignored}
 use Rattle.inittab_text.specs.Kept.{kept_of}
 use Rattle.inittab_text.specs.Tables.{entry_of}
 
--- the process is longer than a line allows, counting a leading '+'; an action without a process is not checked
+-- the process is too long, counting a leading '+'; the check does not apply to an action without a process
 abbrev pub is_too_long : Act → List ℕ → Bool
 is_too_long act process = has_process act && nat_lt PROCESS_LIMIT (length process)
 
@@ -29,7 +29,7 @@ is_missing act process = needs_process act && list_all is_blank (without_plus pr
 abbrev pub is_text : List ℕ → Bool
 is_text line = is_utf8 line && not (has_byte 0 line)
 
--- the checks from the process on, for a line with this action that follows these entries
+-- the checks of the process and all later checks, for a line with this action that follows these entries
 unfoldable pub checked_as : Act → List Entry → List ℕ → FieldBytes → Result (Option Entry) LineKind
 checked_as act before line f =
     if is_too_long act f.process then Err fault.Length
@@ -39,7 +39,7 @@ checked_as act before line f =
     else if nat_le ENTRY_LIMIT (length before) then Err fault.Many
     else Ok (Some (kept_of act f))
 
--- the checks from the action on
+-- the check of the action and all later checks
 abbrev pub checked_with : Option Act → List Entry → List ℕ → FieldBytes → Result (Option Entry) LineKind
 checked_with None before line f = Err fault.Action
 checked_with (Some act) before line f = checked_as act before line f
@@ -52,7 +52,7 @@ checked before line (Some f) =
     else if nat_lt MARK_LIMIT (length f.levels) then Err fault.Levels
     else checked_with (act_read f.action) before line f
 
--- a line that follows these entries, after its leading blanks: nothing if it is ignored, an entry, or a fault
+-- the result for a line that follows these entries, after its leading blanks: an entry, none if it is ignored, or a fault
 unfoldable pub verdict_of : List Entry → List ℕ → Result (Option Entry) LineKind
 verdict_of before line =
     let text = skip_blanks line in

@@ -1,4 +1,4 @@
--- The messages for a line that was skipped and for a text that was not read.
+-- The messages for a skipped line and for a text that could not be read.
 use Rattle.std.specs.Prelude.{ℕ, List, ◌++◌, codes, decimal}
 use Rattle.inittab_text.specs.declared.faults.LineKind.{LineKind}
 use Rattle.inittab_text.specs.declared.faults.LineKind.TheVariants as kind
@@ -18,11 +18,11 @@ kind_text kind.Text = codes "bad text"
 kind_text kind.Twice = codes "duplicate id"
 kind_text kind.Many = codes "too many entries"
 
--- the number of the line, and the first check that it fails
+-- the message for a skipped line: its number, and the first check that it fails
 abbrev pub line_fault_text : LineFault → List ℕ
 line_fault_text fault = codes "inittab line " ++ decimal fault.line ++ codes ": " ++ kind_text fault.kind
 
--- also with the number of the part, from 0
+-- the message for a skipped line of a part, with the number of the part, from 0
 abbrev pub part_fault_text : PartFault → List ℕ
 part_fault_text fault =
     codes "inittab part " ++ decimal fault.part ++ codes " line " ++ decimal fault.line ++ codes ": "

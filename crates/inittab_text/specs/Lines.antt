@@ -16,7 +16,7 @@ pub record FieldBytes : Type 0 where
   pub action : List ℕ
   pub process : List ℕ
 
--- a line split at its first three colons; the process is the rest; none if there are fewer colons
+-- the fields of a line, split at its first three colons; none if there are fewer
 abbrev pub fields_of : List ℕ → Option FieldBytes
 fields_of line =
     option_and_then (λ first. option_and_then (λ second. option_map

@@ -6,7 +6,7 @@ use Rattle.inittab_text.specs.declared.faults.LineFault.{LineFault}
 use Rattle.text_lines.specs.Lines.{lines_of}
 use Rattle.inittab_text.specs.Checks.{verdict_of}
 
--- the entries after a line: one more if the line has an entry
+-- the entries after a line: one more if the line is an entry
 abbrev pub entries_after : List Entry → Result (Option Entry) LineKind → List Entry
 entries_after before (Ok (Some e)) = before ++ e ∷ []
 entries_after before (Ok None) = before
@@ -22,7 +22,7 @@ abbrev pub entries_from : List Entry → List (List ℕ) → List Entry
 entries_from before [] = before
 entries_from before (line ∷ lines) = entries_from (entries_after before (verdict_of before line)) lines
 
--- the faults of the lines that follow these entries, counting lines from this number
+-- the faults of the lines that follow these entries; lines are numbered from `number`
 abbrev pub faults_from : List Entry → ℕ → List (List ℕ) → List LineFault
 faults_from before number [] = []
 faults_from before number (line ∷ lines) =

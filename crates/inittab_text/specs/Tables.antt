@@ -1,4 +1,4 @@
--- Tables: lists of entries that are found by id (inittab(5)).
+-- Tables: lists of entries, with lookup by id (inittab(5)).
 use Rattle.std.specs.Prelude.{ℕ, Bool, true, not, ◌&&◌, if◌then◌else◌, List, [], ◌∷◌, map, find, Option, Some, None}
 use Rattle.std.specs.List.{list_any}
 use Rattle.std.specs.Option.{option_map, option_or}
@@ -38,11 +38,11 @@ first_level [] = None
 first_level (At level ∷ marks) = Some level
 first_level (OnCall letter ∷ marks) = first_level marks
 
--- the runlevel that an entry names as the default: the first one of an initdefault entry
+-- the default runlevel that an entry specifies: the first runlevel of an initdefault entry
 abbrev pub default_of : Entry → Option Level
 default_of e = if same_act e.act Initdefault then first_level e.levels.items else None
 
--- the default runlevel: that of the first entry that names one
+-- the default runlevel: the one that the first such entry specifies
 abbrev pub default_level_of : List Entry → Option Level
 default_level_of [] = None
 default_level_of (e ∷ table) = option_or (default_of e) (default_level_of table)

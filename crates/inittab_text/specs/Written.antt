@@ -35,11 +35,11 @@ line_of e = fields_written e ++ 10 ∷ []
 abbrev pub text_of : List Entry → List ℕ
 text_of table = flat_map line_of table
 
--- the table whose written text this is, if any: the table that the text is read as, if writing it gives this text
+-- the table whose written form is this text, if any: the table read from the text, if writing it yields the same text
 abbrev pub table_written : List ℕ → Option (List Entry)
 table_written text = if bytes_eq (text_of (table_of_text text)) text then Some (table_of_text text) else None
 
--- the table whose written text is the next `count` lines, and the text after them
+-- the table whose written form is the next `count` lines, and the text after them
 abbrev pub table_begun : ℕ → List ℕ → Option (List Entry × List ℕ)
 table_begun count text =
     option_and_then
@@ -60,7 +60,7 @@ abbrev pub is_levels : Act → List Mark → Bool
 is_levels act marks =
     nat_le (length marks) MARK_LIMIT && has_no_repeat marks && (if ignores_levels act then is_empty marks else true)
 
--- UTF-8 text without a newline that passes the checks of a process, and is empty if the action has none
+-- UTF-8 text without a newline that passes the checks of a process; empty if the action has no process
 abbrev pub is_process : Act → List ℕ → Bool
 is_process act process =
     not (is_too_long act process) && not (is_missing act process) && is_text process && not (has_byte 10 process)

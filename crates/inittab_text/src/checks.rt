@@ -1,4 +1,4 @@
-//! The checks that decide whether a line of the inittab is ignored, faulty or an entry.
+//! The checks that decide whether a line of the inittab is ignored, is faulty, or is an entry.
 
 ghost use Rattle.std.specs.Prelude.{◌≡◌, ◌≤◌, Some, length};
 ghost use Rattle.text_lines.specs.Lines.{has_byte};
@@ -36,7 +36,7 @@ fn is_text(line: &[u8]) -> bool
     is_utf8(line) && !has_nul(line)
 }
 
-/// Returns whether the process is longer than a line allows.
+/// Returns whether the process field is longer than allowed.
 fn is_too_long(act: Act, process: &[u8]) -> bool
     ensures { result ≡ is_too_long act process.now }
 {
@@ -50,7 +50,7 @@ fn is_missing(act: Act, process: &[u8]) -> bool
     act.needs_process() && is_all_blank(without_plus(process))
 }
 
-/// Returns the entry of a line with these fields, whose id and action were read, or the first further check that it
+/// Returns the entry of a line whose id and action are valid, or the first of the remaining checks that the line
 /// fails.
 #[tactic(auto, unfolding(crate::specs::Checks::checked_as))]
 fn checked_as<A: Allocator>(
@@ -102,7 +102,7 @@ fn checked<A: Allocator>(
     checked_as(act, id, table, line, fields)
 }
 
-/// Checks a line that follows the entries of the table: the result is nothing if it is ignored, an entry, or a fault.
+/// Checks a line that follows the entries of the table. Returns its entry, `None` if it is ignored, or its fault.
 #[tactic(auto, unfolding(crate::specs::Checks::verdict_of))]
 pub(crate) fn verdict_of<A: Allocator>(
     table: &Table<A>,

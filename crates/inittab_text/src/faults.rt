@@ -28,7 +28,7 @@ pub enum LineKind {
     Many,
 }
 
-/// A line that was skipped.
+/// A skipped line.
 #[derive(Clone, Copy, Debug, PartialEq, Eq)]
 pub struct LineFault {
     /// The number of the line, from 1.
@@ -37,7 +37,7 @@ pub struct LineFault {
     pub kind: LineKind,
 }
 
-/// A line of one of several parts that was skipped.
+/// A skipped line of an inittab that consists of several parts.
 #[derive(Clone, Copy, Debug, PartialEq, Eq)]
 pub struct PartFault {
     /// The number of the part, from 0.
@@ -48,7 +48,7 @@ pub struct PartFault {
     pub kind: LineKind,
 }
 
-/// The reason why a table was not read.
+/// The reason why a table could not be read.
 #[derive(Clone, Copy, Debug, PartialEq, Eq)]
 pub enum TableFault {
     /// The text, or all parts together, are longer than 1,048,576 bytes.

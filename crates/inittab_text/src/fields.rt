@@ -8,7 +8,7 @@ use text_lines::cut;
 /// The four fields of a line, `id:runlevels:action:process` (inittab(5)).
 #[derive(Clone, Copy)]
 pub struct Fields<'a> {
-    /// The id as the line has it.
+    /// The id, exactly as in the line.
     pub id: &'a [u8],
     /// The characters of the runlevels field.
     pub levels: &'a [u8],
@@ -21,7 +21,7 @@ pub struct Fields<'a> {
 impl<'a> Fields<'a> {
     ghost use Rattle.inittab_text.specs.Lines.{fields_of, fields_at};
 
-    /// Splits a line at its first three colons; the process is the rest. Returns `None` if there are fewer colons.
+    /// Splits a line at its first three colons. Returns `None` if there are fewer.
     pub fn of(line: &'a [u8]) -> Option<Fields<'a>>
         ensures { option_map fields_at result ≡ fields_of line.now }
     {

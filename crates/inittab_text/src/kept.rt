@@ -1,4 +1,4 @@
-//! What an entry keeps of the fields of a line: the marks of its runlevels, and the process.
+//! The parts of an entry that come from the fields of a line: the marks of its runlevels, and the process.
 
 ghost use Rattle.std.specs.Prelude.{◌≡◌, ◌<◌, ◌≤◌, false, length};
 ghost use Rattle.arrayvec.specs.ArrayVec.{array_vec_len};
@@ -22,7 +22,7 @@ fn add_mark(marks: &mut ArrayVec<Mark, MARK_LIMIT>, code: u8)
     }
 }
 
-/// Returns the marks of a field's characters, each once.
+/// Returns the marks for the characters of a field, without repeats.
 fn marks_of(field: &[u8]) -> ArrayVec<Mark, MARK_LIMIT>
     requires { length field.now ≤ MARK_LIMIT }
     ensures { result.items ≡ marks_of field.now }
@@ -34,7 +34,7 @@ fn marks_of(field: &[u8]) -> ArrayVec<Mark, MARK_LIMIT>
     marks
 }
 
-/// Returns the marks that an entry with this action keeps of its runlevels field.
+/// Returns the marks for the runlevels field of an entry with this action.
 fn levels_kept(act: Act, field: &[u8]) -> ArrayVec<Mark, MARK_LIMIT>
     requires { length field.now ≤ MARK_LIMIT }
     ensures { result.items ≡ levels_kept act field.now }
@@ -48,7 +48,7 @@ fn levels_kept(act: Act, field: &[u8]) -> ArrayVec<Mark, MARK_LIMIT>
     marks_of(field)
 }
 
-/// Returns what an entry with this action keeps of its process field.
+/// Returns the process of an entry with this action: its process field, or nothing if the action has no process.
 fn process_kept(act: Act, field: &[u8]) -> ArrayVec<u8, PROCESS_LIMIT>
     requires { is_too_long act field.now ≡ false }
     ensures { result.items ≡ process_kept act field.now }
@@ -60,7 +60,7 @@ fn process_kept(act: Act, field: &[u8]) -> ArrayVec<u8, PROCESS_LIMIT>
     process
 }
 
-/// Builds the entry of a line from its fields, after the id and the action were read.
+/// Builds the entry of a line from its id, its action and its fields.
 pub(crate) fn entry_of(id: Id, act: Act, fields: &Fields) -> Entry
     requires id { fields.now.id.now ≡ id }
     requires levels { length fields.now.levels.now ≤ MARK_LIMIT }

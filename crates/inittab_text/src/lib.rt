@@ -1,8 +1,8 @@
 //! The reader and writer of inittab(5).
 //!
-//! A text is read line by line into a table of entries, kept in their order and found by id. A line that fails a check
-//! is skipped and reported as a fault. Several texts are read one after the other, each line by line. A table is
-//! written with one line per entry, and reading what was written gives the same table.
+//! The reader turns a text, or several texts in order, into a table of entries, which keeps the order of the lines and
+//! finds entries by id. It skips each line that fails a check, and reports it as a fault. The writer writes one line per
+//! entry; reading these lines yields the same table.
 #![tactic(auto)]
 
 mod checks;

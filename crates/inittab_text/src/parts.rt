@@ -15,10 +15,10 @@ use crate::tables::Table;
 use init_words::Part;
 use std::alloc::Allocator;
 
-/// The maximum number of parts that a table is read from.
+/// The maximum number of parts of an inittab.
 pub const PART_LIMIT: usize = 256;
 
-/// Returns whether all parts together are longer than a text may be.
+/// Returns whether all parts together exceed the maximum length of a text.
 fn are_too_long<A: Allocator>(parts: &[Part<A>]) -> bool
     ensures { result ≡ nat_lt TEXT_LIMIT (size_of_texts (texts_of parts.now)) }
 {
@@ -52,7 +52,7 @@ fn add_faults<A: Allocator>(
     Ok(())
 }
 
-/// Adds the entries of a part's lines to the table, and their faults to the faults.
+/// Adds the entries of a part's lines to the table, and the faults of its other lines to `faults`.
 fn take_part<A: Allocator + Copy>(
     alloc: A,
     table: &mut Table<A>,
@@ -70,7 +70,7 @@ fn take_part<A: Allocator + Copy>(
     add_faults(faults, part, &found)
 }
 
-/// Reads parts that are within the limits on number and size.
+/// Reads parts whose number and total size are within the limits.
 fn read_fitting<A: Allocator + Copy, B: Allocator>(
     alloc: A,
     parts: &[Part<B>],
@@ -91,11 +91,11 @@ fn read_fitting<A: Allocator + Copy, B: Allocator>(
     Ok((table, faults))
 }
 
-/// Reads an inittab(5) that consists of several parts, in their order: the entries of the lines that pass all checks,
-/// and the faults of the others.
+/// Reads an inittab(5) that consists of several parts, in order. Returns the entries of the lines that pass all checks,
+/// and the faults of the other lines.
 ///
-/// Each part is split into lines by itself, and an entry is checked against those of all earlier parts. More than 256
-/// parts, or more than 1,048,576 bytes in all parts together, are rejected.
+/// A line never spans two parts. An id must not occur in an earlier part. Fails if there are more than 256 parts, or if
+/// they have more than 1,048,576 bytes together.
 pub fn read_parts<A: Allocator + Copy, B: Allocator>(
     alloc: A,
     parts: &[Part<B>],

@@ -16,7 +16,7 @@ use text_lines::first_line;
 /// The maximum length of a text in bytes.
 pub const TEXT_LIMIT: usize = 1_048_576;
 
-/// Adds the entry of a line to the table, or its fault to the faults.
+/// Adds the entry of a line to the table, or the fault of the line to `faults`.
 fn take_line<A: Allocator>(
     table: &mut Table<A>,
     faults: &mut Vec<LineFault, A>,
@@ -62,9 +62,11 @@ pub(crate) fn take_text<A: Allocator + Copy>(
     Ok(faults)
 }
 
-/// Reads an inittab(5): the entries of the lines that pass all checks, and the faults of the others in line order.
+/// Reads an inittab(5). Returns the entries of the lines that pass all checks, and the faults of the others, in line
+/// order.
 ///
-/// A text longer than 1,048,576 bytes is rejected. The result is that of `read_parts` for the text as its only part.
+/// Fails if the text is longer than 1,048,576 bytes. The result is the same as `read_parts` with this text as the only
+/// part.
 pub fn read<A: Allocator + Copy>(
     alloc: A,
     text: &[u8],

@@ -1,4 +1,4 @@
-//! A table: the entries of an inittab in their order, which are found by id.
+//! A table: the entries of an inittab in order, with lookup by id.
 
 ghost use Rattle.std.specs.Prelude.{◌≡◌, ℕ, List, None, length, slice_get, option_copied, OnOk, OnErr, ◌++◌, [], ◌∷◌};
 ghost use Rattle.init_words.specs.declared.entries.Entry.{Entry};
@@ -57,7 +57,7 @@ impl<A: Allocator> Table<A> {
     ghost use Rattle.inittab_text.specs.Written.{is_written, is_table};
     ghost use Rattle.std.specs.Prelude.{true, ◌<◌, Some, IfOk};
 
-    /// Returns the number of entries: at most 4,096, each as reading keeps it, with no id twice.
+    /// Returns the number of entries, at most 4,096. Each is one that reading can produce, and no id occurs twice.
     pub fn len(&self) -> usize
         ensures value { result ≡ length self.now }
         ensures table { is_table self.now ≡ true }
@@ -72,7 +72,7 @@ impl<A: Allocator> Table<A> {
         ensures table { is_table self.now ≡ true }
         ensures distinct { is_distinct self.now ≡ true }
     {
-        // The contract of `len` states what a table is; that of `values` does not.
+        // The contract of `len` states the properties of a table; the contract of `values` does not.
         let _ = self.len();
         self.entries.values().as_slice()
     }
@@ -85,7 +85,7 @@ impl<A: Allocator> Table<A> {
         Some(entry)
     }
 
-    /// Copies the table into memory of another allocator.
+    /// Returns a copy of the table, allocated with `alloc`.
     pub fn copy<B: Allocator + Copy>(&self, alloc: B) -> Result<Table<B>, Memory>
         ensures { IfOk result (λ copy. copy ≡ self.now) }
     {
@@ -104,7 +104,7 @@ impl<A: Allocator> Table<A> {
         self.entries.get(id)
     }
 
-    /// Returns the default runlevel: the first one named by the first initdefault entry that names one (inittab(5)).
+    /// Returns the default runlevel: the first runlevel of the first initdefault entry that has one (inittab(5)).
     pub fn default_level(&self) -> Option<Level>
         ensures { result ≡ default_level_of self.now }
     {

@@ -23,7 +23,7 @@ fn codes_of(marks: &[Mark]) -> ArrayVec<u8, MARK_LIMIT>
     codes
 }
 
-/// Returns the runlevels field as it is written.
+/// Returns the runlevels field of a written entry.
 fn levels_written(act: Act, marks: &[Mark]) -> ArrayVec<u8, MARK_LIMIT>
     requires { length marks.now ≤ MARK_LIMIT }
     ensures { result.items ≡ levels_written act marks.now }
@@ -35,7 +35,7 @@ fn levels_written(act: Act, marks: &[Mark]) -> ArrayVec<u8, MARK_LIMIT>
     field
 }
 
-/// Appends a field and the byte that ends it. If memory allocation fails, a part of it may have been appended.
+/// Appends a field and the byte `end`. If memory allocation fails, a part of the field may have been appended.
 fn write_field<A: Allocator>(text: &mut Vec<u8, A>, field: &[u8], end: u8) -> Result<(), Memory>
     ensures ok { OnOk result (text.new.items ≡ text.old.items ++ (field.now ++ end ∷ [])) }
     ensures err { OnErr result (take (length text.old.items) text.new.items ≡ text.old.items) }
@@ -45,7 +45,7 @@ fn write_field<A: Allocator>(text: &mut Vec<u8, A>, field: &[u8], end: u8) -> Re
     Ok(())
 }
 
-/// Appends the line of an entry. If memory allocation fails, a part of it may have been appended.
+/// Appends the line of an entry. If memory allocation fails, a part of the line may have been appended.
 fn write_fields<A: Allocator>(text: &mut Vec<u8, A>, entry: &Entry) -> Result<(), Memory>
     ensures ok { OnOk result (text.new.items ≡ text.old.items ++ line_of entry.now) }
     ensures err { OnErr result (take (length text.old.items) text.new.items ≡ text.old.items) }
@@ -72,7 +72,7 @@ pub fn write_line<A: Allocator>(text: &mut Vec<u8, A>, entry: &Entry) -> Result<
 }
 
 /// Writes a table as an inittab(5), with one line per entry. The text is never too long to be read, and reading it
-/// gives the same table and no faults.
+/// yields the same table without faults.
 pub fn write<A: Allocator + Copy, B: Allocator>(
     alloc: A,
     table: &Table<B>,

@@ -1,4 +1,4 @@
-//! Reads back a table that was written. A text that differs from what would be written is rejected.
+//! Reads a table back from its written form. Any other text is rejected.
 
 ghost use Rattle.std.specs.Prelude.{◌≡◌, ◌≢◌, List, option_map, Some, false, true, IfOk, IfSome, IfNone, OnOk};
 ghost use Rattle.init_words.specs.declared.entries.Entry.{Entry};
@@ -14,7 +14,7 @@ use init_words::Memory;
 use std::alloc::Allocator;
 use text_lines::{after_lines, first_line};
 
-/// Adds the entry of a line to the table, if the line has one.
+/// Adds the entry of a line to the table, if the line is an entry.
 fn keep_line<A: Allocator>(table: &mut Table<A>, line: &[u8]) -> Result<(), Memory>
     requires { has_byte 10 line.now ≡ false }
     ensures { OnOk result (table.new ≡ entries_after table.old (verdict_of table.old line.now)) }
@@ -25,7 +25,7 @@ fn keep_line<A: Allocator>(table: &mut Table<A>, line: &[u8]) -> Result<(), Memo
     Ok(())
 }
 
-/// Returns the entries of the lines that have one.
+/// Returns the table of all lines that are entries.
 fn read_entries<A: Allocator + Copy>(alloc: A, text: &[u8]) -> Result<Table<A>, Memory>
     ensures { IfOk result (λ table. table ≡ table_of_text text.now) }
 {
@@ -39,7 +39,7 @@ fn read_entries<A: Allocator + Copy>(alloc: A, text: &[u8]) -> Result<Table<A>, 
     Ok(table)
 }
 
-/// Returns the table that the text is read as, if writing it gives this text.
+/// Returns the table read from the text, if writing that table yields the same text.
 fn table_written<A: Allocator + Copy>(alloc: A, text: &[u8]) -> Result<Option<Table<A>>, Memory>
     ensures { IfOk result (λ got. got ≡ table_written text.now) }
 {
@@ -51,7 +51,7 @@ fn table_written<A: Allocator + Copy>(alloc: A, text: &[u8]) -> Result<Option<Ta
     Ok(Some(table))
 }
 
-/// Returns the table whose written text the bytes are, or `None` if there is none. The bytes may have any length.
+/// Returns the table whose written form is this text, or `None` if there is none. The text may have any length.
 pub fn read_written<A: Allocator + Copy>(alloc: A, text: &[u8]) -> Result<Option<Table<A>>, Memory>
     ensures value { IfOk result (λ got. got ≡ table_written text.now) }
     ensures found { IfOk result (λ got. IfSome got (λ table. text_of table ≡ text.now)) }
@@ -64,8 +64,8 @@ pub fn read_written<A: Allocator + Copy>(alloc: A, text: &[u8]) -> Result<Option
     table_written(alloc, text)
 }
 
-/// Returns the table whose written text is the next `count` lines, and the text after them, or `None` if these lines
-/// are not a written table.
+/// Returns the table whose written form is the next `count` lines, and the text after them, or `None` if these lines
+/// are not the written form of a table.
 pub fn table_begun<A: Allocator + Copy>(
     alloc: A,
     count: usize,

@@ -1,4 +1,5 @@
--- How a happening changes each part of the checker's state: for each id, the value after it by the value before it.
+-- How a happening changes each part of the checker's state. Each definition gives the value after the happening,
+-- given the value before it.
 use Rattle.std.specs.Prelude.{◌≡◌, is_some, ℕ, Bool, false, not, ◌&&◌, ◌||◌, ◌-◌, ◌==◌, if◌then◌else◌, max, min, List}
 use Rattle.std.specs.Prelude.{[], ◌∷◌, take, Option, Some, None}
 use Rattle.std.specs.Option.{option_map_or}
@@ -36,17 +37,17 @@ order_after (Asked i ask) id before = if same_id id i then Some ask else before
 order_after (Told i) id before = if same_id id i then None else before
 order_after _ id before = before
 
--- an id has a kept child, where `is_alive` says which ids had an unreaped one
+-- an id has a kept child; `is_alive` says which ids had an unreaped child before the happening
 abbrev pub kept_after : (List ℕ → Bool) → Event → List ℕ → Bool → Bool
 kept_after is_alive (Birth i n) id before = same_id id i || before
 kept_after is_alive (Told i) id before = if same_id id i then is_alive i else before
 kept_after is_alive _ id before = before
 
--- an id has different actions in the two tables, or none in one of them
+-- an id has different actions in the two tables, or is missing from at least one of them
 abbrev pub is_changed : List ℕ → List Entry → List Entry → Bool
 is_changed id table before = not (same_acts (act_of id table) (act_of id before))
 
--- a Start of an id was ordered since the last Enter and since the last table that brought the id
+-- a Start of an id was ordered since the last Enter and since the last table that added or changed the id
 abbrev pub asked_after : List Entry → Event → List ℕ → Bool → Bool
 asked_after table (Enter stage grace) id before = false
 asked_after table (NewTable next) id before =
@@ -60,7 +61,7 @@ is_named (Power kind) e = is_called_by kind e.act
 is_named (Call letter) e = is_ondemand e.act && names (OnCall letter) e.levels.items
 is_named _ e = false
 
--- an entry of the id is named, and starts in the stage
+-- the happening names an entry of the id that starts in the stage
 abbrev pub is_named_at : List Entry → Option Stage → Event → List ℕ → Bool
 is_named_at table stage happening id = list_any (λ e. has_id id e && (is_named happening e && starts_in e stage)) table
 
@@ -77,14 +78,14 @@ called_after table stage (Call letter) id before = is_named_at table stage (Call
 called_after table stage (Asked i Start) id before = (stays_called_in table id || not (same_id id i)) && before
 called_after table stage _ id before = before
 
--- a TERM of the id was sent and has not been told, where `open_order` gives the open order of each id
+-- a TERM was sent for the id of which init has not learned; `open_order` is the open order of each id before
 abbrev pub sent_after : (List ℕ → Option OrderKind) → Event → List ℕ → Bool → Bool
 sent_after open_order (Birth i n) id before = not (same_id id i) && before
 sent_after open_order (Told i) id before = not (same_id id i) && before
 sent_after open_order (Hit i) id before = same_id id i && is_order Term (open_order i) || before
 sent_after open_order _ id before = before
 
--- the times of the last ten Starts of an id, the newest first
+-- the times of the last ten Starts of an id, newest first
 abbrev pub starts_after : ℕ → Event → List ℕ → List ℕ → List ℕ
 starts_after time (NewTable next) id before = []
 starts_after time (Enter next grace) id before = []
@@ -98,11 +99,11 @@ hold_after time (Enter next grace) id before = None
 hold_after time (Hold i) id before = if same_id id i then Some time else before
 hold_after time _ id before = before
 
--- there is a child, and it has this number
+-- the child exists and has this number
 abbrev pub is_numbered : ℕ → Option UnreapedChild → Bool
 is_numbered number child = option_map_or (λ living. number == living.number) child false
 
--- the unreaped child of an id, where `child` gives that of each id before the happening
+-- the unreaped child of an id; `child` is the unreaped child of each id before the happening
 abbrev pub child_after : List Entry → (List ℕ → Option UnreapedChild) → Event → List ℕ → Option UnreapedChild
 child_after table child (Birth i n) id =
     if same_id id i then Some (record { number = n; act = act_of i table }) else child id
@@ -120,12 +121,12 @@ abbrev pub is_child_excluded : List Entry → Option Stage → (List ℕ → Opt
 is_child_excluded table stage child id =
     option_map_or (λ living. not (may_live (entry_of id table) living.act stage)) (child id) false
 
--- the earlier of two times, or the one that there is
+-- the earlier of two times, of which the second may be missing
 abbrev pub earliest : ℕ → Option ℕ → ℕ
 earliest time None = time
 earliest time (Some other) = min time other
 
--- the time at which the first TERM in the spell of an id's child was told, where `child`, `is_sent` and `term` give the
+-- the time at which init learned of the first TERM in the spell of the id's child; `child`, `is_sent` and `term` are the
 -- values before the happening
 abbrev pub term_after : List Entry → Option Stage → ℕ → (List ℕ → Option UnreapedChild) → (List ℕ → Bool)
     → (List ℕ → Option ℕ) → Event → List ℕ → Option ℕ
@@ -141,7 +142,7 @@ term_after table stage time child is_sent term (Enter next grace) id =
     if child_may_live table (Some next) child id then None else term id
 term_after table stage time child is_sent term _ id = term id
 
--- the state was updated by the happening, given the table in force before it
+-- each part of the new state follows from the old state, the happening, and the table in force before it
 pub record StateAfterHappening (table : List Entry) (old new : JudgeState) (happening : Event) : Type 0 where
   pub stage : new.stage ≡ stage_after happening old.stage
   pub grace : new.grace ≡ grace_after happening old.grace

@@ -1,5 +1,5 @@
--- The law that a happening breaks, according to the state and the table. Each definition is that of `trace_events`,
--- read off the state instead of the past.
+-- The law that a happening breaks, computed from the state and the table. Each definition corresponds to one of
+-- `trace_events`, which uses the past instead of the state.
 use Rattle.std.specs.Prelude.{◌≡◌, IsTrue, ℕ, Bool, true, false, not, ◌&&◌, ◌||◌, ◌-◌, if◌then◌else◌, nat_lt, nat_le}
 use Rattle.std.specs.Prelude.{List, slice_get, take, find, Option, Some, None, is_none, is_some}
 use Rattle.std.specs.Map.{keys_of}
@@ -30,8 +30,8 @@ none_excluded_in table s = not (list_any (is_excluded_in table s) (keys_of s.chi
 abbrev pub NoneExcludedIfCalm : Bool → List Entry → JudgeState → Type 0
 NoneExcludedIfCalm calm table s = IsTrue calm → (id : List ℕ) → is_excluded_in table s id ≡ false
 
--- `calm` after a happening that breaks no law: a birth and a settled level are lawful only if no child is excluded, and
--- a new stage or table may exclude one
+-- `calm` after a happening that breaks no law: it becomes true at a birth and a settled level, which are lawful only if no
+-- child is excluded, and false at a new stage or table, which may exclude one
 abbrev pub calm_after : Event → Bool → Bool
 calm_after (Birth id number) calm = true
 calm_after (Settle level) calm = true
@@ -72,8 +72,8 @@ IsUnowedPrefix count table s = list_any (is_owed_in s) (take count table) ≡ fa
 abbrev pub is_over_with : List Entry → JudgeState → List ℕ → Bool
 is_over_with table s id = option_map_or (λ e. waited_of e && not (is_owed_in s e)) (entry_of id table) false
 
--- the number of first entries known not to be owed: a stage, a table or a call may make any entry owed, and a happening
--- of an id its own entry, if init waits for it and it was not owed
+-- the number of entries at the front of the table known not to be owed: a stage, a table or a call may make any entry
+-- owed, and a happening about an id may make the entry of this id owed, if init waits for it and it was not owed
 abbrev pub unowed_count_after : List Entry → JudgeState → Event → ℕ → ℕ
 unowed_count_after table s (Enter stage grace) count = 0
 unowed_count_after table s (NewTable next) count = 0
@@ -97,11 +97,11 @@ is_full_in s id =
 abbrev pub is_limited_in : List Entry → List ℕ → Bool
 is_limited_in table id = option_map_or is_limited (act_of id table) false
 
--- a start of the id keeps the respawn limit
+-- the respawn limit allows a start of the id now
 abbrev pub is_free_in : List Entry → JudgeState → List ℕ → Bool
 is_free_in table s id = not (is_limited_in table id) || not (is_held_in s id) && not (is_full_in s id)
 
--- a hold of the id keeps the respawn limit
+-- the respawn limit allows a hold of the id now
 abbrev pub is_due_hold_in : List Entry → JudgeState → List ℕ → Bool
 is_due_hold_in table s id = is_limited_in table id && not (is_held_in s id) && is_full_in s id
 
@@ -115,7 +115,7 @@ abbrev pub is_settled_in : Level → List Entry → JudgeState → Bool
 is_settled_in level table s =
     is_level level s.stage && none_excluded_in table s && list_all (is_served_in level s) table
 
--- the grace period has passed since the first TERM of the spell was told
+-- the grace period has passed since init learned of the first TERM of the spell
 abbrev pub is_over_in : JudgeState → List ℕ → Bool
 is_over_in s id =
     option_map_or (λ told. nat_le told s.time && nat_le s.grace (s.time - told)) (at id s.termed) false
@@ -124,13 +124,13 @@ is_over_in s id =
 abbrev pub may_kill_in : List Entry → JudgeState → List ℕ → Bool
 may_kill_in table s id = is_excluded_in table s id && is_over_in s id
 
--- the law with the smallest number that a birth breaks
+-- the number of the lowest-numbered law that a birth breaks, if any
 abbrev pub flaw_of_birth : List Entry → JudgeState → List ℕ → Option ℕ
 flaw_of_birth table s id =
     if is_alive s id then Some 1 else if not (is_placed_in table s id) then Some 2
     else if not (is_in_turn_in table s id) then Some 3 else if not (none_excluded_in table s) then Some 4 else None
 
--- the law with the smallest number that the happening breaks
+-- the number of the lowest-numbered law that the happening breaks, if any
 abbrev pub flaw_in : List Entry → JudgeState → Event → Option ℕ
 flaw_in table s (Birth id number) = flaw_of_birth table s id
 flaw_in table s (Settle level) = if not (is_settled_in level table s) then Some 5 else None

@@ -1,4 +1,4 @@
--- The state agrees with the past: one equation for each of its parts.
+-- Agreement of the checker's state with the past: one equation for each part of the state.
 use Rattle.std.specs.Prelude.{◌≡◌, ℕ, Bool, false, List, [], ◌∷◌, take, if◌then◌else◌, find, Option, Some, None}
 use Rattle.std.specs.List.{list_any}
 use Rattle.std.specs.Option.{option_map, option_map_or}
@@ -15,7 +15,7 @@ use Rattle.trace_check.specs.After.{earliest}
 abbrev pub calls_of : List ℕ → List Event → Bool
 calls_of id past = option_map_or (λ e. is_called e past) (entry_of id (table_of past)) false
 
--- a TERM of the id was sent and has not been told
+-- a TERM was sent for the id of which init has not learned
 abbrev pub has_sent : List ℕ → List Event → Bool
 has_sent id past = list_any (is_order Term) (untold_hits id past)
 
@@ -28,7 +28,7 @@ abbrev pub newest : List ℕ → Option ℕ
 newest [] = None
 newest (time ∷ times) = Some time
 
--- a child in the form in which the state keeps it
+-- a child, in the form in which the state keeps it
 abbrev pub living_of : Child → UnreapedChild
 living_of child = record { number = child.number; act = child.act }
 
@@ -38,12 +38,12 @@ least_term [] = None
 least_term (signal ∷ signals) =
     if is_order Term signal.order then Some (earliest signal.time (least_term signals)) else least_term signals
 
--- the earliest time of a TERM in the spell of the child, if there is a child
+-- the earliest time at which init learned of a TERM in the spell of the child, if there is a child
 abbrev pub term_of : List Event → Option Child → Option ℕ
 term_of past None = None
 term_of past (Some child) = least_term (spell_hits child past)
 
--- each part of the state has the value that the past gives it
+-- each part of the state has the value that the past determines
 pub record Reads (s : JudgeState) (past : List Event) : Type 0 where
   pub stage : s.stage ≡ stage_of past
   pub grace : s.grace ≡ grace_of past

@@ -1,4 +1,4 @@
--- The state of the checker between two happenings, and how its lists are read.
+-- The state of the checker between two happenings, and lookups in its lists.
 use Rattle.std.specs.Prelude.{ℕ, Bool, List, [], Option, Some, None}
 use Rattle.std.specs.Map.{lookup}
 use Rattle.std.specs.List.{list_any}
@@ -23,8 +23,8 @@ abbrev pub times_at : List ℕ → List (List ℕ × List ℕ) → List ℕ
 times_at id starts = times_or_none (at id starts)
 
 -- the stage, the seconds between SIGTERM and SIGKILL, and the time; the open orders; the ids that have a kept child,
--- that were asked, whose entry is called, and that were sent a TERM of which init was not told; for each id its last
--- starts, its last hold, its unreaped child, and the time at which the first TERM in the child's spell was told
+-- were asked, have a called entry, and were sent a TERM of which init has not learned; for each id, its last starts, its
+-- last hold, its unreaped child, and the time at which init learned of the first TERM in the child's spell
 pub record JudgeState : Type 0 where
   pub stage : Option Stage
   pub grace : ℕ

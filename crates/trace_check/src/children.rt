@@ -1,4 +1,4 @@
-//! The unreaped children in the state of the checker.
+//! The unreaped children, as kept in the checker's state.
 
 ghost use Rattle.std.specs.Prelude.{◌≡◌, ◌<◌, ℕ, List, option_copied};
 ghost use Rattle.trace_check.specs.Words.{spare};
@@ -19,7 +19,7 @@ pub(crate) struct UnreapedChild {
     pub(crate) act: Option<Act>,
 }
 
-/// Updates the unreaped child of each id. There must be room for one more.
+/// Updates the unreaped children for a happening. The map must have room for one more.
 pub(crate) fn take_child<A: Allocator, B: Allocator>(
     children: &mut ById<UnreapedChild, A>,
     table: &Table<A>,
@@ -46,7 +46,7 @@ pub(crate) fn take_child<A: Allocator, B: Allocator>(
     }
 }
 
-/// Returns whether there is a child and it has this number.
+/// Returns whether the child exists and has this number.
 pub(crate) fn is_numbered(child: Option<&UnreapedChild>, number: ChildNumber) -> bool
     ensures { result ≡ is_numbered number (option_copied child.entry) }
 {

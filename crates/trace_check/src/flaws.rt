@@ -30,7 +30,7 @@ impl<A: Allocator> Judge<A> {
     ghost use Rattle.std.specs.List.{list_any, list_all};
     ghost use Rattle.trace_check.specs.Flaws.{is_alive, is_excluded_in, none_excluded_in, NoneExcludedIfCalm, is_placed_in, is_starting, is_wanted_in, is_owed_in, is_in_turn_in, IsUnowedPrefix, is_over_with, unowed_count_after, first_owed_in, is_held_in, is_full_in, is_free_in, is_due_hold_in, is_served_in, is_settled_in, is_over_in, may_kill_in, flaw_of_birth, flaw_in};
 
-    /// Returns the law with the smallest number that the happening breaks, given the table in force before it.
+    /// Returns the lowest-numbered law that the happening breaks, given the table in force before it.
     pub(crate) fn flaw<B: Allocator>(
         &self,
         table: &Table<A>,
@@ -94,7 +94,7 @@ impl<A: Allocator> Judge<A> {
         is_child_excluded(table, self.stage, &self.children, id)
     }
 
-    /// Returns whether no child is excluded. The children are examined only if that is not known already.
+    /// Returns whether no child is excluded. If `calm` is set, this is known without looking at the children.
     fn none_excluded(&self, table: &Table<A>, calm: bool) -> bool
         requires { NoneExcludedIfCalm calm table.now self.now }
         ensures { result ≡ none_excluded_in table.now self.now }
@@ -135,7 +135,7 @@ impl<A: Allocator> Judge<A> {
         starts_in(entry, self.stage) && entry.act.is_wanted(idle, !asked, called)
     }
 
-    /// Returns whether the entry is owed: init waits for it, and it is not done.
+    /// Returns whether the entry is owed: init waits for it, and it has not finished.
     pub(crate) fn is_owed(&self, entry: &Entry) -> bool
         ensures { result ≡ is_owed_in self.now entry.now }
     {
@@ -170,7 +170,7 @@ impl<A: Allocator> Judge<A> {
         self.find_owed(table, id)
     }
 
-    /// Returns the same, by a search that begins at the first entry.
+    /// Returns the first owed entry before that of the id, searching from the first entry of the table.
     fn find_owed<'a>(&self, table: &'a Table<A>, id: &Id) -> Option<&'a Entry>
         ensures { option_copied result ≡ first_owed_in table.now self.now id.now }
     {
@@ -187,7 +187,7 @@ impl<A: Allocator> Judge<A> {
     }
 
     /// Returns the number of entries at the front of the table that are known not to be owed, given that the first
-    /// `unowed` are not. They are counted further only before a birth, for which a law depends on them.
+    /// `unowed` are not. It counts beyond `unowed` only before a birth, because only then does a law depend on it.
     pub(crate) fn unowed_before<B: Allocator>(
         &self,
         table: &Table<A>,
@@ -216,7 +216,7 @@ impl<A: Allocator> Judge<A> {
         table.len().max(unowed)
     }
 
-    /// Returns whether init waits for the entry of the id, and the entry is not owed.
+    /// Returns whether init waits for the entry of the id, but the entry is not owed.
     fn is_over_with(&self, table: &Table<A>, id: &Id) -> bool
         ensures { result ≡ is_over_with table.now self.now id.now }
     {
@@ -308,7 +308,7 @@ impl<A: Allocator> Judge<A> {
             && self.all_served(level, table)
     }
 
-    /// Returns whether the grace period has passed since the first TERM in the child's spell was told.
+    /// Returns whether the grace period has passed since init learned of the first TERM in the child's spell.
     fn is_over(&self, id: &Id) -> bool
         ensures { result ≡ is_over_in self.now id.now }
     {
@@ -325,8 +325,8 @@ impl<A: Allocator> Judge<A> {
     }
 }
 
-/// Returns whether certainly no child is excluded after a happening that broke no law, given whether this was certain
-/// before it.
+/// Returns whether it is certain that no child is excluded after a happening that broke no law, given whether this was
+/// certain before the happening.
 pub(crate) fn calm_after<B: Allocator>(happening: &HappeningIn<B>, calm: bool) -> bool
     ensures { result ≡ calm_after happening.now calm }
 {

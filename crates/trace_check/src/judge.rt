@@ -17,9 +17,9 @@ use trace_events::HappeningIn;
 
 /// The state of the checker between two happenings: everything that the laws depend on, except the table.
 ///
-/// `kept`, `asked`, `called` and `sent` are the ids that have a kept child, that were asked, whose entry is called, and
-/// that were sent a TERM of which init was not told. `termed` has the time at which the first TERM in the spell of an
-/// id's child was told.
+/// `kept`, `asked` and `called` are the ids that have a kept child, were asked, and have a called entry. `sent` are the
+/// ids that were sent a TERM of which init has not learned. `termed` has, for each id, the time at which init learned of
+/// the first TERM in the spell of the id's child.
 #[derive(Drop)]
 pub(crate) struct Judge<A: Allocator> {
     pub(crate) stage: Option<Stage>,
@@ -81,7 +81,7 @@ impl<A: Allocator + Copy> Judge<A> {
         }
     }
 
-    /// Updates the state by a happening, given the table in force before it. If memory allocation fails, the state is
+    /// Updates the state for a happening, given the table in force before it. If memory allocation fails, the state is
     /// unchanged.
     pub(crate) fn take<B: Allocator>(
         &mut self,

@@ -5,10 +5,10 @@ ghost use Rattle.trace_check.specs.Laws.{law_number, law_words};
 
 use std::fmt;
 
-/// A law that every run of an init(8) obeys.
+/// A law that every run of init(8) must obey.
 #[derive(Clone, Copy, PartialEq, Eq)]
 pub enum Law {
-    /// A child is born only to an id without an unreaped child.
+    /// A child is born only if its id has no unreaped child.
     SecondChild,
     /// A child is born only in a stage in which its entry starts.
     OutOfStage,
@@ -18,7 +18,7 @@ pub enum Law {
     BesideExcluded,
     /// A level is announced settled only if it is settled.
     NotSettled,
-    /// The respawn limit is observed.
+    /// An entry that respawns too fast is held instead of started, and no other entry is held.
     RespawnLimit,
     /// SIGTERM is sent only to an excluded child, and SIGKILL only after SIGTERM and the grace period.
     SignalNotDue,

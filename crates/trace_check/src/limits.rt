@@ -14,7 +14,7 @@ use std::alloc::Allocator;
 use std::marker::Model;
 use trace_events::{Happening, HappeningIn};
 
-/// The times of the last ten starts of an id, in seconds, the newest first.
+/// The times of the last ten starts of an id, in seconds, newest first.
 #[derive(Drop)]
 pub(crate) struct Starts {
     times: ArrayVec<u64, STARTS>,
@@ -38,7 +38,7 @@ impl Starts {
         Starts { times }
     }
 
-    /// Adds a start. The oldest of eleven starts is dropped.
+    /// Adds a start, and drops the oldest one if there are more than ten.
     pub(crate) fn note(&mut self, time: u64)
         ensures { self.new ≡ time ∷ take (STARTS - 1) self.old }
     {
@@ -58,7 +58,7 @@ impl Starts {
     }
 }
 
-/// Updates the last starts of each id. There must be room for one more.
+/// Updates the last starts of each id for a happening. The map must have room for one more.
 pub(crate) fn take_start<A: Allocator + Copy, B: Allocator>(
     starts: &mut ById<Starts, A>,
     time: u64,
@@ -88,7 +88,7 @@ fn note_start<A: Allocator>(starts: &mut ById<Starts, A>, id: Id, time: u64)
     put(starts, id, Starts::first(time));
 }
 
-/// Updates the last hold of each id. There must be room for one more.
+/// Updates the last hold of each id for a happening. The map must have room for one more.
 pub(crate) fn take_hold<A: Allocator + Copy, B: Allocator>(
     holds: &mut ById<u64, A>,
     time: u64,

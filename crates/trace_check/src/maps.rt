@@ -30,14 +30,14 @@ pub(crate) fn no_ids<A: Allocator + Copy>(alloc: A) -> Ids<A>
     IndexSet::new(alloc)
 }
 
-/// Removes all entries and frees their memory, so the map costs only what is added afterwards.
+/// Removes all entries and frees their memory.
 pub(crate) fn forget_all<V: Drop, A: Allocator + Copy>(map: &mut ById<V, A>)
     ensures { map.new.entries ≡ [] }
 {
     *map = empty_map(*map.allocator());
 }
 
-/// Removes all ids and frees their memory, so the set costs only what is added afterwards.
+/// Removes all ids and frees their memory.
 pub(crate) fn forget_ids<A: Allocator + Copy>(ids: &mut Ids<A>)
     ensures { ids.new.keys ≡ [] }
 {
@@ -62,7 +62,7 @@ pub(crate) fn room_for<A: Allocator>(ids: &mut Ids<A>, count: usize) -> Result<(
     Ok(())
 }
 
-/// Sets the value of the id. There must be room for it.
+/// Sets the value of the id. The map must have room for it.
 pub(crate) fn put<V: Drop, A: Allocator>(map: &mut ById<V, A>, id: Id, value: V)
     requires { 0 < spare map.old }
     ensures { (other : List ℕ) → at other map.new.entries
@@ -73,7 +73,7 @@ pub(crate) fn put<V: Drop, A: Allocator>(map: &mut ById<V, A>, id: Id, value: V)
     };
 }
 
-/// Adds the id. There must be room for it.
+/// Adds the id. The set must have room for it.
 pub(crate) fn add<A: Allocator>(ids: &mut Ids<A>, id: Id)
     requires { 0 < set_spare ids.old }
     ensures added { (other : List ℕ) → among other ids.new.keys
@@ -85,7 +85,7 @@ pub(crate) fn add<A: Allocator>(ids: &mut Ids<A>, id: Id)
     };
 }
 
-/// Adds the id if the test holds. There must be room for it.
+/// Adds the id if `test` is true. The set must have room for it.
 pub(crate) fn add_if<A: Allocator>(ids: &mut Ids<A>, id: &Id, test: bool)
     requires { 0 < set_spare ids.old }
     ensures added { (other : List ℕ) → among other ids.new.keys
@@ -97,7 +97,7 @@ pub(crate) fn add_if<A: Allocator>(ids: &mut Ids<A>, id: &Id, test: bool)
     }
 }
 
-/// Removes the id if the test holds.
+/// Removes the id if `test` is true.
 pub(crate) fn drop_if<A: Allocator>(ids: &mut Ids<A>, id: &Id, test: bool)
     ensures { (other : List ℕ) → among other ids.new.keys
         ≡ (not (same_id other id.now && test) && among other ids.old.keys) }
@@ -107,7 +107,7 @@ pub(crate) fn drop_if<A: Allocator>(ids: &mut Ids<A>, id: &Id, test: bool)
     }
 }
 
-/// Adds the id if the test holds, for which there must be room, and removes it otherwise.
+/// Adds the id if `test` is true, and removes it otherwise. The set must have room for it.
 pub(crate) fn set_if<A: Allocator>(ids: &mut Ids<A>, id: &Id, test: bool)
     requires { 0 < set_spare ids.old }
     ensures { (other : List ℕ) → among other ids.new.keys

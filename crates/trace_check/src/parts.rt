@@ -46,7 +46,7 @@ pub(crate) fn time_after<B: Allocator>(happening: &HappeningIn<B>, time: u64) ->
     }
 }
 
-/// Updates the open orders. There must be room for one more.
+/// Updates the open orders for a happening. The map must have room for one more.
 pub(crate) fn take_order<A: Allocator, B: Allocator>(
     orders: &mut ById<OrderKind, A>,
     happening: &HappeningIn<B>,
@@ -64,7 +64,7 @@ pub(crate) fn take_order<A: Allocator, B: Allocator>(
     }
 }
 
-/// Updates the ids with a kept child. There must be room for one more.
+/// Updates the ids that have a kept child. The set must have room for one more.
 pub(crate) fn take_kept<A: Allocator, B: Allocator>(
     kept: &mut Ids<A>,
     children: &ById<UnreapedChild, A>,
@@ -82,7 +82,7 @@ pub(crate) fn take_kept<A: Allocator, B: Allocator>(
     }
 }
 
-/// Updates the ids that were asked, because a start of them was ordered. There must be room for one more.
+/// Updates the ids that were asked, that is, had a start ordered. The set must have room for one more.
 pub(crate) fn take_asked<A: Allocator + Copy, B: Allocator>(
     asked: &mut Ids<A>,
     table: &Table<A>,
@@ -100,7 +100,7 @@ pub(crate) fn take_asked<A: Allocator + Copy, B: Allocator>(
     }
 }
 
-/// Removes the ids that the next table brings: those that are new in it, or have another action there.
+/// Removes the ids that the next table adds or gives a different action.
 fn drop_brought<A: Allocator, B: Allocator>(asked: &mut Ids<A>, before: &Table<A>, next: &Table<B>)
     ensures { (id : List ℕ) → among id asked.new.keys
         ≡ (not (list_any (λ e. has_id id e && is_changed e.id next.now before.now) next.now)
@@ -125,7 +125,7 @@ fn is_named<B: Allocator>(happening: &HappeningIn<B>, entry: &Entry) -> bool
     }
 }
 
-/// Returns whether the happening calls the entry: it names the entry, which starts in the stage.
+/// Returns whether the happening calls the entry: it names the entry, and the entry starts in the stage.
 fn is_called<B: Allocator>(happening: &HappeningIn<B>, stage: Option<Stage>, entry: &Entry) -> bool
     ensures { result ≡ (is_named happening.now entry.now && starts_in entry.now stage) }
 {
@@ -142,7 +142,7 @@ fn stays_called<B: Allocator>(table: &Table<B>, id: &Id) -> bool
     }
 }
 
-/// Updates the ids whose entry is called. If memory allocation fails, they are unchanged.
+/// Updates the ids whose entry is called. If memory allocation fails, the set is unchanged.
 pub(crate) fn take_called<A: Allocator + Copy, B: Allocator>(
     called: &mut Ids<A>,
     table: &Table<A>,
@@ -185,7 +185,7 @@ fn add_named<A: Allocator, B: Allocator>(
     Ok(())
 }
 
-/// Updates the ids that were sent a TERM of which init was not told. There must be room for one more.
+/// Updates the ids that were sent a TERM of which init has not learned. The set must have room for one more.
 pub(crate) fn take_sent<A: Allocator, B: Allocator>(
     sent: &mut Ids<A>,
     orders: &ById<OrderKind, A>,

@@ -27,9 +27,9 @@ pub enum Verdict {
 /// 2. No child is born to an id without an entry that starts in the stage.
 /// 3. No child is born before the earlier entries that init waits for have ended.
 /// 4. No child is born while an excluded child is unreaped.
-/// 5. A level is announced settled only when it is.
-/// 6. The respawn limit is kept.
-/// 7. TERM goes only to an excluded child, and KILL only after a TERM whose grace period is over.
+/// 5. A level is announced settled only when it is settled.
+/// 6. An entry that respawns too fast is held instead of started, and no other entry is held.
+/// 7. TERM is sent only to an excluded child, and KILL only to one whose grace period after TERM is over.
 ///
 /// The verdict is exact for every list of happenings.
 pub fn check<A: Allocator + Copy, B: Allocator>(
@@ -45,7 +45,7 @@ pub fn check<A: Allocator + Copy, B: Allocator>(
     verdict
 }
 
-/// Finds the first breach of a trace, with a judge that has taken no happening yet.
+/// Finds the first breach of a trace, using a judge that has not judged anything yet.
 fn first_breach<A: Allocator + Copy, B: Allocator>(
     judge: &mut TraceJudge<A>,
     trace: &[HappeningIn<B>],

@@ -1,4 +1,4 @@
-//! What the checker knows about the past that it has judged.
+//! The facts that the checker keeps about the trace that it has judged.
 
 ghost use Rattle.std.specs.Prelude.{◌≡◌, true, List, find, option_copied, Some};
 ghost use Rattle.trace_check.specs.Words.{Event, table_of, stage_of, grace_of, time_of, open_of, unreaped_children, hold_times, is_held, is_full, is_wanted, is_owed, entries_before, entry_of, is_distinct};
@@ -11,7 +11,7 @@ use init_words::{Entry, Id, Level, OrderKind, Stage};
 use inittab_text::Table;
 use std::alloc::Allocator;
 
-/// Each method returns what a definition of `trace_events` or `specs/Reading` gives for the trace judged so far.
+/// Each method returns the value of a definition of `trace_events` or `specs/Reading` for the trace judged so far.
 impl<A: Allocator> TraceJudge<A> {
     /// Returns the table in force, in which no id occurs twice.
     pub fn table(&self) -> &Table<A>
@@ -102,7 +102,7 @@ impl<A: Allocator> TraceJudge<A> {
         self.judge.is_settled(level, &self.table, self.calm)
     }
 
-    /// Returns the time at which the first TERM in the spell of the id's unreaped child was told.
+    /// Returns the time at which init learned of the first TERM in the spell of the id's unreaped child.
     pub fn termed(&self, id: &Id) -> Option<u64>
         ensures { (past : List Event) → Judged self.now past
             → result ≡ term_of past (child_of id.now past) }

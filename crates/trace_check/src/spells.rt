@@ -1,4 +1,4 @@
-//! The signals to children that are being stopped, in the state of the checker.
+//! The signals to children that are being stopped, as kept in the checker's state.
 
 ghost use Rattle.std.specs.Prelude.{◌≡◌, ℕ, ◌<◌, if◌then◌else◌, List};
 ghost use Rattle.trace_check.specs.Words.{spare, same_id};
@@ -43,8 +43,8 @@ pub(crate) fn is_child_excluded<A: Allocator, B: Allocator>(
     }
 }
 
-/// Updates the time at which the first TERM was told in the spell of each id's child, which is the period in which the
-/// child is excluded. There must be room for one more.
+/// Updates for each id the time at which init learned of the first TERM in the child's spell, the period in which the
+/// child is excluded. The map must have room for one more.
 pub(crate) fn take_term<A: Allocator + Copy, B: Allocator>(
     termed: &mut ById<u64, A>,
     children: &ById<UnreapedChild, A>,

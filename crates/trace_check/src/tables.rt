@@ -1,4 +1,4 @@
-//! What the checker looks up in the table in force.
+//! The lookups that the checker makes in the table in force.
 
 ghost use Rattle.std.specs.Prelude.{◌≡◌, ◌<◌, length, slice_get, option_copied, Some, List, IfOk};
 ghost use Rattle.std.specs.Option.{option_map_or};
@@ -29,7 +29,7 @@ pub(crate) fn act<B: Allocator>(table: &Table<B>, id: &Id) -> Option<Act>
     Some(entry.act)
 }
 
-/// Returns whether the id has different actions in the two tables, or none in one of them.
+/// Returns whether the id has different actions in the two tables, or is missing from at least one of them.
 pub(crate) fn is_changed<B: Allocator, C: Allocator>(
     table: &Table<B>,
     other: &Table<C>,
@@ -40,7 +40,7 @@ pub(crate) fn is_changed<B: Allocator, C: Allocator>(
     !same_acts(act(table, id), act(other, id))
 }
 
-/// Copies the table of the happening, if it is a new table.
+/// Returns a copy of the table of the happening, if the happening is a new table.
 pub(crate) fn happening_table<A: Allocator + Copy, B: Allocator>(
     alloc: A,
     happening: &HappeningIn<B>,
@@ -54,7 +54,7 @@ pub(crate) fn happening_table<A: Allocator + Copy, B: Allocator>(
     }
 }
 
-/// Puts the table in force, if there is one.
+/// Replaces the table in force with the new table, if there is one.
 pub(crate) fn adopt_happening_table<A: Allocator>(table: &mut Table<A>, brought: Option<Table<A>>)
     ensures { table.new ≡ option_map_or (λ next. next) brought table.old }
 {
@@ -63,7 +63,7 @@ pub(crate) fn adopt_happening_table<A: Allocator>(table: &mut Table<A>, brought:
     }
 }
 
-/// Returns whether there are two actions and they are the same.
+/// Returns whether both actions exist and are the same.
 fn same_acts(act: Option<Act>, other: Option<Act>) -> bool
     ensures { result ≡ same_acts act other }
 {
@@ -73,7 +73,7 @@ fn same_acts(act: Option<Act>, other: Option<Act>) -> bool
     }
 }
 
-/// Returns whether the entry starts in the stage; before the first stage none does.
+/// Returns whether the entry starts in the stage. No entry starts before the first stage.
 pub(crate) fn starts_in(entry: &Entry, stage: Option<Stage>) -> bool
     ensures { result ≡ starts_in entry.now stage }
 {

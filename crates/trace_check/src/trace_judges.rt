@@ -15,18 +15,18 @@ use std::alloc::{Allocator, Global};
 use std::marker::Model;
 use trace_events::HappeningIn;
 
-/// The judge of a trace that arrives one happening at a time, the oldest first.
+/// The judge of a trace that arrives one happening at a time, oldest first.
 ///
-/// It keeps what the laws need from the past, by the ids of the table and of the living children, but never the past
-/// itself. Contracts describe it by the pasts that it has judged (`Judged`).
+/// It keeps the facts that the laws depend on, for the ids of the table and of the living children, but not the earlier
+/// happenings. Contracts describe a judge by the trace that it has judged (`Judged`).
 #[derive(Drop)]
 pub struct TraceJudge<A: Allocator = Global> {
     alloc: A,
     pub(crate) table: Table<A>,
     pub(crate) judge: Judge<A>,
-    // If true, no child is excluded. If false, one may be.
+    // If true, no child is excluded. If false, a child may be excluded.
     pub(crate) calm: bool,
-    // The number of entries at the front of the table that are known not to be owed. The next one may be.
+    // The number of entries at the front of the table that are known not to be owed. The next entry may be owed.
     pub(crate) unowed: usize,
 }
 
@@ -59,9 +59,9 @@ impl<A: Allocator + Copy> TraceJudge<A> {
         }
     }
 
-    /// Takes the next happening, and returns the law with the smallest number that it breaks.
+    /// Judges the next happening, and returns the lowest-numbered law that it breaks, if any.
     ///
-    /// If it breaks a law, or if memory allocation fails, the judge is unchanged.
+    /// If the happening breaks a law, or if memory allocation fails, the judge is unchanged.
     pub fn take<B: Allocator>(&mut self, happening: &HappeningIn<B>) -> Result<Option<Law>, Memory>
         ensures law { IfOk result (λ law. (past : List Event) → Judged self.old past
             → option_map law_number law ≡ broken happening.now past) }

@@ -1,4 +1,4 @@
--- The entries that init starts by itself on its way to a level, in order; see inittab(5) and init(8).
+-- The entries that init starts on its way to a level without any request, in order; see inittab(5) and init(8).
 use Rattle.std.specs.Prelude.{ℕ, Bool, true, false, ◌&&◌, if◌then◌else◌, List, [], ◌∷◌, ◌++◌, map, filter}
 use Rattle.init_words.specs.declared.entries.Entry.{Entry}
 use Rattle.trace_laws.specs.Words.{Level, Start, Sysinit, Boot, Run, starts_of, waited_of, Goal, Step, Order}
@@ -8,12 +8,12 @@ use Rattle.init_words.specs.Actions.{wanted_by}
 use Rattle.init_words.specs.Levels.{same_level}
 use Rattle.trace_events.specs.declared.steps.Step.TheVariants.{Enter}
 
--- the stage starts the entry by itself: the entry starts in this stage, and is wanted when it was neither started nor
--- called
+-- init starts the entry on entering the stage: the entry starts in this stage, and is wanted even if it was not called,
+-- provided that it has not been started
 abbrev pub is_started : Stage → Entry → Bool
 is_started stage e = starts_of e stage && wanted_by e.act true true false
 
--- the entries that a stage starts by itself, in table order
+-- the entries that init starts in a stage without any request, in table order
 abbrev pub started_in : List Entry → Stage → List Entry
 started_in table stage = filter (is_started stage) table
 
@@ -42,7 +42,7 @@ steps_along grace table (stage ∷ stages) = steps_in grace table stage ++ steps
 abbrev pub plan_of : Goal → List Entry → List Step
 plan_of goal table = steps_along goal.grace table (stages_to goal.level)
 
--- init starts the entry by itself in the stage, and waits for it
+-- init starts the entry in the stage without any request, and waits for it
 abbrev pub is_on_path : Stage → Entry → Bool
 is_on_path stage e = is_started stage e && waited_of e
 

@@ -1,4 +1,4 @@
--- Runs of init that nothing disturbs: the only events from outside are the ends of children that init waits for.
+-- Undisturbed runs of init: the only events from outside are the deaths of children that init waits for.
 use Rattle.std.specs.Prelude.{◌≡◌, Bool, true, false, not, ◌&&◌, ◌||◌, List, [], ◌∷◌, ◌++◌}
 use Rattle.std.specs.List.{list_all}
 use Rattle.std.specs.Option.{option_map_or}
@@ -7,11 +7,11 @@ use Rattle.trace_laws.specs.Words.{unreaped_children}
 use Rattle.trace_events.specs.declared.happenings.Happening.TheVariants as happened
 use Rattle.trace_events.specs.declared.steps.Step.TheVariants.{Enter}
 
--- init waits for the child to end: the table has its id with a waited action
+-- init waits for the child to end: the table has its id with an action that init waits for
 abbrev pub is_awaited : List Event → Child → Bool
 is_awaited past child = option_map_or waited_of (entry_of child.id (table_of past)) false
 
--- The happening disturbs nothing. It is not a new table, a failed reading of inittab, a request, a re-execution, a call
+-- The happening does not disturb the run. It is not a new table, a failed reading of inittab, a request, a re-execution, a call
 -- of entries by a letter or a power event, or a failed start. If it is a death, init waits for the child that died.
 abbrev pub is_mild : Event → List Event → Bool
 is_mild (happened.NewTable table) past = false
@@ -25,7 +25,7 @@ is_mild (happened.Death number) past =
     list_all (λ child. not (has_number number child) || is_awaited past child) (unreaped_children past)
 is_mild _ past = true
 
--- nothing disturbs the run: after its first table, no happening does
+-- the run is undisturbed: no happening after its first table disturbs it
 abbrev pub is_undisturbed : List Event → Bool
 is_undisturbed [] = true
 is_undisturbed (happened.NewTable table ∷ []) = true

@@ -1,10 +1,10 @@
--- Stretches of a trace: the happenings between two others.
+-- Stretches of a trace: the happenings between two given ones.
 use Rattle.std.specs.Prelude.{ℕ, Bool, true, false, ◌&&◌, ◌==◌, ◌+◌, if◌then◌else◌, List, [], ◌∷◌}
 use Rattle.trace_laws.specs.Words.{Start, NewTable, Asked, Reaped, Event, Child, is_excluded, is_unreaped}
 use Rattle.init_words.specs.Ids.{same_id}
 use Rattle.trace_events.specs.declared.happenings.Happening.TheVariants.{Enter}
 
--- no stage begins and no table comes in the stretch
+-- the stretch has no new stage and no new table
 abbrev pub is_steady : List Event → Bool
 is_steady [] = true
 is_steady (NewTable table ∷ stretch) = false

@@ -1,16 +1,17 @@
--- What precedes a KILL: a TERM that was sent to the child and told during its spell, followed by the grace period.
+-- The warning before a KILL: a TERM was sent to the child, init learned of it in the child's spell, and the grace period
+-- has passed since.
 use Rattle.std.specs.Prelude.{◌≡◌, ◌≤◌, ◌+◌, ℕ, Bool, true, IsTrue, ◌&&◌, List, [], ◌∷◌, ◌++◌}
 use Rattle.std.specs.List.{list_any}
 use Rattle.trace_laws.specs.Words.{Term, Told, Event, Child, grace_of, time_of, is_child_of, is_order, is_unreaped}
 use Rattle.trace_events.specs.Spells.{untold_hits, in_spell}
 
--- each happening of the stretch belongs to the spell of the child
+-- all happenings of the stretch belong to the spell of the child
 abbrev pub stays_excluded : Child → List Event → List Event → Bool
 stays_excluded child [] before = true
 stays_excluded child (happening ∷ stretch) before =
     in_spell child happening (stretch ++ before) && stays_excluded child stretch before
 
--- an unreaped child of the id was sent a TERM, which was told during the child's spell, at least the grace period ago
+-- an unreaped child of the id was sent a TERM, and init learned of it in the child's spell, at least the grace period ago
 pub record WasTermedBefore (id : List ℕ) (past : List Event) : Type 0 where
   pub child : Child
   pub own : IsTrue (is_child_of id child)

@@ -1,9 +1,9 @@
-//! The laws of a run of init, which hold of every sound trace, whatever the system does and whatever is requested of
-//! init. This crate has their lemmas; the laws are stated one by one in the headline, `law_agreement` of `core_model`.
+//! The laws of a run of init, which hold for every sound trace, whatever the system does and whatever requests init
+//! receives. This crate proves the lemmas; `law_agreement` of `core_model` states the laws one by one.
 //!
-//! The definitions are those of `trace_events`, together with `specs/Moments`, which says at which moments of a sound
-//! trace a law holds. A trace is a list of happenings, newest first. The laws hold for all readings of the clock,
-//! including one that was set back, and across every hand-over of init's state.
+//! The definitions are in `trace_events` and in `specs/Moments`, which says at which moments of a sound trace a law
+//! holds. A trace is a list of happenings, newest first. The laws hold for all readings of the clock, even if it is set
+//! back, and across every hand-over of init's state.
 #![tactic(auto)]
 
 mod plans;
@@ -14,7 +14,7 @@ ghost use Rattle.trace_events.specs.Lawful.{is_lawful};
 
 pub use plans::law_of_plans;
 
-/// States in its contract that a sound trace breaks no law, for every opening goal. The function itself does nothing.
+/// States in its contract that a sound trace breaks no law, whatever the initial goal. The function itself does nothing.
 pub fn law_of_sound_traces()
     ensures { (goal : Goal) (trace : List Event)
         → IsTrue (is_sound goal trace) → IsTrue (is_lawful trace) }

@@ -1,8 +1,8 @@
-//! The plan of a level: which entries init starts by itself on its way to the level, in which order, and for which of
-//! them it waits.
+//! The plan of a level: the entries that init starts on its way to the level without any request, their order, and
+//! which of them it waits for.
 //!
-//! The definitions are in `specs`. The law ties them to runs of init: if nothing disturbs a run except the ends of
-//! waited children, init enters the stages and starts the entries of the plan, in its order, and no others.
+//! The definitions are in `specs`. The law relates them to runs of init: if the only events from outside are the deaths
+//! of children that init waits for, init enters the stages and starts the entries of the plan in order, and no others.
 
 ghost use Rattle.std.specs.Prelude.{◌≡◌, IsTrue, false, ℕ, List, ◌∷◌};
 ghost use Rattle.trace_laws.specs.Words.{Start, Asked, Goal, Event, table_of, is_owed_before, is_announced};
@@ -10,11 +10,11 @@ ghost use Rattle.trace_laws.specs.Orderly.{is_orderly};
 ghost use Rattle.trace_laws.specs.Plans.{plan_of};
 ghost use Rattle.trace_laws.specs.Runs.{BeginsWith, is_undisturbed, taken};
 
-/// States in its contract the law of plans. The function itself does nothing.
+/// States the law of plans in its contract. The function itself does nothing.
 ///
-/// Take a trace in which each step of init is the first due one, and which nothing disturbs, whatever else the system
-/// did. The stages entered and the starts ordered so far are then a prefix of the plan; once the level is announced
-/// settled they are the whole plan. And when an entry is started, all waited entries before it in the table have ended.
+/// The law is about undisturbed traces in which each step of init is the first due one. At any point, the stages entered
+/// and the starts ordered are a prefix of the plan; once the level is announced settled, they are the whole plan. When
+/// init starts an entry, all entries before it in the table that init waits for have ended.
 pub fn law_of_plans()
     ensures beginning { (goal : Goal) (past : List Event) → IsTrue (is_orderly goal past)
         → IsTrue (is_undisturbed past) → BeginsWith (taken past) (plan_of goal (table_of past)) }

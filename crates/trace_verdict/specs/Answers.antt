@@ -1,4 +1,4 @@
--- The answer to the text of a trace, and when it is right.
+-- The verdict on the text of a trace, and when it is right.
 use Rattle.std.specs.Prelude.{◌≡◌, ℕ, ◌+◌, ◌<◌, List, [], length, take, reverse, slice_get, Option, Some, None}
 use Rattle.std.specs.Option.{option_map_or}
 use Rattle.text_lines.specs.Lines.{newlines}
@@ -11,8 +11,8 @@ use Rattle.trace_verdict.specs.declared.findings.Finding.{Finding}
 use Rattle.trace_verdict.specs.declared.findings.Finding.TheVariants.{Lawful, Breach, Torn}
 use Rattle.trace_verdict.specs.Fronts.{IsFront, IsTorn}
 
--- a breach: its position in the trace, counted from 0, the lowest-numbered law broken there, its line in the text,
--- counted from 1, and the text of its happening
+-- a breach: the position of the happening in the trace, counted from 0; the lowest-numbered law that it breaks; its line
+-- in the text, counted from 1; and its text
 pub record Named : Type 0 where
   pub position : ℕ
   pub law : Law
@@ -26,9 +26,8 @@ pub record IsFirst (trace : List Event) (breach : Named) : Type 0 where
   pub line : breach.line ≡ newlines (trace_text (take breach.position trace)) + 1
   pub text : breach.text ≡ option_map_or event_text (slice_get trace breach.position) []
 
--- The verdict on a text, the line at which its last happening begins if that is incomplete, and the number of complete
--- happenings are right. Either the text is torn at a line, or the verdict is that on the trace of the complete
--- happenings.
+-- The answer to a text is right: the verdict, the line at which an incomplete last happening begins, and the number of
+-- complete happenings. Either the text is torn at a line, or the verdict is the verdict on the complete happenings.
 abbrev pub Answers : List ℕ → Finding Named → Option ℕ → ℕ → Type 0
 Answers text Lawful open_line count = (trace : List Event) × IsFront trace open_line text
     × (first_breach (reverse trace) ≡ None) × (count ≡ length trace)

@@ -11,21 +11,20 @@ use Rattle.trace_text.specs.Reading.{entries_brought, words_in}
 use Rattle.trace_text.specs.declared.reading.TheConstants.{LINE_LIMIT}
 use Rattle.inittab_text.specs.declared.reading.TheConstants.{TEXT_LIMIT}
 
--- the number of lines of the happening that begins with this line: the line itself, and one for each entry of its table
+-- the number of lines of the happening that begins with this line: one, and one more for each entry of its table
 abbrev pub lines_of : List ℕ → ℕ
 lines_of line = option_map_or (λ count. count + 1) (entries_brought (words_in line)) 1
 
--- the number of lines of the first happening of a text, as its first line determines it; 1 while that line is
--- incomplete
+-- the number of lines of the first happening of a text, as given by its first line; 1 if that line is incomplete
 abbrev pub lines_due : List ℕ → ℕ
 lines_due text = option_map_or (λ parts. lines_of parts.0) (cut 10 text) 1
 
--- the text ends before the last of these lines does
+-- the text ends before the last line of its first happening does
 abbrev pub is_unfinished : List ℕ → Bool
 is_unfinished text = nat_lt (newlines text) (lines_due text)
 
--- the maximum length in bytes of an incomplete happening with this number of newlines: that of a line, or of a `use`
--- line and its table
+-- the maximum length in bytes of an incomplete happening with this number of newlines: with none, the length of a line;
+-- otherwise, that of a `use` line and its table
 abbrev pub size_limit : ℕ → ℕ
 size_limit zero = LINE_LIMIT
 size_limit (suc lines) = LINE_LIMIT + TEXT_LIMIT
@@ -34,18 +33,18 @@ size_limit (suc lines) = LINE_LIMIT + TEXT_LIMIT
 abbrev pub is_open : List ℕ → Bool
 is_open text = is_unfinished text && nat_le (length text) (size_limit (newlines text))
 
--- the text does not end within its first happening, or is too long for that; and no happening begins it, whatever text
--- follows
+-- the text cannot be the beginning of a happening: it does not end within its first happening, or is too long for that;
+-- and it does not begin with a happening, whatever text follows
 abbrev pub BeginsNever : List ℕ → Type 0
 BeginsNever text = (is_open text ≡ false) × ((more : List ℕ) → BeginsNone (text ++ more))
 
--- the line, after this number of lines, at which the unread text begins; none if there is no unread text
+-- the number of the line at which the unread text begins, after this number of lines; none if there is no unread text
 abbrev pub line_left : ℕ → List ℕ → Option ℕ
 line_left lines [] = None
 line_left lines (byte ∷ over) = Some (lines + 1)
 
--- the text is that of the trace, followed by an incomplete happening, which begins at the given line; the happening is
--- missing if no line is given
+-- the text is the text of the trace, followed by an incomplete happening that begins at `open_line`; if `open_line` is
+-- none, nothing follows
 pub record IsFront (trace : List Event) (open_line : Option ℕ) (text : List ℕ) : Type 0 where
   pub over : List ℕ
   pub are : are_in_range trace ≡ true
@@ -53,7 +52,7 @@ pub record IsFront (trace : List Event) (open_line : Option ℕ) (text : List �
   pub unfinished : is_open over ≡ true
   pub at : open_line ≡ line_left (newlines (trace_text trace)) over
 
--- the text is that of a trace up to the line of this number, counted from 1, and no happening begins there, whatever
+-- the text is a trace up to the line with this number, counted from 1, and no happening begins at that line, whatever
 -- text follows
 pub record IsTorn (text : List ℕ) (number : ℕ) : Type 0 where
   pub trace : List Event

@@ -1,4 +1,4 @@
--- The judge of a text that comes in pieces, and the texts that it has taken.
+-- The judge of a text that arrives in pieces, and the text that it has taken.
 use Rattle.std.specs.Prelude.{◌≡◌, ◌⊎◌, ◌<◌, ◌^◌, ℕ, Bool, true, false, List, ◌++◌, length, reverse, Option, None}
 use Rattle.text_lines.specs.Lines.{newlines}
 use Rattle.trace_events.specs.Event.{Event}
@@ -25,7 +25,7 @@ IsFound Lawful judging trace = Judged judging (reverse trace)
 IsFound (Breach breach) judging trace = IsFirst trace breach
 IsFound (Torn number) judging trace = ⊥
 
--- the trace is what was read of the text
+-- the judge has read this trace from the text
 pub record HasRead (state : TextState) (trace : List Event) (text : List ℕ) : Type 0 where
   pub are : are_in_range trace ≡ true
   pub whole : trace_text trace ++ state.reading.over ≡ text
@@ -33,17 +33,17 @@ pub record HasRead (state : TextState) (trace : List Event) (text : List ℕ) : 
   pub position : state.position ≡ length trace
   pub found : IsFound state.finding state.judging trace
 
--- the judge with this verdict is at work on the text: the text is torn at a line, or the judge has read a trace from
+-- the judge with this verdict is reading the text: either the text is torn at a line, or the judge has read a trace at
 -- its beginning
 abbrev pub AtBy : Finding Named → TextState → List ℕ → Type 0
 AtBy (Torn number) state text = IsTorn text number
 AtBy _ state text = (trace : List Event) × HasRead state trace text
 
--- the judge is at work on the text
+-- the judge is reading the text
 abbrev pub IsAt : TextState → List ℕ → Type 0
 IsAt state text = AtBy state.finding state text
 
--- the judge with this verdict has taken the text: it is at work on it, and the unread part ends within a happening
+-- the judge with this verdict has taken the text: it is reading the text, and the unread part ends within a happening
 abbrev pub TakenBy : Finding Named → TextState → List ℕ → Type 0
 TakenBy (Torn number) state text = IsTorn text number
 TakenBy _ state text =
@@ -53,13 +53,13 @@ TakenBy _ state text =
 abbrev pub HasTaken : TextState → List ℕ → Type 0
 HasTaken state text = TakenBy state.finding state text
 
--- the judge continues with the text, or has taken it
+-- the judge is still reading the text if the flag is true, and otherwise has taken it
 abbrev pub JudgeGoesOn : Bool → TextState → TextState → List ℕ → Type 0
 JudgeGoesOn true old new text = IsAt old text → IsAt new text
 JudgeGoesOn false old new text = IsAt old text → HasTaken new text
 
--- after a failed allocation: nothing of the piece was taken and nothing changed; or the whole piece was taken, and the
--- judge is at work on the text with it
+-- after a failed allocation, either the judge is unchanged, or it has taken the whole piece and is reading the text with
+-- the piece appended
 abbrev pub Holds : TextState → TextState → List ℕ → Type 0
 Holds old new piece =
     (new ≡ old) ⊎ ((text : List ℕ) → length (text ++ piece) < 2 ^ 64 → IsAt old text → IsAt new (text ++ piece))

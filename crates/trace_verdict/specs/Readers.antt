@@ -1,4 +1,4 @@
--- The reader of a text that comes in pieces.
+-- The reader of a text that arrives in pieces.
 use Rattle.std.specs.Prelude.{◌≡◌, ℕ, ◌+◌, ◌-◌, ◌^◌, ◌≤◌, min, true, List, ◌++◌, drop, length, Option, Some, None}
 use Rattle.trace_text.specs.declared.reading.ReadFault.{ReadFault}
 use Rattle.trace_text.specs.declared.reading.ReadFault.TheVariants as fault
@@ -13,7 +13,7 @@ pub record Reading : Type 0 where
   pub over : List ℕ
   pub lines : ℕ
 
--- a sum, at most 2^64 - 1
+-- the sum, or 2^64 - 1 if it is greater
 abbrev pub capped : ℕ → ℕ
 capped sum = min sum (2 ^ 64 - 1)
 
@@ -24,14 +24,14 @@ IsNext reading (Some found) =
     (is_in_range found.0 ≡ true) × (event_text found.0 ++ drop found.1 reading.over ≡ reading.over)
     × (found.1 ≤ length reading.over)
 
--- the next happening was read, and its lines counted; or the unread part ends within it, and nothing changed
+-- the reader has read the next happening and counted its lines; or the unread part ends within it, and nothing changed
 abbrev pub ReadsNext : Reading → Reading → Option Event → Type 0
 ReadsNext old new None = (new ≡ old) × (is_open old.over ≡ true)
 ReadsNext old new (Some happening) =
     (is_in_range happening ≡ true) × (event_text happening ++ new.over ≡ old.over)
     × (new.lines ≡ capped (old.lines + line_count happening))
 
--- no happening begins the unread part, whatever text follows, and the fault gives the number of its first line
+-- the unread part cannot be the beginning of a happening, whatever text follows; the fault has the number of its line
 abbrev pub ReadsNone : Reading → ReadFault → Type 0
 ReadsNone old (fault.Line number) =
     (number ≡ capped (old.lines + 1)) × BeginsNever old.over

@@ -13,7 +13,7 @@ pub enum Finding<B = Breach> {
     Lawful,
     /// The first happening that breaks a law.
     Breach(B),
-    /// No happening begins at the line of this number, counted from 1.
+    /// No happening begins at the line with this number, counted from 1.
     Torn(u64),
 }
 
@@ -40,7 +40,7 @@ impl<A: Allocator> Model for Breach<A> {
 }
 
 impl<A: Allocator> Breach<A> {
-    /// Creates the breach with these parts.
+    /// Creates a breach from its parts.
     pub(crate) fn new(position: u64, law: Law, line: u64, text: Vec<u8, A>) -> Breach<A>
         ensures { result
             ≡ record { position = position; law = law; line = line; text = text.items } }
@@ -53,28 +53,28 @@ impl<A: Allocator> Breach<A> {
         }
     }
 
-    /// Returns its position among the happenings, counted from 0.
+    /// Returns the position of the happening in the trace, counted from 0.
     pub fn position(&self) -> u64
         ensures { result ≡ self.now.position }
     {
         self.position
     }
 
-    /// Returns the lowest-numbered law that it breaks.
+    /// Returns the lowest-numbered law that the happening breaks.
     pub fn law(&self) -> Law
         ensures { result ≡ self.now.law }
     {
         self.law
     }
 
-    /// Returns the number of its line, counted from 1.
+    /// Returns the number of the line at which the happening begins, counted from 1.
     pub fn line(&self) -> u64
         ensures { result ≡ self.now.line }
     {
         self.line
     }
 
-    /// Returns its text.
+    /// Returns the text of the happening.
     pub fn text(&self) -> &[u8]
         ensures { result.now ≡ self.now.text }
     {

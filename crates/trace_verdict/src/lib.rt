@@ -1,5 +1,5 @@
-//! Judges the text of a trace that comes in pieces, as when a file is read. It takes one happening at a time, and keeps
-//! in memory only what the laws need to know of the past, and the last happening while it is incomplete.
+//! Judges the text of a trace that arrives in pieces, for example from a file. It judges one happening at a time, and
+//! keeps in memory only the facts that the laws depend on, and the last happening while it is incomplete.
 #![tactic(auto)]
 
 mod findings;

@@ -16,7 +16,7 @@ fn lines_of(line: &[u8]) -> usize
     }
 }
 
-/// Returns the number of lines of the first happening of a text, as its first line determines it.
+/// Returns the number of lines of the first happening of a text, as given by its first line.
 pub(crate) fn lines_due(text: &[u8]) -> usize
     ensures { result ≡ lines_due text.now }
 {

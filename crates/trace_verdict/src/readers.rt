@@ -1,4 +1,4 @@
-//! Reads happenings from a text that comes in pieces.
+//! Reads happenings from a text that arrives in pieces.
 
 ghost use Rattle.std.specs.Prelude.{◌≡◌, ◌≤◌, drop, length, ◌++◌, [], Some, true, OnOk, OnErr, IfOk, IfErr, option_map};
 ghost use Rattle.trace_verdict.specs.Fronts.{is_open, is_unfinished, line_left, size_limit};
@@ -12,19 +12,19 @@ use text_lines::newlines;
 use trace_events::HappeningIn;
 use trace_text::{LINE_LIMIT, ReadFault, first_happening, line_count};
 
-/// A reader of the happenings of a text that comes in pieces. It keeps the part that it has not read yet.
+/// A reader of the happenings of a text that arrives in pieces. It keeps the part that it has not read yet.
 ///
-/// An incomplete happening is tried again when it has as many lines as its first line announces. Its text so far may be
-/// as long as that of a complete one.
+/// If the last happening is incomplete, the reader tries again once it has the number of lines that its first line
+/// announces. The text of an incomplete happening may be no longer than the longest complete one.
 #[derive(Drop)]
 pub struct TextReader<A: Allocator> {
     alloc: A,
     bytes: Vec<u8, A>,
-    /// The number of bytes that were read.
+    /// The number of bytes already read.
     at: usize,
-    /// The number of newlines in the other bytes.
+    /// The number of newlines in the unread bytes.
     whole: usize,
-    /// A lower bound on the number of newlines that complete the next happening.
+    /// A lower bound on the number of newlines in the next happening.
     due: usize,
     lines: u64,
 }
@@ -52,7 +52,7 @@ fn rest_of(bytes: &[u8], at: usize) -> &[u8]
     &bytes[at..]
 }
 
-/// Removes the first `at` bytes of a text and appends the piece. If nothing is removed, nothing is copied.
+/// Removes the first `at` bytes of a text and appends the piece. If `at` is 0, the text is not copied.
 fn move_on<A: Allocator + Copy>(
     alloc: A,
     bytes: &mut Vec<u8, A>,
@@ -83,7 +83,7 @@ fn size_limit(newlines: usize) -> usize
 }
 
 impl<A: Allocator + Copy> TextReader<A> {
-    /// Creates a reader that has taken nothing. This does not allocate.
+    /// Creates a reader without any text. This does not allocate.
     pub fn new(alloc: A) -> TextReader<A>
         ensures { result ≡ record { over = []; lines = 0 } }
     {
@@ -104,7 +104,7 @@ impl<A: Allocator + Copy> TextReader<A> {
         self.lines
     }
 
-    /// Returns the number of the line at which the unread part begins, or `None` if everything was read.
+    /// Returns the number of the line at which the unread part begins, or `None` if there is no unread part.
     pub fn open_line(&self) -> Option<u64>
         ensures { result ≡ option_map capped (line_left self.now.lines self.now.over) }
     {
@@ -115,7 +115,7 @@ impl<A: Allocator + Copy> TextReader<A> {
         }
     }
 
-    /// Takes the next piece of the text.
+    /// Appends the next piece to the unread text.
     pub fn feed(&mut self, piece: &[u8]) -> Result<(), AllocError>
         ensures ok { OnOk result
             (self.new ≡ record self.old { over = self.old.over ++ piece.now }) }
@@ -127,7 +127,7 @@ impl<A: Allocator + Copy> TextReader<A> {
         Ok(())
     }
 
-    /// Accepts an incomplete happening, unless its text so far is longer than a happening can be.
+    /// Fails if the text of the incomplete happening is already longer than a happening can be.
     fn wait(&self) -> Result<(), ReadFault>
         requires { is_unfinished self.now.over ≡ true }
         ensures unfinished { OnOk result (is_open self.now.over ≡ true) }
@@ -139,8 +139,8 @@ impl<A: Allocator + Copy> TextReader<A> {
         Err(ReadFault::Line(self.lines.saturating_add(1)))
     }
 
-    /// Returns the next happening and the length of its text in bytes, or `None` if the text ends within it. The
-    /// happening stays unread.
+    /// Returns the next happening and the length of its text in bytes, or `None` if the text ends within it. This does
+    /// not consume the happening.
     pub(crate) fn peek(&mut self) -> Result<Option<(HappeningIn<A>, usize)>, ReadFault>
         ensures same { self.new ≡ self.old }
         ensures next { IfOk result (λ found. IsNext self.old found) }
@@ -175,8 +175,8 @@ impl<A: Allocator + Copy> TextReader<A> {
         self.lines = self.lines.saturating_add(lines);
     }
 
-    /// Reads the next happening, or returns `None` if the text ends within it. If no happening can begin there,
-    /// whatever text follows, that is an error, and nothing is read.
+    /// Reads the next happening, or returns `None` if the text ends within it. Fails, and reads nothing, if the unread
+    /// text cannot be the beginning of a happening, whatever text follows.
     pub fn next(&mut self) -> Result<Option<HappeningIn<A>>, ReadFault>
         ensures next { IfOk result (λ found. ReadsNext self.old self.new found) }
         ensures none { IfErr result (λ fault.

@@ -1,4 +1,4 @@
-//! The judge of the text of a trace that comes in pieces.
+//! The judge of the text of a trace that arrives in pieces.
 
 ghost use Rattle.std.specs.Prelude.{◌≡◌, ◌^◌, ◌<◌, ◌+◌, List, ℕ, ◌++◌, [], ◌∷◌, length, true, option_map, IfOk, OnOk, OnErr};
 ghost use Rattle.text_lines.specs.Lines.{newlines};
@@ -18,9 +18,9 @@ use trace_check::TraceJudge;
 use trace_events::HappeningIn;
 use trace_text::{ReadFault, print_one};
 
-/// A judge of the text of a trace, which comes in pieces cut anywhere.
+/// A judge of the text of a trace, which arrives in pieces of any length.
 ///
-/// A contract sees which texts the judge has taken (`HasTaken`).
+/// Contracts describe a judge by the text that it has taken (`HasTaken`).
 #[derive(Drop)]
 pub struct TextJudge<A: Allocator = Global> {
     alloc: A,
@@ -69,7 +69,7 @@ fn judge_next<A: Allocator + Copy>(
 }
 
 impl<A: Allocator + Copy> TextJudge<A> {
-    /// Creates a judge that has taken nothing. This does not allocate.
+    /// Creates a judge that has taken no text. This does not allocate.
     pub fn new(alloc: A) -> TextJudge<A>
         ensures { HasTaken result [] }
     {
@@ -95,7 +95,8 @@ impl<A: Allocator + Copy> TextJudge<A> {
         Ok(())
     }
 
-    /// Takes the next happening, if it is complete. If memory allocation fails, nothing changes.
+    /// Judges the next happening, if it is complete, and returns whether there may be more. If memory allocation fails,
+    /// nothing changes.
     fn take_next(&mut self) -> Result<bool, Memory>
         ensures goes { IfOk result (λ more. (text : List ℕ) → length text < 2 ^ 64
             → JudgeGoesOn more self.old self.new text) }
@@ -141,8 +142,8 @@ impl<A: Allocator + Copy> TextJudge<A> {
         Ok(())
     }
 
-    /// Takes the next piece of the text and judges all complete happenings. If memory allocation fails, either nothing
-    /// is taken, as by `feed`, or the whole piece is, as by `judge`.
+    /// Takes the next piece of the text and judges all complete happenings. If memory allocation fails, the judge has
+    /// taken either nothing of the piece (see `feed`) or the whole piece (see `judge`).
     pub fn take(&mut self, piece: &[u8]) -> Result<(), Memory>
         ensures ok { OnOk result ((text : List ℕ) → length (text ++ piece.now) < 2 ^ 64
             → HasTaken self.old text → HasTaken self.new (text ++ piece.now)) }
@@ -163,8 +164,8 @@ impl<A: Allocator + Copy> TextJudge<A> {
         }
     }
 
-    /// Returns the verdict on the text taken, the number of the line at which its last happening begins if that is
-    /// incomplete, counted from 1, and the number of complete happenings. An incomplete happening is not judged.
+    /// Returns the verdict on the text taken; the number of the line, counted from 1, at which an incomplete happening
+    /// begins, if there is one; and the number of complete happenings. An incomplete happening is not judged.
     pub fn answer(&self) -> (&Finding<Breach<A>>, Option<u64>, u64)
         ensures { (text : List ℕ) → length text < 2 ^ 64 → HasTaken self.now text
             → Answers text result.0.now result.1 result.2 }
