@@ -18,22 +18,21 @@ use trace_events::{Handed, Happening, HappeningIn};
 use trace_log::{EndedLog, Log, LogFault};
 use trace_text::print_one;
 
-/// The maximum number of bytes of a trace that are kept while its file cannot be written.
+/// The maximum number of bytes of a trace that are kept in memory while its file cannot be written.
 const UNWRITTEN_LIMIT: usize = 1_048_576;
 
-/// The number of bytes of looks that found nothing after which they are written.
+/// The number of bytes at which the buffered text of looks that found nothing is written.
 const WRITE_LENGTH: usize = 16_384;
 
-/// A log that writes a trace to files, whose contents one after the other are the trace.
+/// A log that writes a trace to files. The contents of the files, one after the other, are the trace.
 ///
-/// If the file is no longer at its path when init has re-executed, the trace continues in a new file there. A file that
-/// has reached a given length is put away at the end of a turn, if that was requested. Looks that found nothing are
-/// kept, and written together with what comes next.
+/// If the file is no longer at its path after init has re-executed, the trace continues in a new file at that path. If a
+/// size limit is given, a file that has reached it is put away at the end of a turn. The text of looks that found
+/// nothing is buffered, and written together with the next happening of another kind.
 ///
-/// If the file cannot be written, this is reported on standard error, and the text is kept in memory until it can be;
-/// then nothing of the trace is missing, which is reported too. If more than a mebibyte would have to be kept, the log
-/// fails with what it keeps, and the trace ends there. The trace is not complete at its end either if the file has not
-/// accepted all of it by then.
+/// If a write fails, the log reports this on standard error and keeps the text in memory until it can be written; it
+/// then reports that nothing is missing from the trace. If more than a mebibyte would have to be kept, the log fails and
+/// the trace ends. The trace is also incomplete if the file has not accepted all of the text when the log is ended.
 #[derive(Drop)]
 pub struct FileLog<'a, R, S> {
     rt: &'a R,
@@ -43,10 +42,10 @@ pub struct FileLog<'a, R, S> {
     unwritten: Vec<u8>,
     /// The error of the last write, if it failed.
     fault: Option<io::Error>,
-    /// The length in bytes at which a file is put away, and by how much this is raised if that fails.
+    /// The length in bytes at which the file is put away, and the number by which it is raised after a failure.
     put_away_at: u64,
     step: u64,
-    /// Whether it was reported that bytes are being kept.
+    /// Whether the log has reported that it keeps bytes in memory.
     is_waiting: bool,
     failed: bool,
 }
@@ -66,8 +65,8 @@ impl<'a, R, S> Model for FileLog<'a, R, S> {
 }
 
 impl<'a, R: Eprint, S: TraceFiles> FileLog<'a, R, S> {
-    /// Creates the log of the trace at `path` over files that have taken nothing. With a `size`, a file of at least
-    /// that many bytes is put away.
+    /// Creates the log of the trace at `path`, using files to which nothing was written yet. If `size` is given, a file
+    /// of at least that number of bytes is put away.
     pub fn new(
         rt: &'a R,
         alloc: Global,
@@ -96,7 +95,7 @@ impl<'a, R: Eprint, S: TraceFiles> FileLog<'a, R, S> {
         }
     }
 
-    /// Writes a happening, and continues in a new file if it is time to.
+    /// Writes a happening, and continues in a new file if one is due.
     fn write<B: Allocator>(&mut self, happening: &HappeningIn<B>) -> Result<(), LogFault>
         ensures ok { OnOk result
             ((mid : Filed S) × (more : Filed S) × MayFlush S.contents self.old mid
@@ -118,8 +117,8 @@ impl<'a, R: Eprint, S: TraceFiles> FileLog<'a, R, S> {
         Ok(())
     }
 
-    /// Returns whether the text of a happening may be kept for now, because it belongs to a look that found nothing. A
-    /// happening of another kind follows, at the latest with the next reading of the clock.
+    /// Returns whether the text of a happening may be buffered, because it belongs to a look that found nothing. The next
+    /// reading of the clock, or an earlier happening of another kind, causes it to be written.
     fn can_wait<B: Allocator>(&self, happening: &HappeningIn<B>) -> bool
         ensures { IsTrue result → IsTrue (is_of_idle_look happening.now) }
     {
@@ -131,7 +130,7 @@ impl<'a, R: Eprint, S: TraceFiles> FileLog<'a, R, S> {
         is_idle && self.unwritten.len() < WRITE_LENGTH
     }
 
-    /// Writes the text of a happening or keeps it. Fails and does neither if too many bytes are kept already.
+    /// Writes the text of a happening, or keeps it in memory. Fails if too many bytes are kept already.
     fn add<B: Allocator>(&mut self, happening: &HappeningIn<B>) -> Result<(), LogFault>
         ensures ok { OnOk result (AddsHappening S.contents self.old self.new happening.now) }
         ensures err { OnErr result (self.new ≡ self.old) }
@@ -151,7 +150,7 @@ impl<'a, R: Eprint, S: TraceFiles> FileLog<'a, R, S> {
         Ok(())
     }
 
-    /// Writes the bytes that are kept, as far as the files accept them.
+    /// Writes the bytes kept in memory, as far as the file accepts them.
     fn catch_up(&mut self)
         ensures { Flushes S.contents self.old self.new }
     {
@@ -164,7 +163,7 @@ impl<'a, R: Eprint, S: TraceFiles> FileLog<'a, R, S> {
         self.fault = fault;
     }
 
-    /// Reports that bytes are kept because the file cannot be written, and later that they were written.
+    /// Reports that bytes are kept in memory because a write failed, and later that they have been written.
     fn tell_waiting(&mut self)
         ensures { self.new ≡ self.old }
     {
@@ -201,7 +200,7 @@ impl<'a, R: Eprint, S: TraceFiles> FileLog<'a, R, S> {
         };
     }
 
-    /// Reports why an old piece that should be removed could not be.
+    /// Reports why an old piece could not be removed.
     fn tell_untaken(&self, fault: &io::Error) {
         let path = self.path;
         let _ = eprintln!(self.rt;
@@ -210,7 +209,7 @@ impl<'a, R: Eprint, S: TraceFiles> FileLog<'a, R, S> {
         );
     }
 
-    /// Continues in a new file if there is none at the path.
+    /// Continues in a new file if there is no file at the path.
     fn begin_anew(&mut self)
         ensures { FilesUnchanged S.contents self.old self.new }
     {
@@ -231,8 +230,8 @@ impl<'a, R: Eprint, S: TraceFiles> FileLog<'a, R, S> {
         };
     }
 
-    /// Puts the file away as the next piece and continues in a new one, if it is long enough and has accepted
-    /// everything. If that is not possible, the log continues in the same file.
+    /// Puts the file away as the next piece and continues in a new one, if the file is long enough and has accepted all
+    /// of the text. If this fails, the log continues in the same file.
     fn put_away(&mut self)
         ensures { MayFlush S.contents self.old self.new }
     {

@@ -1,4 +1,4 @@
-//! Writing and dropping the first bytes of a text.
+//! Writes and removes the first bytes of a text.
 
 ghost use Rattle.std.specs.Prelude.{◌≡◌, ◌≤◌, length, take, drop, IfNone};
 ghost use Rattle.std.specs.Io.KnownBytes.{Appends};
@@ -6,8 +6,8 @@ ghost use Rattle.std.specs.Io.KnownBytes.{Appends};
 use std::io;
 use std::io::{ErrorKind, Write};
 
-/// Writes as much of a text as the writer accepts. Returns the number of bytes written and, if that is not all of them,
-/// the error.
+/// Writes a text up to the first error. Returns the number of bytes written, and the error if they are not all of the
+/// text.
 pub(crate) fn write_front<W: Write>(out: &mut W, text: &[u8]) -> (usize, Option<io::Error>)
     ensures written { Appends (W.contents out.old) (W.contents out.new) (take result.0 text.now) }
     ensures most { result.0 ≤ length text.now }

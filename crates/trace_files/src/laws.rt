@@ -1,4 +1,4 @@
-//! The law of trace files after a run was killed.
+//! The law about the trace files of a run that was killed.
 
 ghost use Rattle.std.specs.Prelude.{◌≢◌, ℕ, [], List, false, reverse};
 ghost use Rattle.trace_events.specs.declared.steps.Goal.{Goal};
@@ -11,8 +11,8 @@ ghost use Rattle.trace_files.specs.Left.{LeavesFiles};
 /// States in its contract what the trace files contain if init is killed during a call of the host. The function itself
 /// does nothing.
 ///
-/// If the log had taken a trace until then, what holds of that trace also holds of the one whose text the files have,
-/// provided that no write to them failed and they are not empty.
+/// If the files are not empty and no write to them failed, the trace in the files has the properties (`LeavesFiles`) that
+/// hold for the trace that the log had taken.
 pub fn law_of_the_files()
     ensures { (call : HostCall) (goal : Goal) (world trace : List Event) (bytes unwritten : List ℕ)
         → HasText false trace bytes unwritten → bytes ≢ []

@@ -1,5 +1,5 @@
-//! Writes a trace to files: puts a file away when it is long enough, continues in a new one, and keeps text in memory
-//! until a file accepts it.
+//! Writes a trace to files. When a file is long enough, it is put away and the trace continues in a new one. Text that
+//! cannot be written yet is kept in memory.
 #![tactic(auto)]
 
 mod file_logs;

@@ -9,12 +9,11 @@ use std::os::unix::fs::{FileExt, OpenOptionsExt};
 use std::rt::Files;
 use trace_pieces::{ListLine, is_list, line_text};
 
-/// The number of bytes at the start of a file from which a list is recognized.
+/// The number of bytes at the start of a file that are examined to recognize a list.
 const FRONT: usize = 256;
 
-/// Appends a line to the list at `path`, which is created with the given mode if it does not exist. Symbolic links are
-/// not followed. If the last line of the list is incomplete, the new line is separated from it. An error names the
-/// list.
+/// Appends a line to the list at `path`. Creates the list with the given mode if it does not exist. Does not follow
+/// symbolic links. If the last line of the list is incomplete, a newline is written first. Errors include the path.
 pub(crate) fn append_line<R: Files<File = File>>(
     rt: &R,
     alloc: Global,

@@ -18,8 +18,8 @@ use trace_pieces::{
     ListLine, Piece, PieceList, are_same, list_path, newest_piece, number_of_file, piece_path,
 };
 
-/// The number of attempts to take the lock of a trace. A program that checks whether an init is running also holds the
-/// lock for a moment.
+/// The number of attempts to lock a trace. A program that checks whether init is running also holds the lock for a
+/// moment.
 const LOCK_TRIES: u32 = 100;
 
 /// The number of names that are tried for the new file of a trace.
@@ -48,7 +48,7 @@ pub fn takes_lock(file: &File) -> bool {
     false
 }
 
-/// A list of bytes that exists in proofs only: it is the type of a note, and no value of it is ever created.
+/// A list of bytes that exists only in proofs. No value of this type is ever created at run time.
 pub struct ByteList {
     bytes: Vec<u8>,
 }
@@ -61,7 +61,7 @@ impl Model for ByteList {
     ghost view = { λ list. list.bytes.items };
 }
 
-/// Marks the note of no bytes.
+/// Marks the proof-only record of no bytes.
 struct Empty;
 
 impl Reads<(), ByteList> for Empty {
@@ -70,7 +70,7 @@ impl Reads<(), ByteList> for Empty {
     ghost value = { λ _. [] };
 }
 
-/// Marks the note of more bytes: the bytes noted before, followed by the first bytes of a buffer.
+/// Marks the proof-only record of more bytes: the recorded bytes, followed by the first bytes of a buffer.
 struct Taken;
 
 impl<'a> Reads<(&'a Noted<ByteList>, &'a [u8], usize), ByteList> for Taken {
@@ -82,19 +82,19 @@ impl<'a> Reads<(&'a Noted<ByteList>, &'a [u8], usize), ByteList> for Taken {
 /// The files of a trace in the file system.
 ///
 /// One file is being written. Its previous contents are removed only when the first bytes are written. When it is put
-/// away, another one follows it. Beside the files is the list of those that were put away. Only proofs can read the
-/// bytes that the files have taken.
+/// away, writing continues in a new file. The list of the files put away is in the same folder. Only proofs can read
+/// the bytes written to the files.
 #[derive(Drop)]
 pub struct OsFiles<'a, R> {
     rt: &'a R,
     alloc: Global,
     file: File,
     is_begun: bool,
-    /// The number of bytes that the file has taken.
+    /// The number of bytes written to the file.
     length: u64,
     /// The lowest number that a piece of this run can have.
     first: u64,
-    /// The line on the file put away last, if it is not in the list yet.
+    /// The line about the last file put away, if it is not in the list yet.
     unlisted: Option<ListLine>,
     /// The number of pieces of this run to keep, if not all are kept, and the pieces in the list.
     most: Option<u64>,
@@ -111,8 +111,8 @@ impl<R: Files<File = File>> OsFiles<'_, R> {
         self.length = 0;
     }
 
-    /// Truncates the file for a new run. If there is a list of pieces, this is recorded in it before and after the
-    /// truncation; whoever reads the list in between recognizes the earlier run by the bytes that the file still has.
+    /// Truncates the file for a new run. If there is a list of pieces, a line is added before and after the truncation. A
+    /// program that reads the list in between recognizes the earlier run, because the file is not empty yet.
     fn begin_run(&mut self, path: &str) -> io::Result<()>
         ensures { self.new.taken.value ≡ self.old.taken.value }
     {
@@ -139,7 +139,7 @@ impl<R: Files<File = File>> OsFiles<'_, R> {
         Ok(())
     }
 
-    /// Returns the pieces in the list after one more line. If all files are kept, no pieces are remembered.
+    /// Returns the pieces in the list after one more line. If all files are kept, the list in memory stays empty.
     fn pieces_with(&self, line: ListLine) -> Result<PieceList, AllocError> {
         match self.most {
             Some(_) => self.pieces.with(self.alloc, line),
@@ -147,11 +147,11 @@ impl<R: Files<File = File>> OsFiles<'_, R> {
         }
     }
 
-    /// Removes the oldest pieces if there are more than are to be kept.
+    /// Removes the oldest pieces beyond the number to keep.
     ///
-    /// Each removal is recorded in the list first. If init is killed between the two steps, a file remains that is no
-    /// longer read, but no reader ever finds one missing. If the list cannot be written, nothing is removed, and this
-    /// is tried again after the next piece.
+    /// Each removal is first recorded in the list. If init is killed between the two steps, the file remains but is no
+    /// longer read; no reader ever finds a listed file missing. If the list cannot be written, no file is removed, and
+    /// the removal is tried again after the next piece.
     fn take_away(&mut self, path: &str) -> io::Result<()>
         ensures { self.new.taken.value ≡ self.old.taken.value }
     {
@@ -179,7 +179,7 @@ impl<R: Files<File = File>> OsFiles<'_, R> {
         }
     }
 
-    /// Appends to the list of pieces what is missing from it, and creates the list if it does not exist.
+    /// Appends the line about the last file put away to the list, if it is missing. Creates the list if necessary.
     fn list_piece(&mut self, path: &str) -> io::Result<()>
         ensures { self.new.taken.value ≡ self.old.taken.value }
     {
@@ -216,7 +216,7 @@ impl<R: Files<File = File>> OsFiles<'_, R> {
         }
     }
 
-    /// Returns the line about a file that was put away under this number, or under the name of no piece.
+    /// Returns the line about a file that was put away under this number, or under a name that no piece can have.
     fn put_away_by(&self, number: Option<u64>) -> ListLine {
         match number {
             Some(number) => ListLine::Piece(number, self.length),
@@ -224,14 +224,14 @@ impl<R: Files<File = File>> OsFiles<'_, R> {
         }
     }
 
-    /// Returns the number under which the file was renamed, or `None` if its name is not that of a piece.
+    /// Returns the number of the piece that the current file was renamed to, or `None` if its name is not one of a piece.
     fn own_number(&self, path: &str) -> Option<u64> {
         let own = self.file.metadata().ok()?;
         number_of_file(self.rt, self.alloc, path, &own).ok()?
     }
 
-    /// Creates a new file beside the path, under a name that did not exist, and returns it with that name: `TRACE.new`,
-    /// or else `TRACE.new-1`, and so on.
+    /// Creates a new file in the same folder and returns it with its name, the first unused one of `TRACE.new`,
+    /// `TRACE.new-1`, and so on.
     fn made_beside(&self, path: &str) -> io::Result<(File, String)> {
         let mut new = format!(in self.alloc; "{path}.new")?;
         for number in 1..NAMES {
@@ -245,7 +245,7 @@ impl<R: Files<File = File>> OsFiles<'_, R> {
         Ok((self.created(new.as_str())?, new))
     }
 
-    /// Creates a locked file that is accessible to no more users than the current one.
+    /// Creates a locked file that gives no user more access than the current file.
     fn created(&self, path: &str) -> io::Result<File> {
         let mode = self.file.metadata()?.mode();
         let file = OpenOptions::new()
@@ -257,8 +257,8 @@ impl<R: Files<File = File>> OsFiles<'_, R> {
         Ok(file)
     }
 
-    /// Renames the trace's file, if it is at the path, to a piece, and the new file to the path. Returns the number of
-    /// the piece; if there was no file at the path, the number under which the trace's file was renamed before, if any.
+    /// Renames the trace's file to the next piece, if it is at the path, and the new file to the path. Returns the number
+    /// of the piece, or if the trace's file was renamed earlier, its number if it has one.
     fn exchange(&self, path: &str, new: &str) -> io::Result<Option<u64>> {
         match metadata(self.rt, path) {
             Ok(found) if !found.is_file() => return Err(io::Error::other("not a regular file")),
@@ -274,8 +274,8 @@ impl<R: Files<File = File>> OsFiles<'_, R> {
         Ok(number)
     }
 
-    /// Does the same for the trace's file at the path. If the file system allows it, the file has both names until the
-    /// new one replaces it; if that fails, it keeps only its own.
+    /// Renames the trace's file, which is at the path, to the next piece, and the new file to the path. If hard links are
+    /// available, the old file has both names until the new file replaces it; if that fails, it keeps its old name.
     fn exchange_piece(&self, path: &str, new: &str) -> io::Result<u64> {
         let number = self.next_number(path)?;
         let piece = piece_path(self.alloc, path, number)?;
@@ -293,7 +293,7 @@ impl<R: Files<File = File>> OsFiles<'_, R> {
     }
 }
 
-/// Removes the file of a piece if it has the length given in the list.
+/// Removes the file of a piece, if its length is the one in the list.
 fn removed<R: Files>(rt: &R, path: &str, piece: Piece) -> io::Result<()> {
     let found = symlink_metadata(rt, path)?;
     if !found.is_file() || !piece.is_whole(found.len()) {
@@ -356,7 +356,7 @@ impl<R: Files<File = File>> TraceFiles for OsFiles<'_, R> {
         Ok(())
     }
 
-    /// The file put away before is added to the list first, so that the list lacks at most one.
+    /// First adds the file that was put away before to the list, so that the list lacks at most one file.
     fn put_away(&mut self, path: &str) -> io::Result<Option<io::Error>> {
         self.list_piece(path)?;
         let (file, line) = self.next_file(path)?;
@@ -380,7 +380,7 @@ impl<R: Files<File = File>> TraceFiles for OsFiles<'_, R> {
     }
 }
 
-/// Marks the note of the bytes that files took, after those noted before.
+/// Marks the proof-only record of the bytes of returned files, after the bytes recorded before.
 struct Joined;
 
 impl<'a> Reads<(&'a Noted<ByteList>, &'a Noted<ByteList>), ByteList> for Joined {
@@ -389,7 +389,7 @@ impl<'a> Reads<(&'a Noted<ByteList>, &'a Noted<ByteList>), ByteList> for Joined 
     ghost value = { λ both. both.0.now.value ++ both.1.now.value };
 }
 
-/// The source of trace files in the file system. Only proofs can read the bytes that the files took.
+/// The source of trace files in the file system. Only proofs can read the bytes written to them.
 #[derive(Drop)]
 pub struct OsTraces<'a, R> {
     rt: &'a R,
@@ -398,7 +398,7 @@ pub struct OsTraces<'a, R> {
 }
 
 impl<'a, R: Files<File = File>> OsTraces<'a, R> {
-    /// Creates a source whose files have taken nothing.
+    /// Creates a source to which no files have been returned yet.
     pub fn new(rt: &'a R, alloc: Global) -> OsTraces<'a, R>
         ensures { result.told.value ≡ [] }
     {

@@ -8,8 +8,8 @@ use Rattle.init_words.specs.Actions.{wanted_by}
 use Rattle.init_words.specs.Levels.{same_level}
 use Rattle.trace_events.specs.declared.steps.Step.TheVariants.{Enter}
 
--- init starts the entry on entering the stage: the entry starts in this stage, and is wanted even if it was not called,
--- provided that it has not been started
+-- init starts the entry in the stage without any request: the entry starts in this stage, and is wanted when it was
+-- neither started nor called
 abbrev pub is_started : Stage → Entry → Bool
 is_started stage e = starts_of e stage && wanted_by e.act true true false
 

@@ -31,7 +31,7 @@ piece_line number words =
     then option_and_then (λ length. Some (Away number length)) (read words.0)
     else None
 
--- the line that consists of this number and these words; none if there is no such line
+-- the line that consists of this number and these words; none if that is not a valid line
 abbrev pub line_after : ℕ → List ℕ → Option ListLine
 line_after number words =
     if bytes_eq words (codes "begins") then Some (Begins number)
@@ -40,25 +40,25 @@ line_after number words =
     else if bytes_eq words (codes "taken") then Some (Taken number)
     else option_and_then (piece_line number) (cut 32 words)
 
--- the meaning of a line without its newline; none if it is not a line of a list
+-- the meaning of a line without its newline; none if the line is not valid
 abbrev pub line_at : List ℕ → Option ListLine
 line_at line =
     option_and_then (λ parts. option_and_then (λ number. line_after number parts.1) (read parts.0)) (cut 32 line)
 
--- What a list says about the last run: the lowest number that its next piece can have, unless a number was assigned by
--- hand; the pieces that still exist, oldest first; whether older ones were removed; and whether a later run was about
--- to truncate the trace's file.
+-- The last run according to the list: the lowest number that its next piece can have, unless a user assigned a number by
+-- renaming files; the pieces that still exist, oldest first; whether older ones were removed; and whether a later run
+-- announced that it would truncate the trace's file.
 pub record PieceList : Type 0 where
   pub next : Option ℕ
   pub pieces : List Piece
   pub lacks_front : Bool
   pub is_ending : Bool
 
--- the list without lines
+-- the empty list
 abbrev pub no_line : PieceList
 no_line = record { next = None; pieces = []; lacks_front = false; is_ending = false }
 
--- the number is not below the next one, which is known
+-- the next number is known and is at most this one
 abbrev pub rises_to : Option ℕ → ℕ → Bool
 rises_to None number = false
 rises_to (Some next) number = nat_le next number
@@ -71,18 +71,18 @@ number_behind number = min (number + 1) (2 ^ 64 - 1)
 abbrev pub has_number : List Piece → ℕ → Bool
 has_number pieces number = list_any (λ piece. piece.number == number) pieces
 
--- a piece, renumbered by one if it has this number or a later one
+-- the piece, with its number raised by one if it is at least `number`
 abbrev pub moved_up : ℕ → Piece → Piece
 moved_up number piece =
     if nat_lt piece.number number then piece else record piece { number = number_behind piece.number }
 
--- the pieces after a number was assigned again: whoever does that has renamed the piece with this number and all later
--- ones
+-- the pieces after a number was reused: the piece that had the number and all later ones must have been renamed to the
+-- next number
 abbrev pub all_moved_up : ℕ → List Piece → List Piece
 all_moved_up number pieces = if has_number pieces number then map (moved_up number) pieces else pieces
 
--- The list before a piece with this number is added. If the number is below the next one, it was assigned by hand:
--- later pieces have moved up, and the next number is no longer known.
+-- The list before a piece with this number is added. If the number is below the next one, a user assigned it by renaming
+-- files: later pieces have moved up by one, and the next number is no longer known.
 abbrev pub room_for : PieceList → ℕ → PieceList
 room_for list number =
     if rises_to list.next number
@@ -103,7 +103,7 @@ behind_oldest (piece ∷ pieces) = pieces
 abbrev pub without_oldest : PieceList → PieceList
 without_oldest list = record list { pieces = behind_oldest list.pieces; lacks_front = true }
 
--- the list after one more line; a file that was renamed to no piece's name counts as a piece with number 0
+-- the list after one more line; a file that was renamed to a name that no piece can have counts as a piece with number 0
 abbrev pub with_line : PieceList → ListLine → PieceList
 with_line list (Begins first) = record list { is_ending = true }
 with_line list (Begun first) = record { next = Some first; pieces = []; lacks_front = false; is_ending = false }
@@ -116,7 +116,7 @@ abbrev pub with_found : PieceList → Option ListLine → PieceList
 with_found list None = list
 with_found list (Some line) = with_line list line
 
--- the list after the text of one more line, which is ignored if it is not a line of a list
+-- the list after the text of one more line, which is ignored if it is not valid
 abbrev pub with_text : PieceList → List ℕ → PieceList
 with_text list line = with_found list (line_at line)
 
@@ -125,7 +125,7 @@ abbrev pub with_lines : PieceList → List (List ℕ) → PieceList
 with_lines list [] = list
 with_lines list (line ∷ lines) = with_lines (with_text list line) lines
 
--- the list that a text describes
+-- the list that results from a text
 abbrev pub list_of : List ℕ → PieceList
 list_of text = with_lines no_line (lines_of text)
 
@@ -134,13 +134,13 @@ abbrev pub unlisted : Option ℕ → Bool → List Piece
 unlisted (Some number) true = record { number = number; length = None } ∷ []
 unlisted _ _ = []
 
--- the pieces that precede the file at the trace's path; none if that file is empty and a later run was about to
--- truncate it
+-- the pieces that precede the file at the trace's path; none if that file is empty and a later run announced that it
+-- would truncate it
 abbrev pub pieces_before : PieceList → Bool → Bool → List Piece
 pieces_before list is_empty has_next =
     if list.is_ending && is_empty then [] else list.pieces ++ unlisted list.next has_next
 
--- the pieces before those were removed
+-- pieces before the listed ones were removed
 abbrev pub lacks_front : PieceList → Bool → Bool
 lacks_front list is_empty = list.lacks_front && not (list.is_ending && is_empty)
 
@@ -153,12 +153,12 @@ first_piece (piece ∷ pieces) = Some piece
 abbrev pub oldest_beyond : PieceList → ℕ → Option Piece
 oldest_beyond list most = if nat_le (length list.pieces) most then None else first_piece list.pieces
 
--- a file has the length given in the list, or the list gives none
+-- a file of this length matches the length in the list, if the list has one
 abbrev pub is_length : Option ℕ → ℕ → Bool
 is_length None length = true
 is_length (Some listed) length = listed == length
 
--- a file of this length can be the whole piece, as far as the list says
+-- according to the list, a file of this length can be the whole piece
 abbrev pub is_whole : Piece → ℕ → Bool
 is_whole piece length = is_length piece.length length
 
@@ -172,7 +172,7 @@ abbrev pub away_from : ℕ → List ℕ → List ListLine
 away_from number [] = []
 away_from number (length ∷ lengths) = Away number length ∷ away_from (number_behind number) lengths
 
--- the pieces that such files are
+-- the pieces for files of these lengths, numbered from this number on
 abbrev pub numbered : ℕ → List ℕ → List Piece
 numbered number [] = []
 numbered number (length ∷ lengths) =
@@ -182,7 +182,7 @@ numbered number (length ∷ lengths) =
 abbrev pub IsOfRun : List Piece → PieceList → Type 0
 IsOfRun pieces list = (list.pieces ≡ pieces) × (list.lacks_front ≡ false) × (list.is_ending ≡ false)
 
--- the list after init has removed a piece, if any: it writes a `taken` line and then removes the file
+-- the list after init has removed this piece, if any: init writes a `taken` line and then removes the file
 abbrev pub without_found : PieceList → Option Piece → PieceList
 without_found list None = list
 without_found list (Some piece) = with_line list (Taken piece.number)
@@ -191,15 +191,15 @@ without_found list (Some piece) = with_line list (Taken piece.number)
 abbrev pub with_most : ℕ → PieceList → PieceList
 with_most most list = without_found list (oldest_beyond list most)
 
--- the list after files of these lengths were put away, numbered from this number on, and each time the oldest piece
--- beyond the limit was removed
+-- the list after init has put away files of these lengths, numbered from this number on, and each time removed the
+-- oldest piece beyond the limit
 abbrev pub keeping : ℕ → PieceList → ℕ → List ℕ → PieceList
 keeping most list number [] = list
 keeping most list number (length ∷ lengths) =
     keeping most (with_most most (with_line list (Away number length))) (number_behind number) lengths
 
--- Of all the pieces that a run put away, the list has the newest ones: as many as the limit allows, or all of them if
--- they are fewer. It is marked as incomplete at the front exactly if pieces were removed.
+-- Of all pieces of a run, the list has the newest ones, up to the limit. It is marked as lacking older pieces exactly
+-- if pieces were removed.
 abbrev pub IsKept : ℕ → List Piece → PieceList → Type 0
 IsKept most all list =
     (taken : List Piece) × (taken ++ list.pieces ≡ all) × (length list.pieces ≡ min most (length all))

@@ -23,7 +23,7 @@ name_at (b ∷ path) = if b == 47 || has_byte 47 path then name_at path else b �
 abbrev pub behind_front : List ℕ → List ℕ → Option (List ℕ)
 behind_front front text = if bytes_eq (take (length front) text) front then Some (drop (length front) text) else None
 
--- the number of the piece that has a file name, given the file name of the trace; none if it is not the name of a piece
+-- the number in the file name of a piece, given the file name of the trace; none for any other file name
 abbrev pub number_in : List ℕ → List ℕ → Option ℕ
 number_in trace name =
     option_and_then (number_read (2 ^ 64))

@@ -1,5 +1,5 @@
-//! A trace in pieces: `TRACE.1`, `TRACE.2` and so on, which were put away, oldest first; `TRACE`, which is still being
-//! written; and `TRACE.0.pieces`, the list of the pieces that init keeps.
+//! A trace in pieces (a rotated trace): `TRACE.1`, `TRACE.2` and so on are the files already put away, oldest first;
+//! `TRACE` is the file being written; and `TRACE.0.pieces` is the list of the pieces, which init writes.
 #![tactic(auto)]
 
 mod lists;

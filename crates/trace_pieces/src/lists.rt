@@ -1,4 +1,4 @@
-//! The list of a trace's pieces, `TRACE.0.pieces`, which records in one line each what became of the trace's files.
+//! The list of a trace's pieces, `TRACE.0.pieces`. Each line records a change to the trace's files.
 
 ghost use Rattle.std.specs.Prelude.{◌≡◌, ◌∷◌, ℕ, List, [], map, string_bytes, is_some, IfOk, OnOk};
 ghost use Rattle.std.specs.List.{list_any};
@@ -15,19 +15,19 @@ use text_lines::{cut, next_line, read_number};
 /// A line of the list.
 #[derive(Clone, Copy)]
 pub enum ListLine {
-    /// A run is about to truncate the trace's file. Its pieces have at least this number.
+    /// A run is about to truncate the trace's file. The pieces of the run will have at least this number.
     Begins(u64),
     /// The run has truncated the file.
     Begun(u64),
-    /// A file was put away under this number, with this length in bytes.
+    /// A file of this length in bytes (the second value) was put away under this number (the first).
     Piece(u64, u64),
-    /// A file of this length in bytes was renamed to a name that is not that of a piece.
+    /// A file of this length in bytes was renamed to a name that no piece can have.
     Gone(u64),
-    /// The oldest piece, which has this number, is about to be removed.
+    /// Init is about to remove the oldest piece, which has this number.
     Taken(u64),
 }
 
-/// A piece of a run: the number in its name, 0 if it no longer has one, and its length in bytes, if the list gives it.
+/// A piece of a run: the number in its name (0 if it has no number any more), and its length in bytes, if it is listed.
 #[derive(Clone, Copy)]
 pub struct Piece {
     pub number: u64,
@@ -37,13 +37,13 @@ pub struct Piece {
 /// The pieces of the last run that a list describes.
 #[derive(Drop)]
 pub struct PieceList {
-    /// The lowest number that the next piece can have; `None` if a number was assigned by hand.
+    /// The lowest number that the next piece can have; `None` if a user assigned a number by renaming files.
     next: Option<u64>,
     /// The pieces, oldest first.
     pieces: Vec<Piece>,
     /// Whether older pieces were removed.
     lacks_front: bool,
-    /// Whether a later run was about to truncate the trace's file.
+    /// Whether a later run announced that it would truncate the trace's file.
     is_ending: bool,
 }
 
@@ -62,7 +62,7 @@ impl Model for PieceList {
 }
 
 impl Piece {
-    /// Returns whether a file of this length can be the whole piece: the list gives this length, or none.
+    /// Returns whether a file of this length can be the whole piece: the list has this length for it, or no length.
     pub fn is_whole(&self, length: u64) -> bool
         ensures { result ≡ is_whole self.now length }
     {
@@ -73,8 +73,7 @@ impl Piece {
     }
 }
 
-/// Returns a line of the list, with its newline. The keyword comes last, so that a line that was cut off is not a line
-/// of a list.
+/// Returns a line of the list, with its newline. The keyword comes last, so that a truncated line is not valid.
 pub fn line_text(alloc: Global, line: ListLine) -> Result<String, AllocError>
     ensures { IfOk result (λ text. string_bytes text ≡ line_text line) }
 {
@@ -87,7 +86,7 @@ pub fn line_text(alloc: Global, line: ListLine) -> Result<String, AllocError>
     }
 }
 
-/// Returns the line that consists of a number and these words, if there is one.
+/// Returns the line that consists of a number and these words, if that is a valid line.
 fn numbered(number: u64, words: &[u8]) -> Option<ListLine>
     ensures { result ≡ line_after number words.now }
 {
@@ -110,7 +109,7 @@ fn numbered(number: u64, words: &[u8]) -> Option<ListLine>
     None
 }
 
-/// Returns the meaning of a line, or `None` if it is not a line of a list.
+/// Reads a line of the list, or returns `None` if it is not valid.
 fn line_at(line: &[u8]) -> Option<ListLine>
     ensures { result ≡ line_at line.now }
 {
@@ -118,7 +117,7 @@ fn line_at(line: &[u8]) -> Option<ListLine>
     numbered(read_number(number)?, words)
 }
 
-/// Returns a piece, renumbered by one if it has this number or a later one.
+/// Returns the piece, with its number raised by one if it is at least `number`.
 fn moved_up(number: u64, piece: Piece) -> Piece
     ensures { result ≡ moved_up number piece }
 {
@@ -131,7 +130,7 @@ fn moved_up(number: u64, piece: Piece) -> Piece
     }
 }
 
-/// Renumbers all pieces from `number` on by one: whoever assigns a number again has renamed these pieces before.
+/// Raises the numbers of all pieces from `number` on by one, because a number is only reused after renaming these pieces.
 fn all_moved_up(alloc: Global, number: u64, pieces: &[Piece]) -> Result<Vec<Piece>, AllocError>
     ensures { IfOk result (λ moved. moved.items ≡ map (moved_up number) pieces.now) }
 {
@@ -141,7 +140,7 @@ fn all_moved_up(alloc: Global, number: u64, pieces: &[Piece]) -> Result<Vec<Piec
         .collect(alloc)
 }
 
-/// Returns whether a text has at least one line of a list.
+/// Returns whether a text has at least one valid line of a list.
 pub fn is_list(text: &[u8]) -> bool
     ensures { result ≡ list_any (λ line. is_some (line_at line)) (lines_of text.now) }
 {
@@ -156,7 +155,7 @@ pub fn is_list(text: &[u8]) -> bool
 }
 
 impl PieceList {
-    /// Creates the list without lines.
+    /// Creates an empty list.
     pub fn new(alloc: Global) -> PieceList
         ensures { result ≡ no_line }
     {
@@ -214,7 +213,7 @@ impl PieceList {
         Ok(())
     }
 
-    /// Removes the oldest piece, and records that the front is incomplete.
+    /// Removes the oldest piece, and records that older pieces were removed.
     fn take_oldest(&mut self)
         ensures { self.new ≡ without_oldest self.old }
     {
@@ -224,7 +223,7 @@ impl PieceList {
         self.lacks_front = true;
     }
 
-    /// Updates the list for the text of a line, if it is a line of a list.
+    /// Updates the list for the text of a line, if the line is valid.
     fn take_text(&mut self, alloc: Global, text: &[u8]) -> Result<(), AllocError>
         ensures { OnOk result (self.new ≡ with_text self.old text.now) }
     {
@@ -234,7 +233,7 @@ impl PieceList {
         }
     }
 
-    /// Makes the list ready for a piece with this number.
+    /// Prepares the list for a piece with this number, by renumbering later pieces if necessary.
     fn make_room(&mut self, alloc: Global, number: u64) -> Result<(), AllocError>
         ensures { OnOk result (self.new ≡ room_for self.old number) }
     {
@@ -249,7 +248,7 @@ impl PieceList {
         Ok(())
     }
 
-    /// Returns whether the number is not below the next one, which has to be known.
+    /// Returns whether the next number is known and is at most this one.
     fn rises_to(&self, number: u64) -> bool
         ensures { result ≡ rises_to self.now.next number }
     {
@@ -267,7 +266,7 @@ impl PieceList {
         Ok(())
     }
 
-    /// Reads the list that a text describes. Lines that are not those of a list are ignored.
+    /// Reads the text of a list. Invalid lines are ignored.
     pub fn read(alloc: Global, text: &[u8]) -> Result<PieceList, AllocError>
         ensures { IfOk result (λ list. list ≡ list_of text.now) }
     {
@@ -280,8 +279,8 @@ impl PieceList {
         Ok(list)
     }
 
-    /// Returns the lowest number that the next piece can have, or `None` if a number was assigned by hand. If a file
-    /// with this number exists, it was put away but is not in the list yet.
+    /// Returns the lowest number that the next piece can have, or `None` if a user assigned a number by renaming files.
+    /// If a file with this number exists, it was put away but is not in the list yet.
     pub fn next_number(&self) -> Option<u64>
         ensures { result ≡ self.now.next }
     {
@@ -308,8 +307,8 @@ impl PieceList {
 
     /// Returns the pieces that precede the file at the trace's path, oldest first.
     ///
-    /// There are none if that file is empty and a later run was about to truncate it. If `has_next` is set, a file with
-    /// the next number exists, and is the last of them.
+    /// There are none if that file is empty and a later run had announced that it would truncate it. If `has_next` is
+    /// set, a file with the next number exists and is the last piece.
     pub fn into_pieces(self, is_empty: bool, has_next: bool) -> Result<Vec<Piece>, AllocError>
         ensures { IfOk result (λ pieces.
             pieces.items ≡ pieces_before self is_empty has_next) }
@@ -335,17 +334,17 @@ impl PieceList {
     }
 }
 
-/// States in its contract that a list has exactly the pieces of the run that began last, in the order in which they
-/// were put away, whatever lines precede them. The function itself does nothing.
+/// States in its contract that a list has exactly the pieces of the last run, in the order in which they were put away,
+/// whatever lines precede them. The function itself does nothing.
 pub fn law_of_a_list()
     ensures { (list : PieceListValue) (first : ℕ) (lengths : List ℕ)
         → IsOfRun (numbered first lengths)
         (with_all list (Begun first ∷ away_from first lengths)) }
 {}
 
-/// States in its contract what a list has if the oldest pieces beyond a limit are removed each time a piece is put
-/// away: the newest pieces of the run, whatever lines precede them, and a mark if others before them were removed. The
-/// function itself does nothing.
+/// States in its contract that a list has the newest pieces of the run, and a mark if older ones were removed, whatever
+/// lines precede them, if each time a piece is put away, the oldest pieces beyond a limit are removed. The function
+/// itself does nothing.
 pub fn law_of_a_list_that_keeps()
     ensures { (list : PieceListValue) (first most : ℕ) (lengths : List ℕ)
         → IsKept most (numbered first lengths)

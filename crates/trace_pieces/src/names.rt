@@ -1,4 +1,4 @@
-//! The names of pieces and of their list.
+//! The file names of the pieces of a trace and of their list.
 
 ghost use Rattle.std.specs.Prelude.{◌≡◌, ◌++◌, ◌∷◌, [], filter_map, string_bytes, IfOk, OnOk};
 ghost use Rattle.program_io.specs.Known.{IsTextAt, KnownTexts};
@@ -19,7 +19,7 @@ pub fn piece_path<A: Allocator>(alloc: A, trace: &str, number: u64) -> Result<St
     format!(in alloc; "{trace}.{number}")
 }
 
-/// Returns the path of the list of a trace's pieces. In a sorted listing of the folder it precedes the pieces.
+/// Returns the path of the list of a trace's pieces. A sorted listing of the folder shows it before the pieces.
 pub fn list_path<A: Allocator>(alloc: A, trace: &str) -> Result<String<A>, AllocError>
     ensures { IfOk result (λ path. string_bytes path ≡ list_path trace.now) }
 {
@@ -33,7 +33,7 @@ pub fn are_same(one: &Metadata, other: &Metadata) -> bool {
 
 /// A source of the file names in folders.
 ///
-/// A contract sees the names beside a path, if they are known; they may be known for no path.
+/// Contracts describe the file names in the folder of a path, if these are known.
 pub trait FolderNames {
     /// The file names in the folder of a path; `None` if they are not known.
     ghost names_beside: { Self → KnownTexts };
@@ -43,7 +43,7 @@ pub trait FolderNames {
         ensures { IfOk result (λ names. IsTextAt (names_beside self.now) path.now names.items) };
 }
 
-/// The folders of the file system, about whose names contracts know nothing.
+/// The folders of the file system. Contracts know nothing about the names in them.
 impl<R: Files> FolderNames for R {
     ghost use Rattle.std.specs.Prelude.{None};
 
@@ -76,7 +76,7 @@ fn name_at(path: &[u8]) -> &[u8]
     name
 }
 
-/// Returns the number of the piece that has a file name, given the file name of the trace.
+/// Returns the number in the file name of a piece, given the file name of the trace, or `None` for any other name.
 fn number_in(trace: &[u8], name: &[u8]) -> Option<u64>
     ensures { result ≡ number_in trace.now name.now }
 {
@@ -84,7 +84,7 @@ fn number_in(trace: &[u8], name: &[u8]) -> Option<u64>
     read_number(after.strip_prefix(b".")?)
 }
 
-/// Appends the number of the piece that has a file name, if it is the name of one.
+/// Appends the number in a file name, if it is the name of a piece.
 fn add_number(numbers: &mut Vec<u64>, trace: &[u8], name: &[u8]) -> Result<(), AllocError>
     ensures { OnOk result (numbers.new.items
         ≡ numbers.old.items ++ filter_map (number_in trace.now) (name.now ∷ [])) }
@@ -95,7 +95,7 @@ fn add_number(numbers: &mut Vec<u64>, trace: &[u8], name: &[u8]) -> Result<(), A
     Ok(())
 }
 
-/// Returns the numbers of a trace's pieces among file names.
+/// Returns the numbers of the pieces of a trace whose names are in a list of file names.
 fn numbers_among(alloc: Global, trace: &[u8], names: &[u8]) -> Result<Vec<u64>, AllocError>
     ensures { IfOk result (λ numbers. numbers.items ≡ numbers_among trace.now names.now) }
 {
@@ -129,7 +129,7 @@ pub fn newest_piece<N: FolderNames>(names: &N, alloc: Global, trace: &str) -> io
     Ok(newest)
 }
 
-/// Returns whether a file is the piece with this number.
+/// Returns whether the file is the piece with this number.
 pub(crate) fn is_piece<R: Files>(
     rt: &R,
     alloc: Global,
@@ -141,7 +141,7 @@ pub(crate) fn is_piece<R: Files>(
     Ok(fs::metadata(rt, path.as_str()).is_ok_and(|found| are_same(&found, file)))
 }
 
-/// Returns the number of the piece that a file is, or `None` if it is no piece.
+/// Returns the number of the piece if the file is one, and `None` otherwise.
 pub fn number_of_file<R: Files>(
     rt: &R,
     alloc: Global,

@@ -10,7 +10,7 @@ use std::os::unix::fs::MetadataExt;
 use std::rt::Files;
 use std::{fs, io};
 
-/// The pieces that are read before a trace's file.
+/// The pieces that a reader reads before the file at the path of the trace.
 #[derive(Clone, Copy)]
 struct ReadPieces {
     /// The number of the first piece.
@@ -23,18 +23,18 @@ struct ReadPieces {
 
 /// A reader of a trace, from the beginning of its run.
 ///
-/// A file that is put away or renamed while it is being read is read to its end. The reader then continues with the
-/// files that follow it, up to the end of the file at the trace's path. A file that is shorter than what was read of it
-/// was truncated by another run; this is the error `InvalidData`.
+/// If the current file is put away or renamed, the reader reads it to its end. It then continues with the files that
+/// follow, up to the end of the file at the path of the trace. If the file is shorter than the number of bytes already
+/// read, another run has truncated it, and reading fails with `InvalidData`.
 #[derive(Drop)]
 pub struct TraceReader<'a, R> {
     rt: &'a R,
     alloc: Global,
     path: String,
     file: File,
-    /// The number of bytes read of the file.
+    /// The number of bytes read from the file.
     position: u64,
-    /// The file after this one, to which nothing is written any more.
+    /// The file that follows the current one, once nothing is written to the current one any more.
     next: Option<File>,
     /// The pieces still to be read before the file at the path, newest first.
     later: Vec<Piece>,
@@ -76,12 +76,12 @@ impl<'a, R: Files<File = File>> TraceReader<'a, R> {
 
     /// Opens the trace at `path`.
     ///
-    /// If there is a list of its pieces, those of the last run are read before the file. A piece that is missing is the
-    /// error `NotFound`, and one of another length `InvalidData`. If there is no list and the file does not begin with
-    /// the start of a run, the pieces are read from the last one that does.
+    /// If there is a list of pieces, the pieces of the last run are read before the file. Fails with `NotFound` if a
+    /// piece is missing, and with `InvalidData` if its length differs from the list. If there is no list and the file
+    /// does not begin with the start of a run, reading begins with the last piece that does.
     fn open(rt: &'a R, alloc: Global, path: &str) -> io::Result<TraceReader<'a, R>> {
         match TraceReader::open_once(rt, alloc, path) {
-            // A piece may have been removed since the list was read; the list records that before the removal.
+            // A piece may have been removed since the list was read. The list records a removal before it happens.
             Err(error) if error.kind() == ErrorKind::NotFound => {
                 TraceReader::open_once(rt, alloc, path)
             }
@@ -89,7 +89,7 @@ impl<'a, R: Files<File = File>> TraceReader<'a, R> {
         }
     }
 
-    /// Does the same, reading the list once.
+    /// Opens the trace as `open` does, but reads the list only once.
     fn open_once(rt: &'a R, alloc: Global, path: &str) -> io::Result<TraceReader<'a, R>> {
         let path = pieced_path(rt, alloc, path)?;
         // The list is read after the file was opened, so it has every piece before this file.
@@ -109,7 +109,7 @@ impl<'a, R: Files<File = File>> TraceReader<'a, R> {
         }
     }
 
-    /// Creates a reader that reads these pieces first, and then the file that was at `path`.
+    /// Creates a reader that reads these pieces first, and then `file`, which was at `path`.
     fn with_pieces(
         rt: &'a R,
         alloc: Global,
@@ -160,8 +160,8 @@ impl<'a, R: Files<File = File>> TraceReader<'a, R> {
         Ok(TraceReader::of(rt, alloc, path, file))
     }
 
-    /// Opens the file at the path. Returns `None` if there is none, as while a file that was renamed is still being
-    /// written.
+    /// Opens the file at the path. Returns `None` if there is none, for example after the file was renamed and is still
+    /// being written.
     fn found(&self) -> io::Result<Option<File>> {
         match open_plain(self.rt, self.path.as_str()) {
             Ok(found) => Ok(Some(found)),
@@ -170,8 +170,8 @@ impl<'a, R: Files<File = File>> TraceReader<'a, R> {
         }
     }
 
-    /// Returns the listed pieces after the one that a file is, newest first, or none if the file is not a piece. A file
-    /// that was removed is an error, because pieces after it may have been removed too.
+    /// Returns the listed pieces after this file, newest first, or none if the file is not a piece. Fails if the file was
+    /// removed, because pieces after it may have been removed too.
     fn pieces_after(&self, file: &Metadata) -> io::Result<Vec<Piece>> {
         let path = self.path.as_str();
         let mut later = Vec::new(self.alloc);
@@ -215,8 +215,8 @@ impl<'a, R: Files<File = File>> TraceReader<'a, R> {
         }
     }
 
-    /// Returns the file that follows the current one, or `None` if that is the file at the path, or if there is no file
-    /// yet.
+    /// Returns the file that follows the current one. Returns `None` if the current one is the file at the path, or if no
+    /// file is at the path yet.
     fn successor(&mut self) -> io::Result<Option<File>> {
         if let Some(piece) = self.later.pop() {
             return self.open_later(piece).map(Some);
@@ -236,7 +236,7 @@ impl<'a, R: Files<File = File>> TraceReader<'a, R> {
         }
     }
 
-    /// Returns an error if a file is shorter than what was read of it, and otherwise that no file follows it.
+    /// Fails if the file is shorter than the number of bytes already read; otherwise returns that no file follows.
     fn refuse_begun_anew(&self, found: &Metadata) -> io::Result<Option<File>> {
         if found.len() < self.position {
             let message = "another run has started it anew; run follow again";
@@ -253,7 +253,7 @@ impl<'a, R: Files<File = File>> TraceReader<'a, R> {
         }
     }
 
-    /// Builds the error that the existing files are not a whole run.
+    /// Returns the error for a run whose first pieces are missing.
     fn without_front(&self) -> Error {
         let first = self.first_number();
         let message = format!(in self.alloc;
@@ -265,7 +265,7 @@ impl<'a, R: Files<File = File>> TraceReader<'a, R> {
         }
     }
 
-    /// Returns an error if the existing files look like a run that begins with them.
+    /// Fails if the first existing file looks like the beginning of a run.
     fn refuse_new_run(&mut self) -> io::Result<()> {
         if !begins_run(&mut self.file)? {
             return Ok(());
@@ -277,8 +277,8 @@ impl<'a, R: Files<File = File>> TraceReader<'a, R> {
         Err(Error::new(ErrorKind::InvalidData, message.as_str()))
     }
 
-    /// Continues with the next file at the end of the current one. When the next file is first found, the current one
-    /// is read to its end once more. Returns false if there is no next file.
+    /// Continues with the next file at the end of the current one. After finding the next file, the reader first reads
+    /// the current one to its end once more. Returns false if there is no next file.
     fn go_on(&mut self) -> io::Result<bool> {
         if let Some(file) = self.next.take() {
             self.file = file;
@@ -290,14 +290,14 @@ impl<'a, R: Files<File = File>> TraceReader<'a, R> {
     }
 }
 
-/// Builds the error that a piece was removed before it was read.
+/// Returns the error for a piece that was removed before the reader reached it.
 fn is_taken_since() -> Error {
     let message = "a piece was removed before it was read; try again";
     Error::new(ErrorKind::InvalidData, message)
 }
 
-/// Returns the path of a trace; if that is a symbolic link without pieces beside it, the path of the file that it
-/// points to, if that has pieces.
+/// Returns the path of a trace. If that is a symbolic link without pieces beside it, returns the path of its target,
+/// if the target has pieces.
 fn pieced_path<R: Files>(rt: &R, alloc: Global, path: &str) -> io::Result<String> {
     let copy = String::from_str(alloc, path)?;
     let is_link = fs::symlink_metadata(rt, path).is_ok_and(|found| found.is_symlink());
@@ -314,14 +314,14 @@ fn pieced_path<R: Files>(rt: &R, alloc: Global, path: &str) -> io::Result<String
     Ok(copy)
 }
 
-/// Returns whether there are pieces of a trace beside it, or a list of them.
+/// Returns whether the folder of a trace has pieces of it, or a list of pieces.
 fn has_pieces<R: Files>(rt: &R, alloc: Global, path: &str) -> io::Result<bool> {
     let list = list_path(alloc, path)?;
     Ok(fs::metadata(rt, list.as_str()).is_ok() || newest_piece(rt, alloc, path)? > 0)
 }
 
-/// Returns the pieces of the run that wrote a trace last according to their list, oldest first, or `None` if there is
-/// no list with any valid line. The file that is still at the path of the trace is not one of them.
+/// Returns the listed pieces of the last run, oldest first, or `None` if there is no list with any valid line. The file
+/// at the path of the trace is not among them.
 fn listed_pieces<R: Files<File = File>>(
     rt: &R,
     alloc: Global,
@@ -422,7 +422,7 @@ fn open_piece<R: Files<File = File>>(
     Err(Error::new(ErrorKind::InvalidData, message.as_str()))
 }
 
-/// Builds the error that a file of the run was renamed to a name that is not that of a piece.
+/// Returns the error for a file of the run that was renamed to a name that no piece can have.
 fn is_gone(alloc: Global, path: &str, length: u64) -> Error {
     let message = format!(in alloc;
         "{length} bytes of {path} are missing: the file was given a name that no piece has"
@@ -442,7 +442,7 @@ fn begins_run(file: &mut File) -> io::Result<bool> {
 }
 
 impl<R: Files<File = File>> Read for TraceReader<'_, R> {
-    /// Returns 0 at the end of the trace. A trace of more than 4,294,967,296 files is the error `FileTooLarge`.
+    /// Returns 0 at the end of the trace. Fails with `FileTooLarge` if the trace has more than 4,294,967,296 files.
     fn read(&mut self, buf: &mut [u8]) -> io::Result<usize> {
         for _ in 0..PIECES_LIMIT {
             let count = self.file.read(buf)?;
@@ -458,14 +458,13 @@ impl<R: Files<File = File>> Read for TraceReader<'_, R> {
     }
 }
 
-/// Returns whether a path is standard input or a device, as a shell may pass it. Such a file has no pieces, and is read
-/// to its end.
+/// Returns whether a path is `-` or is in `/dev`, such as the path of a pipe from the shell. Such a file has no pieces.
 pub fn is_given(path: &str) -> bool {
     path == "-" || path.starts_with("/dev/")
 }
 
-/// The files of the file system, where a trace is read together with the pieces that precede it. This is reported on
-/// standard error under the name of a program. Contracts know nothing about their texts.
+/// The files of the file system, with each trace read together with the pieces that precede it. The program reports
+/// these pieces on standard error. Contracts know nothing about the contents of the files.
 #[derive(Drop)]
 pub struct PiecedFiles<'a, R> {
     rt: &'a R,
@@ -475,9 +474,9 @@ pub struct PiecedFiles<'a, R> {
 }
 
 impl<'a, R: Files<File = File> + Eprint> PiecedFiles<'a, R> {
-    /// Creates access to the files for the program of this name. If `is_shown` is set, a trace with a piece that is
-    /// missing or has another length is read without its pieces, and this is reported; otherwise it is an error,
-    /// `NotFound` or `InvalidData`.
+    /// Creates access to the files for the program of this name. If a piece is missing or its length differs from the
+    /// list, then with `is_shown`, a message is printed and the trace is read without its pieces; otherwise, reading
+    /// fails with `NotFound` or `InvalidData`.
     pub fn new(rt: &'a R, alloc: Global, program: &'a str, is_shown: bool) -> PiecedFiles<'a, R> {
         PiecedFiles {
             rt,
@@ -487,7 +486,7 @@ impl<'a, R: Files<File = File> + Eprint> PiecedFiles<'a, R> {
         }
     }
 
-    /// Opens the trace at `path`, to be shown from its first existing piece on. Reports if earlier pieces were removed.
+    /// Opens the trace at `path`, from its first existing piece on. Prints a message if earlier pieces were removed.
     pub fn open(&self, path: &str) -> io::Result<TraceReader<'a, R>> {
         let mut trace = self.opened(path)?;
         if trace.lacks_front {
@@ -499,8 +498,7 @@ impl<'a, R: Files<File = File> + Eprint> PiecedFiles<'a, R> {
         Ok(trace)
     }
 
-    /// Opens the trace at `path`, from the beginning of its run. If earlier pieces were removed, this is the error
-    /// `NotFound`.
+    /// Opens the trace at `path`, from the beginning of its run. Fails with `NotFound` if earlier pieces were removed.
     fn open_whole(&self, path: &str) -> io::Result<TraceReader<'a, R>> {
         let trace = self.opened(path)?;
         if trace.lacks_front {
@@ -526,7 +524,7 @@ impl<'a, R: Files<File = File> + Eprint> PiecedFiles<'a, R> {
     }
 }
 
-/// Returns whether the error means that a piece is missing, or is not the file that was put away.
+/// Returns whether the error means that a piece is missing or has been replaced.
 fn is_of_pieces(error: &Error) -> bool {
     matches!(error.kind(), ErrorKind::NotFound | ErrorKind::InvalidData)
 }
