@@ -1,4 +1,4 @@
--- The action that was probably meant by an unknown word.
+-- The action that an unknown word probably means.
 use Rattle.std.specs.Prelude.{List, ℕ, find, Option}
 use Rattle.command_words.specs.Slips.{is_slip}
 use Rattle.init_words.specs.declared.actions.Act.{Act}

@@ -11,8 +11,8 @@ use Rattle.inittab_lint.specs.declared.traps.Warning.TheVariants as warning
 use Rattle.inittab_lint.specs.Shell.{begins_with, first_word, is_assigned, is_shell_word, is_special}
 use Rattle.inittab_lint.specs.Warnings.{run_by}
 
--- the word is not just the name of a program: it has a character that the shell interprets, it is a word of the shell
--- or an assignment, or it begins with @
+-- the word is not just the name of a program: it has a character that the shell interprets, it has a meaning to the
+-- shell, it is an assignment, or it begins with @
 abbrev pub is_read : List ℕ → Bool
 is_read word = list_any is_special word || is_shell_word word || is_assigned word || begins_with 64 word
 
@@ -25,18 +25,18 @@ abbrev pub program_with : Option Act → FieldBytes → List ℕ
 program_with None f = []
 program_with (Some action) f = named_by (first_word (run_by action f.process))
 
--- the program of a line with these fields; none if it does not have those of an entry
+-- the program of a line with these fields; no characters if the line has too few fields
 abbrev pub program_at : Option FieldBytes → List ℕ
 program_at None = []
 program_at (Some f) = program_with (act_read f.action) f
 
--- the program that a line starts; none if the line is empty or a comment
+-- the program that a line starts; no characters if the line is empty or a comment
 abbrev pub program_of : List ℕ → List ℕ
 program_of line =
     let text = skip_blanks line in
     if is_ignored text then [] else program_at (fields_of text)
 
--- the warning is that the program was not found, which depends on the file system
+-- the warning is that the program does not exist, which depends on the file system
 abbrev pub is_missing_program : Warning → Bool
 is_missing_program warning.Missing = true
 is_missing_program _ = false

@@ -1,6 +1,6 @@
--- How the shell reads a process, which init starts with `sh -c "exec PROCESS"` (inittab(5)): the quotes and parentheses
--- of it, its operators, comments and expansions. A *part* is a quoted, parenthesized or braced section; it is
--- represented by the character that closes it.
+-- How the shell reads a process, which init starts with `sh -c "exec PROCESS"` (inittab(5)): its quotes, parentheses,
+-- operators, comments and expansions. A *part* is a quoted, parenthesized or braced section; it is represented by the
+-- character that closes it.
 use Rattle.std.specs.Prelude.{ℕ, Bool, true, false, not, ◌&&◌, ◌||◌, ◌==◌, ◌-◌, nat_le, if◌then◌else◌, List, [], ◌∷◌}
 use Rattle.std.specs.Prelude.{◌++◌, codes, length, take, slice_get, Option, Some, None, is_some, unwrap_or}
 use Rattle.std.specs.Prelude.{option_to_list}
@@ -19,12 +19,12 @@ abbrev pub is_part : ℕ → Option ℕ → Bool
 is_part close None = false
 is_part close (Some b) = b == close
 
--- the text is read as commands: outside all parts, or directly in a parenthesis
+-- the shell reads commands here: outside all parts, or directly in a parenthesis
 abbrev pub in_commands : Option ℕ → Bool
 in_commands None = true
 in_commands (Some close) = close == 41
 
--- the text is read literally: within single quotes or backquotes
+-- the text here is literal: within single quotes or backquotes
 abbrev pub is_literal : Option ℕ → Bool
 is_literal part = is_part 39 part || is_part 96 part
 
@@ -42,8 +42,8 @@ opened part b c =
     else if (b == 34 || b == 39) && (in_commands part || is_part 125 part) then Some b
     else None
 
--- the two characters are read as one: a backslash, outside single quotes, with any character; $( and ${; and, among
--- commands, <& and >& and >|
+-- the two characters form a unit: a backslash, outside single quotes, with any character; $( and ${; and, among commands,
+-- <& and >& and >|
 abbrev pub is_two : Option ℕ → ℕ → ℕ → Bool
 is_two part b c =
     b == 92 && not (is_part 39 part)
@@ -78,13 +78,13 @@ unclosed (Some close) = Some Unclosed
 abbrev pub innermost : List ℕ → Option ℕ
 innermost parts = slice_get parts (length parts - 1)
 
--- the open parts after this character, or after both characters if they are read as one
+-- the open parts after this character, or after both characters if they form a unit
 abbrev pub parts_after : List ℕ → ℕ → ℕ → List ℕ
 parts_after parts b c =
     if is_part b (innermost parts) then take (length parts - 1) parts
     else parts ++ option_to_list (opened (innermost parts) b c)
 
--- a part begins here although as many parts are open as a process has characters at most
+-- a part begins here although the maximum number of parts, PROCESS_LIMIT, is already open
 abbrev pub is_deep : List ℕ → ℕ → ℕ → Bool
 is_deep parts b c =
     not (is_part b (innermost parts)) && (is_some (opened (innermost parts) b c) && length parts == PROCESS_LIMIT)
@@ -93,8 +93,8 @@ is_deep parts b c =
 abbrev pub next_in : List ℕ → ℕ
 next_in text = unwrap_or (slice_get text 0) 0
 
--- The first operator of a text that is outside all parts and before a comment; `Unclosed` if a part is open at the end
--- of the text or where a comment begins. The arguments are the open parts, whether the first character was read with
+-- The first operator of a text outside all parts and before any comment; `Unclosed` if a part is open at the end of the
+-- text or at the beginning of a comment. The arguments are the open parts, whether the first character forms a unit with
 -- the one before it, and whether a word begins with it.
 abbrev pub operator_in : List ℕ → Bool → Bool → List ℕ → Option Operator
 operator_in parts was_read start [] = unclosed (innermost parts)
@@ -111,7 +111,7 @@ operator_in parts false start (b ∷ text) =
 abbrev pub operator_of : List ℕ → Option Operator
 operator_of process = operator_in [] false true process
 
--- init starts a process that contains one of these characters with the shell
+-- if a process contains one of these characters, init starts it with the shell
 abbrev pub is_special : ℕ → Bool
 is_special b = list_any (λ c. c == b) (codes "~`!$^&*()=|\\{}[];\"'<>?")
 
@@ -131,12 +131,12 @@ abbrev pub is_name_byte : ℕ → Bool
 is_name_byte b =
     nat_le 48 b && nat_le b 57 || (nat_le 65 b && nat_le b 90 || (nat_le 97 b && nat_le b 122 || b == 95))
 
--- the shell expands a $ before this character: the beginning of a name, or one of these
+-- the shell expands a $ before this character: a character of a name, or one of the special ones below
 abbrev pub is_expansion : ℕ → Bool
 is_expansion b = is_name_byte b || list_any (λ c. c == b) (codes "{(@*#?-$!")
 
--- within double quotes, before the closing one, there is such a $ that has no backslash before it; the first argument
--- says that the first character has a backslash before it
+-- the shell expands a $, without a backslash before it, in the text up to the closing double quote; the flag is true if
+-- the first character follows a backslash
 abbrev pub expands : Bool → List ℕ → Bool
 expands was_read [] = false
 expands true (b ∷ text) = expands false text
@@ -144,7 +144,7 @@ expands false (b ∷ text) =
     if b == 34 then false
     else b == 36 && is_expansion (next_in text) || expands (b == 92) text
 
--- the text begins with a double quote, within which the shell that init starts expands something
+-- the text begins with a double-quoted string in which init's shell expands something
 abbrev pub quote_expands : List ℕ → Bool
 quote_expands [] = false
 quote_expands (b ∷ text) = b == 34 && expands false text
@@ -153,8 +153,8 @@ quote_expands (b ∷ text) = b == 34 && expands false text
 abbrev pub is_command_flag : List ℕ → Bool
 is_command_flag word = begins_with 45 word && ends_with 99 word
 
--- the text, cut at its first blank, is such a flag and then such a command, in which the shell that init starts expands
--- something before the other shell reads it
+-- the text, cut at its first blank, is a flag such as -c, followed by a double-quoted command in which init's shell
+-- expands something before the other shell reads it
 abbrev pub flag_expands : Option (List ℕ × List ℕ) → Bool
 flag_expands None = false
 flag_expands (Some parts) = is_command_flag parts.0 && quote_expands (skip_blanks parts.1)
@@ -163,13 +163,13 @@ flag_expands (Some parts) = is_command_flag parts.0 && quote_expands (skip_blank
 abbrev pub is_shell : List ℕ → Bool
 is_shell word = not (list_any is_special word) && list.ends_with (λ a b. a == b) word (codes "sh")
 
--- the text, cut at its first blank, is a shell, followed by such a flag and command
+-- the text, cut at its first blank, is a shell, followed by a flag and command as in `flag_expands`
 abbrev pub shell_expands : Option (List ℕ × List ℕ) → Bool
 shell_expands None = false
 shell_expands (Some parts) = is_shell parts.0 && flag_expands (cut 32 (skip_blanks parts.1))
 
--- such words begin at a word among the commands of a text. The arguments are the open parts, whether the first
--- character was read with the one before it, and whether a word begins with it.
+-- A shell, flag and command as in `shell_expands` begin at a word among the commands of a text. The arguments are the
+-- open parts, whether the first character forms a unit with the one before it, and whether a word begins with it.
 abbrev pub early_in : List ℕ → Bool → Bool → List ℕ → Bool
 early_in parts was_read start [] = false
 early_in parts true start (b ∷ text) = early_in parts false start text
@@ -181,16 +181,16 @@ early_in parts false start (b ∷ text) =
     else if is_deep parts b c then false
     else early_in (parts_after parts b c) (is_two part b c) (starts_word part b c) text
 
--- some shell among the commands of a process is given such a command
+-- a command of the process runs a shell with a double-quoted command in which init's shell expands something first
 abbrev pub expands_early : List ℕ → Bool
 expands_early process = early_in [] false true process
 
--- a word begins with #; the first argument says that a word can begin with the first character
+-- a word begins with #; the flag is true if a word can begin with the first character
 abbrev pub has_hash : Bool → List ℕ → Bool
 has_hash before [] = false
 has_hash before (b ∷ text) = before && b == 35 || has_hash (is_blank b) text
 
--- a word begins with # although init starts the process without a shell, so that it does not begin a comment
+-- a word begins with # but does not start a comment, because init starts the process without a shell
 abbrev pub has_comment : List ℕ → Bool
 has_comment process = not (list_any is_special process) && has_hash true process
 
@@ -224,14 +224,14 @@ builtins =
     ∷ codes "hash" ∷ codes "getopts" ∷ codes "alias" ∷ codes "unalias" ∷ codes "jobs" ∷ codes "fg" ∷ codes "bg"
     ∷ codes "fc" ∷ []
 
--- one of these words, or one that begins with a parenthesis
+-- the word has a meaning to the shell: it is one of the words above, or begins with a parenthesis
 abbrev pub is_shell_word : List ℕ → Bool
 is_shell_word word =
     begins_with 40 word
     || (list_any (bytes_eq word) reserved_words
     || (list_any (bytes_eq word) special_builtins || list_any (bytes_eq word) builtins))
 
--- a text of such characters that is not empty
+-- a variable name: a text of name characters (`is_name_byte`) that is not empty
 abbrev pub is_name : List ℕ → Bool
 is_name text = not (is_empty text) && list_all is_name_byte text
 

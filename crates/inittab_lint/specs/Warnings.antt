@@ -1,4 +1,4 @@
--- The warnings about a line that init keeps but that does not do what it seems to (inittab(5)).
+-- The warnings about a line that init accepts but that does not do what it seems to do (inittab(5)).
 use Rattle.std.specs.Prelude.{ℕ, Bool, true, false, not, ◌&&◌, ◌||◌, ◌==◌, ◌-◌, ◌+◌, if◌then◌else◌, List, [], ◌∷◌, ◌++◌}
 use Rattle.std.specs.Prelude.{map, filter, length, slice_get, Option, Some, None, is_some}
 use Rattle.std.specs.List.{list_any, starts_with}
@@ -18,8 +18,8 @@ use Rattle.inittab_lint.specs.declared.traps.Warning.TheVariants as warning
 use Rattle.inittab_lint.specs.Shell.{begins_with, ends_with, expands_early, first_word, has_comment, is_assigned}
 use Rattle.inittab_lint.specs.Shell.{is_shell_word, operator_of}
 
--- a character of the runlevels has a meaning: for an ondemand entry a letter, for sysinit, boot and bootwait none,
--- otherwise a level
+-- the character of the runlevels has a meaning: a letter for an ondemand entry, no character for sysinit, boot and
+-- bootwait, and a level for all other entries
 abbrev pub counts : Act → ℕ → Bool
 counts action b =
     if ignores_levels action then false
@@ -34,7 +34,7 @@ has_idle action levels = list_any (λ b. not (counts action b)) levels
 abbrev pub counts_none : Act → List ℕ → Bool
 counts_none action levels = not (list_any (counts action) (levels_meant action levels))
 
--- the process of an entry whose action starts one, without a leading +; otherwise no characters
+-- the process of an entry without a leading +; no characters if its action starts no process
 abbrev pub run_by : Act → List ℕ → List ℕ
 run_by action process = if needs_process action then without_plus process else []
 
@@ -70,7 +70,7 @@ holds action levels process warning.NoLetter = is_ondemand action && counts_none
 holds action levels process warning.Boot = same_act action act.Boot
 holds action levels process kind = holds_of kind (run_by action process)
 
--- the warnings that depend on the line alone, in the order in which they are reported
+-- the warnings that depend only on the line, in the order of the output
 abbrev pub all_warnings : List Warning
 all_warnings =
     warning.Runlevel ∷ warning.NoLevel ∷ warning.NoLetter ∷ warning.Boot ∷ warning.Return ∷ warning.At
@@ -86,7 +86,7 @@ abbrev pub warnings_with : Option Act → FieldBytes → List Warning
 warnings_with None f = []
 warnings_with (Some action) f = warnings_by action f
 
--- the warnings about a line with these fields; none if it does not have those of an entry
+-- the warnings about a line with these fields; none if the line has too few fields
 abbrev pub warnings_at : Option FieldBytes → List Warning
 warnings_at None = []
 warnings_at (Some f) = warnings_with (act_read f.action) f
@@ -95,7 +95,7 @@ warnings_at (Some f) = warnings_with (act_read f.action) f
 abbrev pub begins_marked : List ℕ → Bool
 begins_marked line = starts_with (λ a b. a == b) line (239 ∷ 187 ∷ 191 ∷ [])
 
--- the warnings about a line: if it begins with a byte order mark, that one only; none if it is empty or a comment
+-- the warnings about a line: only one if it begins with a byte order mark; none if it is empty or a comment
 abbrev pub warnings_of_line : List ℕ → List Warning
 warnings_of_line line =
     let text = skip_blanks line in
@@ -106,13 +106,13 @@ warnings_of_line line =
 abbrev pub at_line : ℕ → ℕ → Warning → LineWarning
 at_line part line kind = record { part = part; line = line; kind = kind }
 
--- the warnings about the lines of a text, the first of which has this number; lines are counted from 1
+-- the warnings about the lines of a text; lines are numbered from `number`
 abbrev pub warnings_of_lines : ℕ → ℕ → List (List ℕ) → List LineWarning
 warnings_of_lines part number [] = []
 warnings_of_lines part number (line ∷ lines) =
     map (at_line part number) (warnings_of_line line) ++ warnings_of_lines part (number + 1) lines
 
--- the warnings about several texts, the first of which has this number; texts are counted from 0
+-- the warnings about several texts; texts are numbered from `part`
 abbrev pub warnings_of_texts : ℕ → List (List ℕ) → List LineWarning
 warnings_of_texts part [] = []
 warnings_of_texts part (text ∷ texts) =

@@ -30,8 +30,8 @@ fn add_text<A: Allocator>(
     Ok(())
 }
 
-/// Returns the warnings about the lines of an inittab's files, in order. A warning depends only on the fields of its
-/// line, not on whether init keeps the line.
+/// Returns the warnings about the lines of an inittab's files, in order. A warning depends only on the fields of the
+/// line, not on whether init accepts the line.
 pub fn warnings<A: Allocator>(alloc: A, parts: &[Part]) -> Result<Vec<LineWarning, A>, AllocError>
     ensures { IfOk result (λ found. found.items ≡ warnings_of (texts_of parts.now)) }
 {

@@ -11,7 +11,7 @@ use init_words::Act;
 use inittab_text::Fields;
 use text_lines::without_blanks;
 
-/// Reports whether the word is more than the name of a program: the shell interprets it, or it begins with `@`.
+/// Reports whether the word is not just the name of a program: the shell interprets it, or it begins with `@`.
 fn is_read(word: &[u8]) -> bool
     ensures { result ≡ is_read word.now }
 {

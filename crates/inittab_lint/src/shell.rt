@@ -1,4 +1,4 @@
-//! What the shell makes of a process that init starts with `exec` (inittab(5)), where that differs from what the line
+//! How the shell interprets a process that init starts with `exec` (inittab(5)), if the effect differs from what the line
 //! seems to say.
 
 ghost use Rattle.std.specs.Prelude.{◌≡◌, ◌&&◌, ◌||◌, ◌==◌, not, true, false, IsTrue};
@@ -16,13 +16,13 @@ use arrayvec::ArrayVec;
 use init_words::PROCESS_LIMIT;
 use text_lines::{cut, is_blank, next_word, without_blanks};
 
-/// The closing characters of the open quotes and parentheses of a process, the outermost first.
+/// The closing characters of the open quotes and parentheses of a process, outermost first.
 type Parts = ArrayVec<u8, PROCESS_LIMIT>;
 
 /// A shell operator whose effect changes because init puts `exec` before the process.
 #[derive(Clone, Copy, PartialEq, Eq)]
 pub enum Operator {
-    /// `;`, `&&` or `||`: `exec` replaces the shell by the command before the operator, so the rest never runs.
+    /// `;`, `&&` or `||`: `exec` replaces the shell with the command before the operator, so the rest never runs.
     Chain,
     /// `|`: the child is the shell, and signals do not reach the programs that it runs.
     Pipe,
@@ -41,7 +41,7 @@ fn is_part(close: u8, part: Option<u8>) -> bool
     }
 }
 
-/// Reports whether the text here is read as commands: outside all quotes and parentheses, or directly in a parenthesis.
+/// Reports whether the shell reads commands here: outside all quotes and parentheses, or directly in a parenthesis.
 fn in_commands(part: Option<u8>) -> bool
     ensures { result ≡ in_commands part }
 {
@@ -51,7 +51,7 @@ fn in_commands(part: Option<u8>) -> bool
     }
 }
 
-/// Reports whether the text here is read literally: within single quotes or backquotes.
+/// Reports whether the text here is literal: within single quotes or backquotes.
 fn is_literal(part: Option<u8>) -> bool
     ensures { result ≡ is_literal part }
 {
@@ -85,7 +85,7 @@ fn opened(part: Option<u8>, byte: u8, next: u8) -> Option<u8>
     None
 }
 
-/// Reports whether two bytes are read as one.
+/// Reports whether the two bytes form a unit, such as an escape sequence.
 fn is_two(part: Option<u8>, byte: u8, next: u8) -> bool
     ensures { result ≡ is_two part byte next }
 {
@@ -156,7 +156,7 @@ fn next_in(text: &[u8]) -> u8
     text.first().copied().unwrap_or(0)
 }
 
-/// Updates the open quotes and parentheses for these bytes. Returns false if there are too many.
+/// Updates the open quotes and parentheses for these bytes. Returns false if they are nested too deeply.
 fn read_on(parts: &mut Parts, byte: u8, next: u8) -> bool
     ensures deep { result ≡ not (is_deep parts.old.items byte next) }
     ensures parts { IsTrue result → parts.new.items ≡ parts_after parts.old.items byte next }
@@ -204,7 +204,7 @@ pub fn operator_of(process: &[u8]) -> Option<Operator>
     unclosed(innermost(&parts))
 }
 
-/// Reports whether init starts a process with the shell because it contains this byte.
+/// Reports whether a process that contains this byte is started with the shell.
 fn is_special(byte: u8) -> bool
     ensures { result ≡ is_special byte }
 {
@@ -233,7 +233,7 @@ fn has_hash(process: &[u8]) -> bool
     false
 }
 
-/// Reports whether a word begins with `#` although no shell reads the process, so that it does not begin a comment.
+/// Reports whether a word begins with `#` but does not start a comment, because no shell reads the process.
 pub(crate) fn has_comment(process: &[u8]) -> bool
     ensures { result ≡ has_comment process.now }
 {
@@ -256,7 +256,7 @@ pub(crate) fn is(word: &[u8], known: &[u8]) -> bool
     word == known
 }
 
-/// Reports whether a word is known to the shell and is not a program.
+/// Reports whether a word has a meaning to the shell and is not a program.
 pub(crate) fn is_shell_word(word: &[u8]) -> bool
     ensures { result ≡ is_shell_word word.now }
 {
@@ -384,7 +384,7 @@ fn is_expansion(byte: u8) -> bool
     is_name_byte(byte) || b"{(@*#?-$!".contains(&byte)
 }
 
-/// Reports whether such a `$`, without a backslash before it, occurs before the double quote that ends the text.
+/// Reports whether the shell expands a `$` in the text up to the closing double quote.
 fn expands(text: &[u8]) -> bool
     ensures { result ≡ expands false text.now }
 {
@@ -428,7 +428,7 @@ fn is_shell(word: &[u8]) -> bool
     !has_special(word) && word.ends_with(b"sh")
 }
 
-/// Reports whether the text is a flag, followed by a command in double quotes in which init's shell expands something.
+/// Reports whether the text is a flag such as `-c`, followed by a command in double quotes that init's shell expands.
 fn flag_expands(text: &[u8]) -> bool
     ensures { result ≡ flag_expands (cut 32 text.now) }
 {
@@ -438,7 +438,7 @@ fn flag_expands(text: &[u8]) -> bool
     }
 }
 
-/// Reports whether the text is a shell, followed by such a flag and command.
+/// Reports whether the text is the name of a shell, followed by a flag and command as in `flag_expands`.
 fn shell_expands(text: &[u8]) -> bool
     ensures { result ≡ shell_expands (cut 32 text.now) }
 {
@@ -448,7 +448,7 @@ fn shell_expands(text: &[u8]) -> bool
     }
 }
 
-/// Reports whether a shell is given a command in double quotes of which init's shell, which starts it, expands a part.
+/// Reports whether the process runs a shell with a command in double quotes that init's shell expands first.
 pub(crate) fn expands_early(process: &[u8]) -> bool
     ensures { result ≡ expands_early process.now }
 {

@@ -1,4 +1,4 @@
-//! The action that was probably meant by an unknown word.
+//! The action that an unknown word probably means.
 
 ghost use Rattle.std.specs.Prelude.{◌≡◌};
 ghost use Rattle.inittab_lint.specs.Meant.{meant};

@@ -1,4 +1,4 @@
-//! The warnings about a line that init keeps but that does not do what it seems to.
+//! The warnings about a line that init accepts but that does not do what it seems to do.
 
 ghost use Rattle.std.specs.Prelude.{◌≡◌, ◌++◌, map, OnOk};
 ghost use Rattle.std.specs.List.{list_any};
@@ -15,7 +15,7 @@ use inittab_text::Fields;
 use std::alloc::{AllocError, Allocator};
 use text_lines::without_blanks;
 
-/// How a line that init keeps differs from what it seems to say (inittab(5)).
+/// A way in which the effect of a line differs from what the line seems to say (inittab(5)).
 #[derive(Clone, Copy, PartialEq, Eq)]
 pub enum Warning {
     /// A character of the runlevels is ignored.
@@ -44,11 +44,11 @@ pub enum Warning {
     Unclosed,
     /// A word of the process begins with `#`, but no shell reads it.
     Comment,
-    /// A shell is given a command in double quotes, of which init's shell expands a `$` first.
+    /// The process runs a shell with a command in double quotes, in which init's shell expands a `$` first.
     Early,
     /// The line begins with a byte order mark.
     Marked,
-    /// The program of the process was looked for and not found.
+    /// The program of the process does not exist.
     Missing,
 }
 
@@ -62,7 +62,7 @@ pub struct LineWarning {
     pub kind: Warning,
 }
 
-/// The warnings that depend on the line alone, in the order in which they are reported.
+/// The warnings that depend only on the line, in the order of the output.
 const WARNINGS: [Warning; 14] = [
     Warning::Runlevel,
     Warning::NoLevel,
@@ -123,7 +123,7 @@ fn has_idle(act: Act, levels: &[u8]) -> bool
     levels.iter().any(|byte| !counts(act, *byte))
 }
 
-/// Returns the process of an entry whose action starts one, without a leading `+`, or no bytes.
+/// Returns the process of an entry without a leading `+`, or no bytes if its action starts no process.
 pub(crate) fn run_by(act: Act, process: &[u8]) -> &[u8]
     ensures { result.now ≡ run_by act process.now }
 {

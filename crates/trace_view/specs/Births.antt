@@ -1,4 +1,4 @@
--- The births of an id's children: their number, the time of the latest, and which were before the first level.
+-- The births of the children of an id: how many there were, the time of the latest, and which preceded the first level.
 use Rattle.std.specs.Prelude.{ℕ, Bool, false, ◌&&◌, ◌+◌, ◌-◌, ◌^◌, min, if◌then◌else◌, List, [], ◌∷◌, ◌++◌, Option}
 use Rattle.std.specs.Prelude.{Some, None}
 use Rattle.std.specs.List.{list_any}
@@ -27,16 +27,16 @@ is_early child = option_map_or ignores_levels child.act false
 abbrev pub or_early : Child → List Child → List Child
 or_early child before = if is_early child then before ++ child ∷ [] else before
 
--- the children of the past that were born so, oldest first
+-- the children of the past that were born before the first level, oldest first
 abbrev pub early_children : List Event → List Child
 early_children [] = []
 early_children (Birth id number ∷ past) = or_early (newborn id number past) (early_children past)
 early_children (_ ∷ past) = early_children past
 
--- the child was born for the entry, with its present action
+-- the child was born for the entry, which had the same action then
 abbrev pub is_born_as : Entry → Child → Bool
 is_born_as e child = is_child_of e.id child && same_acts child.act (Some e.act)
 
--- a child was born for the entry before the first level, with the entry's present action
+-- a child was born for the entry before the first level, when the entry had the same action
 abbrev pub ran_early : Entry → List Event → Bool
 ran_early e past = list_any (is_born_as e) (early_children past)

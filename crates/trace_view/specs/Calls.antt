@@ -1,4 +1,4 @@
--- The entries that a power event or a letter named since the last Enter and the last table; see init(8) and telinit(8).
+-- The entries that a power event or a letter has named since the last Enter or table; see init(8) and telinit(8).
 use Rattle.std.specs.Prelude.{Bool, false, ◌&&◌, ◌||◌, List, [], ◌∷◌}
 use Rattle.trace_view.specs.Words.{Entry, Letter, PowerKind, is_called_by, is_ondemand, same_letter, same_power}
 use Rattle.trace_view.specs.Words.{NewTable, Enter, Call, Power, Event}
@@ -8,7 +8,7 @@ use Rattle.init_words.specs.declared.orders.PowerKind.TheVariants as power
 use Rattle.init_words.specs.Levels.{names}
 use Rattle.trace_events.specs.declared.call_sets.CallSet.{CallSet}
 
--- entries were called for this power event
+-- init has called the entries for this power event since the last Enter or table
 abbrev pub is_called_for : PowerKind → List Event → Bool
 is_called_for kind [] = false
 is_called_for kind (Enter stage grace ∷ past) = false
@@ -16,7 +16,7 @@ is_called_for kind (NewTable table ∷ past) = false
 is_called_for kind (Power k ∷ past) = same_power kind k || is_called_for kind past
 is_called_for kind (_ ∷ past) = is_called_for kind past
 
--- entries were called by this letter
+-- init has called the entries of this letter since the last Enter or table
 abbrev pub is_lettered : Letter → List Event → Bool
 is_lettered letter [] = false
 is_lettered letter (Enter stage grace ∷ past) = false
@@ -24,7 +24,7 @@ is_lettered letter (NewTable table ∷ past) = false
 is_lettered letter (Call l ∷ past) = same_letter letter l || is_lettered letter past
 is_lettered letter (_ ∷ past) = is_lettered letter past
 
--- the power events and letters that called entries
+-- the power events and letters that have called entries since the last Enter or table
 abbrev pub calls_of : List Event → CallSet
 calls_of past = record {
   fail = is_called_for power.Fail past;
@@ -35,8 +35,8 @@ calls_of past = record {
   c = is_lettered letter.C past;
 }
 
--- one of the calls names the entry: its action is called for that power event, or it is ondemand and has the letter
--- among its runlevels
+-- one of the calls names the entry: the power event calls its action, or the action is ondemand and the letter is among
+-- its runlevels
 abbrev pub is_named_by : Entry → CallSet → Bool
 is_named_by e calls =
     is_called_by power.Fail e.act && calls.fail || (is_called_by power.FailNow e.act && calls.fail_now

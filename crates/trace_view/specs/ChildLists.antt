@@ -6,7 +6,7 @@ use Rattle.std.specs.Option.{option_map_or}
 use Rattle.trace_view.specs.Words.{Child, at, has_number, is_child_of}
 use Rattle.trace_view.specs.declared.child_lists.Arrival.{Arrival}
 
--- the arrival is still in the list: its number is not below the one from which arrivals of its id stay
+-- the arrival is still in the list: its number is not below the number under which the arrivals of its id are gone
 abbrev pub stays : List (List ℕ × ℕ) → Arrival → Bool
 stays gone a = nat_le (unwrap_or (at a.child.id gone) 0) a.number
 
@@ -21,8 +21,8 @@ staying gone arrivals = map child_in (filter (stays gone) arrivals)
 abbrev pub are_below : ℕ → List Arrival → Bool
 are_below next arrivals = list_all (λ (a : Arrival). nat_lt a.number next) arrivals
 
--- the marks and the table of youngest children are right for a list of arrivals, youngest first, and the number of the
--- next one
+-- the marks and the youngest children are right for this list of arrivals, youngest first, and for the number of the
+-- next arrival
 pub record IsListed (gone : List (List ℕ × ℕ)) (arrivals : List Arrival) (youngest : List (List ℕ × Child)) (next : ℕ)
     : Type 0 where
   pub below : are_below next arrivals ≡ true

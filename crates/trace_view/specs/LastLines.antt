@@ -1,6 +1,5 @@
--- The lines of a trace's text at which the last happenings of each kind begin, and the line that explains why an entry
--- is not started. Lines are counted from 1. A happening has one line, except a table, which has one more for each
--- entry.
+-- The line of a trace's text at which the last happening of each kind begins, and the line that explains why an entry is
+-- not started. Lines are counted from 1. A happening has one line, but a table has one more for each entry.
 use Rattle.std.specs.Prelude.{◌≡◌, ℕ, ◌+◌, Bool, true, false, not, max, if◌then◌else◌, List, [], ◌∷◌, reverse, Option}
 use Rattle.std.specs.Prelude.{Some, None}
 use Rattle.trace_view.specs.Words.{newlines, Entry, Stage, same_id, NewTable, Enter, Asked, Hold, Birth, NoBirth}
@@ -52,7 +51,7 @@ is_news (Got (got.Call letter)) = true
 is_news (Got (got.Power kind)) = true
 is_news _ = false
 
--- a request after which inittab is read again: a reload, or a request for a level that is not in force
+-- a request that causes init to reread inittab: a reload, or a request for a level that is not in force
 abbrev pub is_reread : Option Stage → Event → Bool
 is_reread stage (Got got.Reload) = true
 is_reread stage (Got (got.Level level grace)) = not (is_level level stage)
@@ -64,43 +63,43 @@ reread_line [] = None
 reread_line (happening ∷ past) =
     line_after (is_reread (stage_of past) happening) (following_line past) (reread_line past)
 
--- the id whose child was born
+-- the id of the child that is born, if the happening is a birth
 abbrev pub born_in : Event → Option (List ℕ)
 born_in (Birth id number) = Some id
 born_in _ = None
 
--- the id whose start failed
+-- the id of the start that failed, if the happening is such a failure
 abbrev pub unborn_in : Event → Option (List ℕ)
 unborn_in (NoBirth id) = Some id
 unborn_in _ = None
 
--- the id whose child was reaped
+-- the id of the child that is reaped, if the happening is a reaping
 abbrev pub reaped_in : Event → Option (List ℕ)
 reaped_in (Reaped id number status) = Some id
 reaped_in _ = None
 
--- the id for which an order was given
+-- the id of the order, if the happening is one
 abbrev pub ordered_in : Event → Option (List ℕ)
 ordered_in (Asked id ask) = Some id
 ordered_in _ = None
 
--- the id that is held
+-- the id that is held, if the happening is a hold
 abbrev pub held_in : Event → Option (List ℕ)
 held_in (Hold id) = Some id
 held_in _ = None
 
--- the happening concerns this id
+-- the happening is about this id
 abbrev pub names : List ℕ → Option (List ℕ) → Bool
 names id None = false
 names id (Some other) = same_id id other
 
--- the line at which the last happening of a kind that concerns the id begins
+-- the line at which the last happening of a kind about the id begins
 abbrev pub last_of : (Event → Option (List ℕ)) → List ℕ → List Event → Option ℕ
 last_of about id [] = None
 last_of about id (happening ∷ past) =
     line_after (names id (about happening)) (following_line past) (last_of about id past)
 
--- the id whose child was born before the first level, according to this table
+-- the id of the child, if the happening is a birth before the first level under this table
 abbrev pub early_in : List Entry → Event → Option (List ℕ)
 early_in table (Birth id number) = if is_early (newborn_in table id number) then Some id else None
 early_in table _ = None
@@ -125,11 +124,11 @@ wish_line (wish.Level level) past = last_line is_goal past
 wish_line wish.News past = last_line is_news past
 
 -- The line that explains each reason, if there is one. For a missing entry or an action that is never started, it is
--- the table in force; for an entry of another stage, the stage in force, or its birth before the first level. For a
--- child, it is its birth, or the last reaping of the id if that is later; for an open order, that order; for an entry
--- that was not called, the last stage or table; for one that was started, or started too often, its last start. For an
--- entry that init waits for, it is the birth of its child, or the stage if that is later; for an excluded child, its
--- birth; for a request or a hold, the request or the hold.
+-- the line of the table in force; for an entry of another stage, of the stage in force, or of its birth before the first
+-- level. For a child, it is the line of its birth, or of the last reaping of the id if that is later; for an open order,
+-- of that order; for an entry that was not called, of the last stage or table; for an entry that was started, or too
+-- often, of its last start. For an entry that init waits for, it is the line of the birth of its child, or of the stage
+-- if that is later; for an excluded child, of its birth; for a request or a hold, of the request or hold.
 abbrev pub line_at_fault : List ℕ → Why → List Event → Option ℕ
 line_at_fault id why.NoEntry past = last_line is_table past
 line_at_fault id why.NeverStarts past = last_line is_table past
@@ -149,7 +148,7 @@ line_at_fault id (why.Held since) past = last_of held_in id past
 line_at_fault id why.WindowFull past = later (last_of born_in id past) (last_of unborn_in id past)
 line_at_fault id why.Nothing past = None
 
--- the lines of the happenings that do not concern an id
+-- the lines of the last happenings that are not about an id
 abbrev pub kinds_of : List Event → KindLines
 kinds_of past = record {
   table = last_line is_table past;
@@ -160,7 +159,7 @@ kinds_of past = record {
   news = last_line is_news past;
 }
 
--- the lines that are remembered: those that do not concern an id, and one per id for each other kind
+-- the recorded lines: those of happenings that are not about an id, and for each other kind one line per id
 pub record LinesState : Type 0 where
   pub kinds : KindLines
   pub births : List (List ℕ × ℕ)

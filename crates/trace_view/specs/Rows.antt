@@ -1,4 +1,4 @@
--- What is reported about an id: its action, why it is not started next, its child, and how it last ended.
+-- The report about an id: its action, the reason why it is not started next, its child, and its last end.
 use Rattle.std.specs.Prelude.{ℕ, Bool, if◌then◌else◌, false, List, [], ◌∷◌, map, filter, Option, Some, None, is_none}
 use Rattle.std.specs.Option.{option_map, option_map_or}
 use Rattle.trace_view.specs.Words.{Entry, Stage, Run, same_id, entry_of, act_of, NoBirth, Reaped, Event, table_of}
@@ -10,11 +10,11 @@ use Rattle.trace_view.specs.declared.rows.Ending.{Ending}
 use Rattle.trace_view.specs.declared.rows.Row.{Row}
 use Rattle.trace_view.specs.Why.{number_of, why}
 
--- the end of an id at this time: with this status, or by a start that failed
+-- an end at this time: with this status, or none if a start failed
 abbrev pub ended_at : ℕ → Option Status → Option Ending
 ended_at time status = Some (record { status = status; time = time })
 
--- how the id last ended, and when; none if it never did
+-- the status and time of the last end of the id; none if no child of it has ended and no start failed
 abbrev pub ended_of : List ℕ → List Event → Option Ending
 ended_of id [] = None
 ended_of id (NoBirth i ∷ past) = if same_id id i then ended_at (time_of past) None else ended_of id past
@@ -22,7 +22,7 @@ ended_of id (Reaped i number status ∷ past) =
     if same_id id i then ended_at (time_of past) (Some status) else ended_of id past
 ended_of id (_ ∷ past) = ended_of id past
 
--- the stage is a level that could be announced settled at this moment, by the unreaped children
+-- the stage is a level that could be announced settled at this moment, judged by the unreaped children
 abbrev pub complete_in : Option Stage → List Event → Bool
 complete_in (Some (Run level)) past = is_settled level (unreaped_children past) past
 complete_in _ past = false
@@ -31,7 +31,7 @@ complete_in _ past = false
 abbrev pub is_complete_now : List Event → Bool
 is_complete_now past = complete_in (stage_of past) past
 
--- what is reported about the id
+-- the report about the id
 abbrev pub row_of : List ℕ → List Event → Row
 row_of id past = record {
   act = act_of id (table_of past);

@@ -1,4 +1,4 @@
--- A view of a text that comes in pieces, together with another observer of its happenings, and the texts that both have
+-- A view of a text that arrives in pieces, together with another observer of its happenings, and the text that both have
 -- taken.
 use Rattle.std.specs.Prelude.{ℕ, Bool, true, false, List, reverse, Option}
 use Rattle.trace_view.specs.Words.{Event}
@@ -12,7 +12,7 @@ pub record SeenState (S : Type 0) : Type 0 where
   pub viewing : TextState
   pub seen : S
 
--- the view is at work on the text, and both have seen the same trace of it
+-- the view is reading the text, and both have seen the same trace of it
 abbrev pub IsSeeing : {S : Type 0} → (S → List Event → Type 0) → SeenState S → List ℕ → Type 0
 IsSeeing has state text = (trace : List Event) × IsAt state.viewing trace text × has state.seen (reverse trace)
 
@@ -20,12 +20,12 @@ IsSeeing has state text = (trace : List Event) × IsAt state.viewing trace text 
 abbrev pub HasSeenText : {S : Type 0} → (S → List Event → Type 0) → SeenState S → List ℕ → Type 0
 HasSeenText has state text = (trace : List Event) × HasShown state.viewing trace text × has state.seen (reverse trace)
 
--- they continue with the text, or have taken it
+-- both are still reading the text if the flag is true, and otherwise have taken it
 abbrev pub SeesOn : {S : Type 0} → (S → List Event → Type 0) → Bool → SeenState S → SeenState S → List ℕ → Type 0
 SeesOn has true old new text = IsSeeing has old text → IsSeeing has new text
 SeesOn has false old new text = IsSeeing has old text → HasSeenText has new text
 
--- what is shown of a text: a single trace, which both have seen
+-- the view shows a single trace of the text, which both have seen
 abbrev pub IsSeen : {S : Type 0} → (S → List Event → Type 0) → List ℕ → Option ViewEnd → Option ℕ → ViewState → S
     → Type 0
 IsSeen has text stop open_line viewing seen =

@@ -1,4 +1,4 @@
--- The state of a view of a trace, and the pasts that it has seen.
+-- The state of a view of a trace, and the trace that it has seen.
 use Rattle.std.specs.Prelude.{◌≡◌, ℕ, Bool, not, List, [], ◌∷◌, Option, Some, None}
 use Rattle.trace_view.specs.Words.{Entry, Stage, entry_of, act_of, Event, Child, unreaped_children, kept_children}
 use Rattle.trace_view.specs.Words.{may_live, Law, at}
@@ -12,8 +12,8 @@ use Rattle.trace_view.specs.Calls.{calls_of}
 use Rattle.trace_view.specs.Rows.{ended_of}
 use Rattle.trace_view.specs.Wishes.{wishes_of}
 
--- the judge; the unreaped and the kept children, youngest first; the pending requests; the calls of entries; the number
--- of births of each id and the time of the latest; the children born before the first level; and how each id last ended
+-- the judge; the unreaped and the kept children, youngest first; the pending requests; the calls of entries; the births
+-- of each id; the children born before the first level; and the last end of each id
 pub record ViewState : Type 0 where
   pub judging : Judging
   pub unreaped : List Child
@@ -37,7 +37,7 @@ unviewed = record {
   ends = [];
 }
 
--- the view has seen this past, newest happening first, which breaks no law
+-- the view has seen this past, newest happening first, and the past breaks no law
 pub record Viewed (view : ViewState) (past : List Event) : Type 0 where
   pub judged : Judged view.judging past
   pub unreaped : view.unreaped ≡ unreaped_children past
@@ -48,7 +48,7 @@ pub record Viewed (view : ViewState) (past : List Event) : Type 0 where
   pub early : view.early ≡ early_children past
   pub ends : (id : List ℕ) → at id view.ends ≡ ended_of id past
 
--- the view after a happening that breaks no law, or unchanged after one that breaks a law
+-- the view after a happening: if the happening breaks no law, the view has seen it too; otherwise the view is unchanged
 abbrev pub ViewAfterHappening : Option Law → ViewState → ViewState → Event → Type 0
 ViewAfterHappening None old new happening = (past : List Event) → Viewed old past → Viewed new (happening ∷ past)
 ViewAfterHappening (Some law) old new happening = new ≡ old

@@ -1,4 +1,4 @@
--- The state of a view of a text that comes in pieces, and the texts that it has taken.
+-- The state of a view of a text that arrives in pieces, and the text that it has taken.
 use Rattle.std.specs.Prelude.{◌≡◌, ◌==◌, ◌||◌, ℕ, Bool, true, false, not, List, [], ◌∷◌, ◌++◌, reverse, Option, Some}
 use Rattle.std.specs.Prelude.{None}
 use Rattle.trace_view.specs.Words.{newlines, Event, broken, are_in_range, law_number, trace_text, is_open, Reading}
@@ -8,7 +8,7 @@ use Rattle.trace_view.specs.declared.text_views.ViewEnd.TheVariants.{Breach, Tor
 use Rattle.trace_view.specs.LastLines.{is_table}
 use Rattle.trace_view.specs.Shown.{StopsAt, begins_run}
 
--- the unread part and the number of lines read; the view of the trace; and why it ended, if it did
+-- the unread part and the number of lines read; the view of the trace; and the reason why it ended, if it did
 pub record TextState : Type 0 where
   pub reading : Reading
   pub viewing : ViewState
@@ -28,17 +28,17 @@ pub record StopsBy (stop : ViewEnd) (viewing : ViewState) (trace : List Event) (
   pub stops : StopsAt stop trace text
   pub seen : Viewed viewing (reverse trace)
 
--- the view, which has ended or not, is at work on the text, and has seen this trace of it
+-- the view is reading the text or has ended (`stop`), and has seen this trace of it
 abbrev pub AtBy : Option ViewEnd → TextState → List Event → List ℕ → Type 0
 AtBy None state trace text = HasSeen state.reading state.viewing trace text
 AtBy (Some stop) state trace text = StopsBy stop state.viewing trace text
 
--- the view is at work on the text, and has seen this trace of it
+-- the view is reading the text, and has seen this trace of it
 abbrev pub IsAt : TextState → List Event → List ℕ → Type 0
 IsAt state trace text = AtBy state.stop state trace text
 
--- the view, which has ended or not, has taken the text and seen this trace: it is at work on the text, and unless it
--- has ended, the unread part ends within a happening
+-- the view has taken the text and seen this trace: it has ended (`stop`), or it is reading the text and the unread part
+-- ends within a happening
 abbrev pub TakenBy : Option ViewEnd → TextState → List Event → List ℕ → Type 0
 TakenBy None state trace text = HasSeen state.reading state.viewing trace text × (is_open state.reading.over ≡ true)
 TakenBy (Some stop) state trace text = StopsBy stop state.viewing trace text
@@ -52,11 +52,11 @@ abbrev pub ViewGoesOn : Option Event → TextState → TextState → List Event 
 ViewGoesOn (Some happening) old new trace text = IsAt old trace text → IsAt new (trace ++ happening ∷ []) text
 ViewGoesOn None old new trace text = IsAt old trace text → HasShown new trace text
 
--- a run can have the happening at this line: its first happening is a table
+-- a run can have the happening at this line, because the first happening of a run must be a table
 abbrev pub may_be : ℕ → Event → Bool
 may_be line happening = not (line == 1) || is_table happening
 
--- how a view changes with a happening at this line
+-- the view after the next happening, which begins at this line: the view has seen it, or has ended before it
 abbrev pub SeesStop : Option ViewEnd → ViewState → ViewState → Event → ℕ → Type 0
 SeesStop None old new happening line =
     (may_be line happening ≡ true) × ((past : List Event) → Viewed old past → Viewed new (happening ∷ past))

@@ -1,4 +1,4 @@
--- Why the start of an entry is not due: the first reason against it; see init(8).
+-- The first reason why the start of an entry is not due; see init(8).
 use Rattle.std.specs.Prelude.{ℕ, Bool, true, false, not, ◌&&◌, ◌||◌, if◌then◌else◌, List, find, Option, Some, None}
 use Rattle.std.specs.Option.{option_map, option_map_or}
 use Rattle.init_words.specs.declared.actions.Act.{Act}
@@ -20,7 +20,7 @@ use Rattle.trace_view.specs.Births.{ran_early}
 use Rattle.trace_view.specs.Calls.{was_named}
 use Rattle.trace_view.specs.Wishes.{first_wish}
 
--- the first entry before the id's in the table that init waits for
+-- the first entry in the table that init waits for, if it comes before the entry of the id
 abbrev pub first_owed : List ℕ → List Event → Option Entry
 first_owed id past = find (λ e. is_owed e past) (entries_before id (table_of past))
 
@@ -60,33 +60,32 @@ standing_of e past = record {
   full = is_limited e.act && is_full e.id past;
 }
 
--- a child, if there is one, is the reason; otherwise a later one
+-- the child is the reason if there is one; otherwise the reason is `later`
 abbrev pub by_child : Option ℕ → Why → Why
 by_child (Some number) later = ChildKept number
 by_child None later = later
 
--- the action starts its entries in a stage that is over: in Sysinit, or, in a level, in Boot if that was entered
+-- the action belongs to a stage that is over: Sysinit, or in a level, Boot if init has entered it
 abbrev pub is_past : Act → Bool → Stage → Bool
 is_past action booted Sysinit = false
 is_past act.Sysinit booted _ = true
 is_past action booted Boot = false
 is_past action booted (Run level) = booted && ignores_levels action
 
--- why an entry is not started whose stage is still to come: before the first level, init may be waiting for another
--- entry
+-- the reason for an entry whose stage is still to come: before the first level, init may be waiting for another entry
 abbrev pub by_awaited : Stage → Option (List ℕ) → Why
 by_awaited (Run level) awaited = OtherStage
 by_awaited _ (Some id) = StageOwed id
 by_awaited _ None = OtherStage
 
--- why an entry is not started that belongs to another stage: that stage is over, and the entry ran in it or not; or it
--- is still to come
+-- the reason for an entry of another stage: that stage is over, and the entry did or did not run in it; or that stage is
+-- still to come
 abbrev pub elsewhere : Act → Stage → Standing → Why
 elsewhere action stage s =
     if is_past action s.booted stage then (if s.ran then RanBefore else StageOver) else by_awaited stage s.awaited
 
--- why an entry is not started that does not start in the stage in force: no stage has begun, its action is never
--- started, it has a child that may live, or its stage is another one
+-- the reason for an entry that does not start in the stage in force: no stage has begun, its action is never started, it
+-- has a child that may live, or it belongs to another stage
 abbrev pub not_here : Act → Option Stage → Standing → Why
 not_here action None s = NoStage
 not_here action (Some stage) s =
@@ -94,12 +93,12 @@ not_here action (Some stage) s =
     else if s.stops then elsewhere action stage s
     else by_child s.child (elsewhere action stage s)
 
--- why an entry is not wanted that starts in the stage and has neither a child nor an open order: it was started; or it
--- has to be called and nothing named it
+-- the reason for an entry that starts in the stage, is not wanted, and has neither a child nor an open order: it was
+-- started already, or it needs a call and was not named by one
 abbrev pub not_wanted : Act → Bool → Why
 not_wanted action named = if wanted_by action true true false || named then WasStarted else NotCalled
 
--- an open order, if there is one, is the reason; and likewise for the reasons below
+-- an open order is the reason if there is one; otherwise the reason is `later`
 abbrev pub by_order : Option OrderKind → Why → Why
 by_order (Some ask) later = OrderOpen ask
 by_order None later = later

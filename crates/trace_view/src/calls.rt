@@ -1,4 +1,4 @@
-//! Which power events and which letters called entries since the last stage or table.
+//! The power events and letters that called entries since the last stage or table.
 
 ghost use Rattle.std.specs.Prelude.{◌≡◌, ◌∷◌, List};
 ghost use Rattle.trace_view.specs.Words.{Event};

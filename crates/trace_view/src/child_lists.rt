@@ -1,4 +1,4 @@
-//! A list of children in order of arrival, from which all children of an id can be removed at once.
+//! A list of children in order of birth, from which all children of an id can be removed at once.
 
 ghost use Rattle.std.specs.Prelude.{◌≡◌, ◌∷◌, ◌++◌, ◌<◌, ◌&&◌, if◌then◌else◌, List, [], ℕ, not, find, filter, reverse, true, Some, None, OnOk, OnErr, IfOk, option_map};
 ghost use Rattle.indexmap.specs.IndexMap.{spare};
@@ -15,7 +15,7 @@ use inittab_text::Table;
 use std::alloc::Allocator;
 use std::marker::Model;
 
-/// A child, and the number of children that were added to the list before it.
+/// A child and its arrival number: the number of children that were added to the list before it.
 #[derive(Clone, Copy)]
 pub(crate) struct Arrival {
     pub(crate) child: BornChild,
@@ -24,13 +24,12 @@ pub(crate) struct Arrival {
 
 /// A list of children, youngest first.
 ///
-/// All children of an id are removed at once, in constant time: they are only marked as gone, and are removed from
-/// memory later.
+/// Removing all children of an id takes constant time: they are only marked as gone, and removed from memory later.
 #[derive(Drop)]
 pub(crate) struct ChildList<A: Allocator> {
     // The arrivals, oldest first, including those that are gone.
     arrivals: Vec<Arrival, A>,
-    // For each id, the number below which its arrivals are gone.
+    // For each id, the number below which its arrivals have been removed.
     gone: ById<u64, A>,
     // The youngest child of each id.
     youngest: ById<BornChild, A>,
@@ -53,7 +52,7 @@ impl<A: Allocator> Model for ChildList<A> {
         IsListed l.gone.entries (reverse l.arrivals.items) l.youngest.entries l.next };
 }
 
-/// Returns whether an arrival is still in the list, that is, no child of its id was removed since it came.
+/// Returns whether an arrival is still in the list: the children of its id were not removed since it was added.
 fn stays<A: Allocator>(gone: &ById<u64, A>, arrival: &Arrival) -> bool
     ensures { result ≡ stays gone.now.entries arrival.now }
 {
@@ -63,7 +62,7 @@ fn stays<A: Allocator>(gone: &ById<u64, A>, arrival: &Arrival) -> bool
     }
 }
 
-/// Marks the arrivals of an id with a lower number as gone.
+/// Marks the arrivals of an id with a number below `number` as gone.
 fn mark<A: Allocator>(gone: &mut ById<u64, A>, id: Id, number: u64) -> Result<(), Memory>
     ensures ok { OnOk result ((other : List ℕ) → at other gone.new.entries
         ≡ (if same_id other id then Some number else at other gone.old.entries)) }
@@ -115,7 +114,7 @@ fn room_for_one<A: Allocator>(map: &mut ById<BornChild, A>) -> Result<(), Memory
     Ok(())
 }
 
-/// Inserts a child under its id, in memory reserved before.
+/// Inserts a child under its id. The map must have room for it.
 fn put<A: Allocator>(map: &mut ById<BornChild, A>, child: BornChild)
     requires { 0 < spare map.old }
     ensures { (id : List ℕ) → at id map.new.entries
@@ -208,7 +207,7 @@ impl<A: Allocator + Copy> ChildList<A> {
 }
 
 impl<A: Allocator> ChildList<A> {
-    /// Adds a child, which is the youngest.
+    /// Adds a child at the front, as the youngest.
     pub(crate) fn push(&mut self, child: BornChild) -> Result<(), Memory>
         ensures { OnOk result (self.new ≡ child ∷ self.old) }
     {

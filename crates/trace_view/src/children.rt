@@ -18,7 +18,7 @@ use std::alloc::Allocator;
 use std::marker::Model;
 use trace_events::{Happening, HappeningIn};
 
-/// A child: the id for which it was born, its number, and the action of the id at its birth, if the table had an entry.
+/// A child: the id for which it was born, its number, and the action of the id in the table at its birth, if any.
 #[derive(Clone, Copy)]
 pub struct BornChild {
     pub id: Id,
@@ -81,7 +81,7 @@ fn drop_child<A: Allocator>(
     Ok(())
 }
 
-/// Returns whether there is a child and it has this number.
+/// Returns whether the child exists and has this number.
 fn has_number(child: Option<BornChild>, number: ChildNumber) -> bool
     ensures { result ≡ option_map_or (has_number number) child false }
 {
@@ -160,7 +160,7 @@ pub(crate) fn take_early<A: Allocator, B: Allocator>(
     Ok(())
 }
 
-/// Returns whether the child was born for the entry, with its present action.
+/// Returns whether the child was born for the entry, which had the same action then.
 fn is_born_as(entry: &Entry, child: &BornChild) -> bool
     ensures { result ≡ is_born_as entry.now child.now }
 {
@@ -170,7 +170,7 @@ fn is_born_as(entry: &Entry, child: &BornChild) -> bool
     }
 }
 
-/// Returns whether one of the children was born for the entry, with its present action.
+/// Returns whether one of the children was born for the entry, which had the same action then.
 pub(crate) fn has_born_as(entry: &Entry, children: &[BornChild]) -> bool
     ensures { result ≡ list_any (is_born_as entry.now) children.now }
 {
@@ -184,7 +184,7 @@ pub(crate) fn number_of(child: Option<BornChild>) -> Option<ChildNumber>
     Some(child?.number)
 }
 
-/// Returns whether the child is excluded: by this table, it may not live in the stage, and is stopped (init(8)).
+/// Returns whether the child is excluded: under this table, it may not live in the stage, so it is stopped (init(8)).
 pub(crate) fn is_excluded<A: Allocator>(
     table: &Table<A>,
     stage: Option<Stage>,
@@ -208,7 +208,7 @@ pub(crate) fn excluded_as(child: &BornChild) -> Excluded
     }
 }
 
-/// Returns whether there is a child and it is excluded.
+/// Returns whether the child exists and is excluded.
 pub(crate) fn is_child_excluded<A: Allocator>(
     child: Option<BornChild>,
     table: &Table<A>,

@@ -1,4 +1,4 @@
-//! The line numbers of the last happenings of each kind.
+//! The line number of the last happening of each kind.
 
 ghost use Rattle.std.specs.Prelude.{◌≡◌, ℕ, List, ◌∷◌, OnOk};
 ghost use Rattle.trace_view.specs.Words.{Event, stage_of, at};
@@ -29,17 +29,17 @@ pub(crate) struct KindLines {
     pub(crate) entering: Option<u64>,
     /// A request for a re-execution.
     pub(crate) reexec: Option<u64>,
-    /// A request to read inittab again.
+    /// A request to reread inittab.
     pub(crate) reread: Option<u64>,
     /// A request for a level.
     pub(crate) goal: Option<u64>,
-    /// A request to call a letter, or one for a power event.
+    /// A request to call entries by a letter, or for a power event.
     pub(crate) news: Option<u64>,
 }
 
-/// The line numbers, counted from 1, of the last happenings of each kind that can prevent an entry from being started.
+/// The line number, counted from 1, of the last happening of each kind that can prevent an entry from being started.
 ///
-/// A contract sees which pasts this has seen (`Lined`).
+/// Contracts describe these lines by the trace that they are from (`Lined`).
 #[derive(Drop)]
 pub struct LastLines<A: Allocator = Global> {
     kinds: KindLines,
@@ -83,7 +83,7 @@ fn born_in<B: Allocator>(happening: &HappeningIn<B>) -> Option<Id>
     }
 }
 
-/// Returns the id if its child was born before the first level.
+/// Returns the id of a child that is born before the first level, if the happening is such a birth.
 fn early_in<A: Allocator, B: Allocator>(table: &Table<A>, happening: &HappeningIn<B>) -> Option<Id>
     ensures { result ≡ early_in table.now happening.now }
 {
@@ -129,7 +129,7 @@ fn held_in<B: Allocator>(happening: &HappeningIn<B>) -> Option<Id>
     }
 }
 
-/// Returns the later of two lines.
+/// Returns the later of two lines, either of which may be missing.
 fn later(line: Option<u64>, other: Option<u64>) -> Option<u64>
     ensures { result ≡ later line other }
 {
@@ -140,7 +140,7 @@ fn later(line: Option<u64>, other: Option<u64>) -> Option<u64>
     }
 }
 
-/// Stores the line for the id, if there is one.
+/// Stores the line for the id, if an id is given.
 fn mark<A: Allocator>(lines: &mut LineById<A>, id: Option<Id>, line: u64) -> Result<(), Memory>
     ensures { OnOk result ((other : List ℕ) → at other lines.new.entries
         ≡ line_after (names other id) line (at other lines.old.entries)) }
@@ -255,7 +255,7 @@ impl<A: Allocator> LastLines<A> {
         }
     }
 
-    /// Returns the line that explains why the id is not started, if the reason has one.
+    /// Returns the line that explains why the id is not started, if there is such a line.
     pub fn line_at_fault(&self, id: &Id, why: Why) -> Option<u64>
         ensures { (past : List Event) → Lined self.now past
             → result ≡ line_at_fault id.now why past }

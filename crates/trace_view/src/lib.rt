@@ -1,8 +1,7 @@
 //! The state of each entry at the end of a trace, and the reason why an entry is not started next.
 //!
-//! A view takes the happenings of a trace one after another, whoever wrote it, as long as they break no law. Its
-//! answers are what the definitions of traces read off the past; a start is due exactly if there is no reason against
-//! it.
+//! A view reads the happenings of a trace, whatever program wrote it, up to the first one that breaks a law. Its answers
+//! agree with the definitions of `trace_events`. A start is due exactly if there is no reason against it.
 #![tactic(auto)]
 
 mod calls;

@@ -1,4 +1,4 @@
-//! What is reported about an id.
+//! The report about an id.
 
 ghost use Rattle.std.specs.Prelude.{◌≡◌, ◌∷◌, ℕ, List, [], OnOk};
 ghost use Rattle.trace_view.specs.Words.{Event, at, time_of};
@@ -12,14 +12,14 @@ use std::alloc::Allocator;
 use std::hash::{BuildHasherDefault, FoldHasher};
 use trace_events::{Happening, HappeningIn};
 
-/// The number of births of an id's children, and the time of the latest in seconds.
+/// The number of children born for an id, and the time of the latest birth in seconds.
 #[derive(Clone, Copy)]
 pub struct Births {
     pub count: u64,
     pub latest: u64,
 }
 
-/// How an id last ended, and when, in seconds.
+/// The last end of an id: the status of its child, and the time in seconds.
 #[derive(Clone, Copy)]
 pub struct Ending {
     /// The status with which its child was reaped, or `None` if a start failed.
@@ -27,24 +27,24 @@ pub struct Ending {
     pub time: u64,
 }
 
-/// What is reported about an id. Times are in seconds.
+/// The report about an id. Times are in seconds.
 #[derive(Clone, Copy)]
 pub struct Row {
-    /// The action of its entry, if the table in force has one.
+    /// The action of the entry, if the table in force has an entry for the id.
     pub act: Option<Act>,
-    /// Why it is not started next.
+    /// The reason why the id is not started next.
     pub why: Why,
-    /// Its unreaped child.
+    /// The unreaped child of the id.
     pub child: Option<ChildNumber>,
-    /// How often its children were born, and when the last one was.
+    /// The number of its births, and the time of the last one.
     pub births: Option<Births>,
     /// Whether that child is excluded, that is, being stopped.
     pub excluded: bool,
-    /// Its open order.
+    /// The open order for the id.
     pub order: Option<OrderKind>,
-    /// When it was told that its child was sent a TERM, if the child is excluded.
+    /// The time at which init learned that its child was sent a TERM, if the child is excluded.
     pub term: Option<u64>,
-    /// How it last ended.
+    /// The last end of the id.
     pub last: Option<Ending>,
 }
 
@@ -58,7 +58,7 @@ pub(crate) fn empty_map<V, A: Allocator + Copy>(alloc: A) -> ById<V, A>
     IndexMap::new(alloc)
 }
 
-/// Counts one more birth.
+/// Returns the births after one more at this time.
 fn one_more(before: Option<Births>, time: u64) -> Births
     ensures { result ≡ one_more time before }
 {
@@ -94,7 +94,7 @@ pub(crate) fn take_birth<A: Allocator, B: Allocator>(
     }
 }
 
-/// Updates how each id last ended for a happening.
+/// Updates the last end of each id for a happening.
 pub(crate) fn take_end<A: Allocator, B: Allocator>(
     ends: &mut ById<Ending, A>,
     time: u64,

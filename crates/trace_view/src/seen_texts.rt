@@ -1,4 +1,4 @@
-//! Reads the text of a trace that comes in pieces, and shows its happenings to a view and to another observer.
+//! Reads the text of a trace that arrives in pieces, and passes its happenings to a view and to another observer.
 
 ghost use Rattle.std.specs.Prelude.{◌≡◌, ◌^◌, ◌<◌, ◌∷◌, List, ℕ, ◌++◌, [], length, true, option_map, IfOk, OnOk};
 ghost use Rattle.trace_view.specs.Words.{Event, broken, stage_of, law_number};
@@ -14,12 +14,12 @@ use std::marker::Model;
 use trace_check::Law;
 use trace_events::HappeningIn;
 
-/// An observer of the happenings of a trace, which come one after another, oldest first.
+/// An observer of the happenings of a trace, oldest first.
 pub trait TraceObserver<A: Allocator> {
     /// The observer has seen this past, newest happening first.
     ghost has_seen: { Self → List Event → Type 0 };
 
-    /// Creates an observer that has seen nothing. This does not allocate.
+    /// Creates an observer that has seen no happenings. This does not allocate.
     fn new(alloc: A) -> Self
         ensures { has_seen result [] };
 
@@ -37,9 +37,9 @@ pub trait TraceObserver<A: Allocator> {
             → has_seen self.old past → has_seen self.new (happening.now ∷ past)) };
 }
 
-/// A view of the text of a trace, which comes in pieces cut anywhere, together with another observer of its happenings.
+/// A view of the text of a trace, which arrives in pieces of any length, together with an observer of its happenings.
 ///
-/// A contract sees which texts this has taken (`HasSeenText`).
+/// Contracts describe it by the text that it has taken (`HasSeenText`).
 #[derive(Drop)]
 pub struct ObservedTrace<S: Drop, A: Allocator = Global> {
     view: TextView<A>,
@@ -55,7 +55,7 @@ impl<S: Drop, A: Allocator> Model for ObservedTrace<S, A> {
 }
 
 impl<S: TraceObserver<A> + Drop, A: Allocator + Copy> ObservedTrace<S, A> {
-    /// Creates a view that has taken nothing, with an observer that has seen nothing. This does not allocate.
+    /// Creates a view that has taken no text, with a new observer. This does not allocate.
     pub fn new(alloc: A) -> ObservedTrace<S, A>
         ensures { HasSeenText S.has_seen result [] }
     {
@@ -72,7 +72,7 @@ impl<S: TraceObserver<A> + Drop, A: Allocator + Copy> ObservedTrace<S, A> {
         self.view.feed(piece)
     }
 
-    /// Shows the next happening, if it is complete.
+    /// Passes on the next happening, if it is complete, and returns whether there may be more.
     fn see_next(&mut self) -> Result<bool, Memory>
         ensures goes { IfOk result (λ more. (text : List ℕ) → length text < 2 ^ 64
             → SeesOn S.has_seen more self.old self.new text) }
@@ -90,8 +90,8 @@ impl<S: TraceObserver<A> + Drop, A: Allocator + Copy> ObservedTrace<S, A> {
         }
     }
 
-    /// Takes the next piece of the text, and shows all complete happenings. If memory allocation fails, a part of them
-    /// may have been shown, and the view must not be used any more.
+    /// Takes the next piece of the text, and passes on all complete happenings. If memory allocation fails, some of them
+    /// may have been passed on, and the view must not be used any more.
     pub fn take(&mut self, piece: &[u8]) -> Result<(), Memory>
         ensures { OnOk result ((text : List ℕ) → length (text ++ piece.now) < 2 ^ 64
             → HasSeenText S.has_seen self.old text
@@ -102,9 +102,9 @@ impl<S: TraceObserver<A> + Drop, A: Allocator + Copy> ObservedTrace<S, A> {
         Ok(())
     }
 
-    /// Shows the view a happening that is not in the text, such as a consequence of those seen. Returns the
-    /// lowest-numbered law that it breaks, in which case it is not shown. If memory allocation fails, the view must not
-    /// be used any more.
+    /// Passes the view a happening that is not in the text, such as a consequence of those seen. If it breaks a law,
+    /// returns the lowest-numbered one, and the view is unchanged. If memory allocation fails, the view must not be used
+    /// any more.
     pub fn show<B: Allocator>(&mut self, happening: &HappeningIn<B>) -> Result<Option<Law>, Memory>
         ensures law { IfOk result (λ law. (past : List Event)
             → Viewed self.old.viewing.viewing past
@@ -129,8 +129,8 @@ impl<S: TraceObserver<A> + Drop, A: Allocator + Copy> ObservedTrace<S, A> {
         &self.seen
     }
 
-    /// Returns why the view ended, if it did, and the number of the line at which the last happening begins if that is
-    /// incomplete, counted from 1.
+    /// Returns the reason why the view ended, if it did, and the number of the line, counted from 1, at which an
+    /// incomplete happening begins, if there is one.
     pub fn end(&self) -> (Option<ViewEnd>, Option<u64>)
         ensures { (text : List ℕ) → length text < 2 ^ 64 → HasSeenText S.has_seen self.now text
             → IsSeen S.has_seen text result.0 result.1 self.now.viewing.viewing self.now.seen }

@@ -15,17 +15,17 @@ pub struct Excluded {
 pub struct Standing {
     /// Whether it starts in the stage in force.
     pub starts: bool,
-    /// The number of its child whose end was not told, if any.
+    /// The number of its kept child, whose end init has not learned of, if any.
     pub child: Option<ChildNumber>,
     /// Whether that child is excluded.
     pub stops: bool,
-    /// Whether Boot was entered.
+    /// Whether init has entered Boot.
     pub booted: bool,
-    /// Whether a child of it was born before the first level, with its present action.
+    /// Whether a child of the entry was born before the first level, when the entry had the same action.
     pub ran: bool,
     /// The first entry of the table that init waits for.
     pub awaited: Option<Id>,
-    /// Its open order.
+    /// The open order for the entry.
     pub order: Option<OrderKind>,
     /// Whether its action asks for a start.
     pub wanted: bool,
@@ -35,10 +35,10 @@ pub struct Standing {
     pub owed: Option<Id>,
     /// The youngest excluded child of any id.
     pub excluded: Option<Excluded>,
-    /// The request that is carried out first.
+    /// The pending request that init carries out first.
     pub wish: Option<Wish>,
-    /// Since when it has been held.
+    /// The time since which the entry has been held.
     pub hold: Option<u64>,
-    /// Whether it was started ten times in two minutes, so that it is held next.
+    /// Whether the entry was started ten times in two minutes, so that init holds it next.
     pub full: bool,
 }

@@ -1,4 +1,4 @@
-//! A view of the text of a trace that comes in pieces.
+//! A view of the text of a trace that arrives in pieces.
 
 ghost use Rattle.std.specs.Prelude.{◌≡◌, ◌^◌, ◌<◌, List, ℕ, ◌++◌, [], length, true, None, is_some, option_map, reverse, IfOk, OnOk};
 ghost use Rattle.trace_view.specs.Words.{Event, broken, line_left, capped, law_number};
@@ -19,18 +19,19 @@ use trace_verdict::TextReader;
 /// The reason why a view ended.
 #[derive(Clone, Copy)]
 pub enum ViewEnd {
-    /// The happening at the line of this number, counted from 1, breaks this law, and no lower-numbered one.
+    /// The happening at the line with this number, counted from 1, breaks this law, and no lower-numbered one.
     Breach(Law, u64),
-    /// No happening begins at the line of this number, counted from 1.
+    /// No happening begins at the line with this number, counted from 1.
     Torn(u64),
     /// The first happening is not a table: the text begins in the middle of a run.
     Within,
 }
 
-/// A view of the text of a trace, which comes in pieces cut anywhere.
+/// A view of the text of a trace, which arrives in pieces of any length.
 ///
-/// It ends before the first happening that breaks a law, and at the first line at which no happening begins. It shows
-/// nothing of a text that begins in the middle of a run. A contract sees which texts it has taken (`HasShown`).
+/// The view ends before the first happening that breaks a law, and at the first line at which no happening begins. It
+/// shows no happening of a text that begins in the middle of a run. Contracts describe it by the text that it has taken
+/// (`HasShown`).
 #[derive(Drop)]
 pub struct TextView<A: Allocator = Global> {
     reader: TextReader<A>,
@@ -46,14 +47,14 @@ impl<A: Allocator> Model for TextView<A> {
     ghost view = { λ v. record { reading = v.reader; viewing = v.view; stop = v.stop } };
 }
 
-/// Returns whether a run can have the happening at this line: its first happening is a table.
+/// Returns whether a run can have the happening at this line. The first happening of a run must be a table.
 fn may_be<B: Allocator>(line: u64, happening: &HappeningIn<B>) -> bool
     ensures { result ≡ may_be line happening.now }
 {
     line != 1 || is_table(happening)
 }
 
-/// Shows a view the next happening, which begins at this line.
+/// Passes the next happening, which begins at this line, to a view.
 fn see_next<A: Allocator + Copy, B: Allocator>(
     view: &mut TraceView<A>,
     line: u64,
@@ -81,7 +82,7 @@ fn seen_by<A: Allocator>(stop: Option<ViewEnd>, happening: HappeningIn<A>) -> Op
 }
 
 impl<A: Allocator + Copy> TextView<A> {
-    /// Creates a view that has taken nothing. This does not allocate.
+    /// Creates a view that has taken no text. This does not allocate.
     pub fn new(alloc: A) -> TextView<A>
         ensures { HasShown result [] [] }
     {
@@ -92,7 +93,7 @@ impl<A: Allocator + Copy> TextView<A> {
         }
     }
 
-    /// Takes the next piece of the text without showing its happenings yet.
+    /// Takes the next piece of the text without reading its happenings yet.
     pub fn feed(&mut self, piece: &[u8]) -> Result<(), Memory>
         ensures { OnOk result ((trace : List Event) (text : List ℕ) → HasShown self.old trace text
             → IsAt self.new trace (text ++ piece.now)) }
@@ -104,8 +105,8 @@ impl<A: Allocator + Copy> TextView<A> {
         Ok(())
     }
 
-    /// Shows the next happening and returns it, or `None` if it is incomplete or the view has ended. If memory
-    /// allocation fails, the view must not be used any more.
+    /// Reads the next happening into the view and returns it, or `None` if it is incomplete or the view has ended. If
+    /// memory allocation fails, the view must not be used any more.
     pub fn next(&mut self) -> Result<Option<HappeningIn<A>>, Memory>
         ensures goes { IfOk result (λ next. (trace : List Event) (text : List ℕ)
             → length text < 2 ^ 64 → ViewGoesOn next self.old self.new trace text) }
@@ -132,16 +133,15 @@ impl<A: Allocator + Copy> TextView<A> {
         }
     }
 
-    /// Returns the number of lines of the text that were read. Until the view ends, they are those of the happenings
-    /// seen.
+    /// Returns the number of lines read. Until the view ends, these are the lines of the happenings seen.
     pub fn lines(&self) -> u64
         ensures { result ≡ self.now.reading.lines }
     {
         self.reader.lines()
     }
 
-    /// Shows the view a happening that is not in the text. Returns the lowest-numbered law that it breaks, in which
-    /// case it is not shown. If memory allocation fails, the view must not be used any more.
+    /// Passes the view a happening that is not in the text. If it breaks a law, returns the lowest-numbered one, and the
+    /// view is unchanged. If memory allocation fails, the view must not be used any more.
     pub(crate) fn show<B: Allocator>(
         &mut self,
         happening: &HappeningIn<B>,
@@ -171,8 +171,8 @@ impl<A: Allocator + Copy> TextView<A> {
         }
     }
 
-    /// Returns the view of what was taken, why it ended, if it did, and the number of the line at which the last
-    /// happening begins if that is incomplete, counted from 1. An incomplete happening is not seen.
+    /// Returns the view of the complete happenings; the reason why the view ended, if it did; and the number of the line,
+    /// counted from 1, at which an incomplete happening begins, if there is one.
     pub fn answer(&self) -> (&TraceView<A>, Option<ViewEnd>, Option<u64>)
         ensures { (trace : List Event) (text : List ℕ) → length text < 2 ^ 64
             → HasShown self.now trace text

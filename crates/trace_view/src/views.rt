@@ -25,9 +25,9 @@ use std::marker::Model;
 use trace_check::{Law, TraceJudge};
 use trace_events::{CallSet, HappeningIn};
 
-/// A view of a trace whose happenings come one after another, oldest first.
+/// A view of a trace, which takes one happening at a time, oldest first.
 ///
-/// A contract sees which pasts the view has seen (`Viewed`).
+/// Contracts describe a view by the trace that it has seen (`Viewed`).
 #[derive(Drop)]
 pub struct TraceView<A: Allocator = Global> {
     alloc: A,
@@ -58,7 +58,7 @@ impl<A: Allocator> Model for TraceView<A> {
     } };
 }
 
-/// Returns whether there is a stage and the entry starts in it.
+/// Returns whether a stage is in force and the entry starts in it.
 fn starts_in(entry: &Entry, stage: Option<Stage>) -> bool
     ensures { result ≡ starts_in entry.now stage }
 {
@@ -102,7 +102,7 @@ fn owed_by(waited: bool, kept: bool, starting: bool, wanted: bool) -> bool
     waited && (kept || starting || wanted)
 }
 
-/// Returns the first id; if there is none, the other one if `so` is true.
+/// Returns `first` if it is an id; otherwise `other` if `so` is true.
 fn id_or(first: Option<Id>, so: bool, other: Id) -> Option<Id>
     ensures { result ≡ option_or first (if so then Some other else None) }
 {
@@ -128,7 +128,7 @@ fn only_if<T: Copy>(test: bool, value: Option<T>) -> Option<T>
 impl<A: Allocator + Copy> TraceView<A> {
     ghost use Rattle.std.specs.Prelude.{[]};
 
-    /// Creates a view that has seen nothing. This does not allocate.
+    /// Creates a view that has seen no happenings. This does not allocate.
     pub fn new(alloc: A) -> TraceView<A>
         ensures value { result ≡ unviewed }
         ensures seen { Viewed result [] }
@@ -146,9 +146,8 @@ impl<A: Allocator + Copy> TraceView<A> {
         }
     }
 
-    /// Takes the next happening. Returns the lowest-numbered law that it breaks, in which case it is not taken and the
-    /// view stays as it was. If memory allocation fails, a part of the happening may have been taken, and the view must
-    /// not be used any more.
+    /// Takes the next happening. If it breaks a law, returns the lowest-numbered one, and the view is unchanged. If memory
+    /// allocation fails, the view may have been partly updated, and must not be used any more.
     pub fn take<B: Allocator>(&mut self, happening: &HappeningIn<B>) -> Result<Option<Law>, Memory>
         ensures law { IfOk result (λ law. (past : List Event) → Viewed self.old past
             → option_map law_number law ≡ broken happening.now past) }
@@ -243,8 +242,8 @@ impl<A: Allocator> TraceView<A> {
         }
     }
 
-    /// Returns the reason why an entry of the table in force is not started next. If the entry starts in the stage and
-    /// has a child, nothing else is examined.
+    /// Returns the reason why an entry of the table in force is not started next. As a shortcut, an entry that starts in
+    /// the stage and has a child is not examined further.
     fn why_of(&self, entry: &Entry) -> Why
         ensures { (past : List Event) → Viewed self.now past
             → entry_of entry.now.id (table_of past) ≡ Some entry.now
@@ -258,7 +257,7 @@ impl<A: Allocator> TraceView<A> {
         }
     }
 
-    /// Returns what is reported about an id, which belongs to an entry of the table or to a child whose entry is gone.
+    /// Returns the report about an id, which is the id of an entry of the table or of a child whose entry is gone.
     pub fn row(&self, id: &Id) -> Row
         ensures { (past : List Event) → Viewed self.now past → result ≡ row_of id.now past }
     {
@@ -320,7 +319,7 @@ impl<A: Allocator> TraceView<A> {
         self.judge.is_wanted(entry)
     }
 
-    /// Returns the table in force. It has no id twice.
+    /// Returns the table in force, in which no id occurs twice.
     pub fn table(&self) -> &Table<A>
         ensures value { (past : List Event) → Viewed self.now past → result.now ≡ table_of past }
         ensures distinct { is_distinct result.now ≡ true }
@@ -335,7 +334,7 @@ impl<A: Allocator> TraceView<A> {
         self.judge.stage()
     }
 
-    /// Returns the seconds between the two signals that stop a child.
+    /// Returns the seconds between SIGTERM and SIGKILL.
     pub fn grace(&self) -> u16
         ensures { (past : List Event) → Viewed self.now past → result ≡ grace_of past }
     {
@@ -349,37 +348,37 @@ impl<A: Allocator> TraceView<A> {
         self.judge.time()
     }
 
-    /// Returns the request that is carried out first.
+    /// Returns the pending request that init carries out first.
     pub fn wish(&self) -> Option<Wish>
         ensures { (past : List Event) → Viewed self.now past → result ≡ first_wish past }
     {
         self.wishes.first(self.judge.stage())
     }
 
-    /// Returns the level that was requested and not entered yet.
+    /// Returns the level that was requested but has not been entered yet.
     pub fn asked_level(&self) -> Option<Level>
         ensures { (past : List Event) → Viewed self.now past → result ≡ asked_level past }
     {
         self.wishes.asked(self.judge.stage())
     }
 
-    /// Returns the stage that init enters next because another level was requested, with the seconds between its
-    /// signals.
+    /// Returns the stage that init enters next because another level was requested, with the seconds between SIGTERM and
+    /// SIGKILL.
     pub fn next_stage(&self) -> Option<(Stage, u16)>
         ensures { (past : List Event) → Viewed self.now past → result ≡ next_stage past }
     {
         self.wishes.next_stage(self.judge.stage())
     }
 
-    /// Returns whether the runlevel in force was announced settled, and no table came since.
+    /// Returns whether the runlevel in force was announced settled, and no new table has come since.
     pub fn is_settled(&self) -> bool
         ensures { (past : List Event) → Viewed self.now past → result ≡ is_announced past }
     {
         self.wishes.announced
     }
 
-    /// Returns whether the stage in force is a runlevel that could be announced settled at this moment, whether that
-    /// was announced or not.
+    /// Returns whether the stage in force is a runlevel that could be announced settled at this moment, even if init has
+    /// already announced that.
     pub fn is_complete(&self) -> bool
         ensures { (past : List Event) → Viewed self.now past → result ≡ is_complete_now past }
     {
@@ -389,7 +388,7 @@ impl<A: Allocator> TraceView<A> {
         }
     }
 
-    /// Returns whether the stage, which is in force, is a runlevel that could be announced settled.
+    /// Returns whether this stage, the one in force, is a runlevel that could be announced settled.
     fn completes(&self, stage: Stage) -> bool
         ensures { (past : List Event) → Viewed self.now past
             → result ≡ complete_in (Some stage) past }

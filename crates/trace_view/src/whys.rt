@@ -1,4 +1,4 @@
-//! Why an entry is not started next.
+//! The reasons why an entry is not started next.
 
 ghost use Rattle.std.specs.Prelude.{◌≡◌};
 ghost use Rattle.trace_view.specs.Why.{by_awaited, elsewhere, is_past, not_here, not_wanted, why_by};
@@ -16,37 +16,37 @@ pub enum Why {
     NeverStarts,
     /// No stage has begun.
     NoStage,
-    /// Its stage is over, and it ran in that stage.
+    /// The stage of the entry is over, and the entry ran in that stage.
     RanBefore,
-    /// Its stage is over, and it never ran in that stage.
+    /// The stage of the entry is over, and the entry did not run in that stage.
     StageOver,
-    /// Its stage is still to come, and init waits for this entry first.
+    /// The stage of the entry is still to come, and init waits for another entry, which has this id.
     StageOwed(Id),
-    /// It names other levels than the one in force, or belongs to another stage, which may be still to come.
+    /// The entry does not name the level in force, or belongs to another stage, which may still come.
     OtherStage,
-    /// It has a child whose end was not told.
+    /// The entry has this child, whose end init has not learned of.
     ChildKept(ChildNumber),
     /// It has an open order.
     OrderOpen(OrderKind),
-    /// Nothing called it since the last stage or table.
+    /// No letter or power event has called the entry since the last stage or table.
     NotCalled,
-    /// It was started since the stage began.
+    /// The entry has been started since the stage began.
     WasStarted,
     /// Init waits for this earlier entry.
     EarlierOwed(Id),
-    /// The end of this excluded child was not told.
+    /// Init has not learned of the end of this excluded child.
     ExcludedKept(Excluded),
-    /// This request is carried out first.
+    /// Init carries out this request first.
     WishStands(Wish),
-    /// It has been held since this time.
+    /// The entry has been held since this time.
     Held(u64),
-    /// It was started ten times in two minutes, and is held next.
+    /// The entry was started ten times in two minutes, so init holds it next.
     WindowFull,
     /// There is no reason: its start is due.
     Nothing,
 }
 
-/// Returns whether the action starts its entries in a stage that is over.
+/// Returns whether the action belongs to a stage that is over.
 fn is_past(act: Act, booted: bool, stage: Stage) -> bool
     ensures { result ≡ is_past act booted stage }
 {
@@ -58,7 +58,7 @@ fn is_past(act: Act, booted: bool, stage: Stage) -> bool
     }
 }
 
-/// Returns why an entry is not started whose stage is still to come.
+/// Returns the reason for an entry whose stage is still to come.
 fn by_awaited(stage: Stage, awaited: Option<Id>) -> Why
     ensures { result ≡ by_awaited stage awaited }
 {
@@ -69,7 +69,7 @@ fn by_awaited(stage: Stage, awaited: Option<Id>) -> Why
     }
 }
 
-/// Returns why an entry of another stage is not started.
+/// Returns the reason for an entry of another stage.
 fn elsewhere(act: Act, stage: Stage, standing: &Standing) -> Why
     ensures { result ≡ elsewhere act stage standing.now }
 {
@@ -83,7 +83,7 @@ fn elsewhere(act: Act, stage: Stage, standing: &Standing) -> Why
     }
 }
 
-/// Returns why an entry is not started that does not start in the stage in force.
+/// Returns the reason for an entry that does not start in the stage in force.
 fn not_here(act: Act, stage: Option<Stage>, standing: &Standing) -> Why
     ensures { result ≡ not_here act stage standing.now }
 {
@@ -99,7 +99,7 @@ fn not_here(act: Act, stage: Option<Stage>, standing: &Standing) -> Why
     }
 }
 
-/// Returns why an entry is not wanted that has neither a child nor an open order.
+/// Returns the reason for an entry that is not wanted and has neither a child nor an open order.
 fn not_wanted(act: Act, named: bool) -> Why
     ensures { result ≡ not_wanted act named }
 {

@@ -9,16 +9,16 @@ use initctl_frame::HeardRequest;
 use std::alloc::Allocator;
 use trace_events::{CallSet, Goal, Happening, HappeningIn, in_run, is_level};
 
-/// A pending request. No entry is started before it is carried out.
+/// A pending request. Init starts no entry before it has carried the request out.
 #[derive(Clone, Copy)]
 pub enum Wish {
-    /// A re-execution of init.
+    /// Re-execute init.
     Reexec,
-    /// Reading inittab again.
+    /// Reread inittab.
     Reread,
-    /// Entering another level.
+    /// Enter another level.
     Level(Level),
-    /// Calling entries for a power event or for a letter.
+    /// Call entries for a power event or by a letter.
     News,
 }
 
@@ -29,9 +29,9 @@ pub(crate) struct Wishes {
     pub(crate) reread: bool,
     pub(crate) heard: Option<Goal>,
     pub(crate) news: CallSet,
-    /// Whether Boot was entered.
+    /// Whether init has entered Boot.
     pub(crate) booted: bool,
-    /// Whether the level was announced settled, and no stage or table came since.
+    /// Whether init has announced that the level is settled, and no new stage or table has come since.
     pub(crate) announced: bool,
 }
 
@@ -85,7 +85,7 @@ impl Wishes {
         }
     }
 
-    /// Returns the level that was requested, unless it is the present stage.
+    /// Returns the requested level, unless it is the stage in force.
     pub(crate) fn asked(self, stage: Option<Stage>) -> Option<Level>
         ensures { result ≡ unless_here stage self.heard }
     {
@@ -97,7 +97,7 @@ impl Wishes {
         }
     }
 
-    /// Returns the request for another level than the present stage, which has to be a level.
+    /// Returns the request for a level, if the stage in force is another level.
     fn level(self, stage: Option<Stage>) -> Option<Goal>
         ensures { result ≡ other_than stage self.heard }
     {
@@ -111,8 +111,8 @@ impl Wishes {
         }
     }
 
-    /// Returns the stage that is entered for the requested level, with the seconds between its signals. This is Boot
-    /// first, if Boot was not entered yet and the level is not S.
+    /// Returns the stage that init enters for the requested level, with the seconds between SIGTERM and SIGKILL. It is
+    /// Boot if Boot was not entered yet and the level is not S.
     pub(crate) fn next_stage(self, stage: Option<Stage>) -> Option<(Stage, u16)>
         ensures { result ≡ next_stage_in stage self }
     {
@@ -123,7 +123,7 @@ impl Wishes {
         Some((Stage::Run(wish.level), wish.grace))
     }
 
-    /// Returns the request that is carried out first in this stage.
+    /// Returns the request that init carries out first in this stage.
     pub(crate) fn first(self, stage: Option<Stage>) -> Option<Wish>
         ensures { result ≡ first_wish_in stage self }
     {
