@@ -1,4 +1,4 @@
-//! What happens to the entries of an inittab in a level if another one replaces it.
+//! The changes to the entries in a level when another inittab replaces the one in force.
 
 ghost use Rattle.std.specs.Prelude.{◌≡◌, ◌++◌, Some, filter, map, option_copied, IfOk, OnOk};
 ghost use Rattle.initview_lines.specs.CommonWords.{may_live, is_started, stages_to};
@@ -10,26 +10,26 @@ use init_words::{Act, Entry, Id, Level, Stage, lives, starts};
 use inittab_text::Table;
 use std::alloc::{AllocError, Global};
 
-/// What happens to an id.
+/// The change to an id.
 #[derive(Clone, Copy, PartialEq, Eq)]
 pub enum Change {
     /// Its child keeps running.
     Keep,
-    /// Its child keeps running, and its next start runs another process.
+    /// Its child keeps running, but the next start uses another process field.
     NextStart,
     /// Its child is stopped.
     Stop,
     /// Its child is stopped, and another one is started.
     StopStart,
-    /// It is started.
+    /// Init starts the entry.
     Start,
-    /// It was started in the level already, and is not started again.
+    /// The entry was already started in the level, and init does not start it again.
     NotAgain,
-    /// Nothing starts it in the level by itself, before or after.
+    /// Init does not start the entry in the level without a request, before or after the change.
     NotHere,
 }
 
-/// Reports whether entering a stage starts the entry by itself.
+/// Reports whether init starts the entry in the stage without any request.
 pub(crate) fn is_started(stage: Stage, entry: &Entry) -> bool
     ensures { result ≡ is_started stage entry.now }
 {
@@ -45,7 +45,7 @@ fn starts_there(level: Level, entry: Option<&Entry>) -> bool
     }
 }
 
-/// Reports whether init starts the entry by itself on the way to the level.
+/// Reports whether init starts the entry on the way to the level without any request.
 fn is_on_way(level: Level, entry: &Entry) -> bool
     ensures { result ≡ list_any (λ stage. is_started stage entry.now) (stages_to level) }
 {
@@ -92,7 +92,7 @@ pub(crate) fn same_process(old: Option<&Entry>, new: Option<&Entry>) -> bool
     }
 }
 
-/// Returns what happens in a level to an id whose old and new entries are these.
+/// Returns the change to an id in a level, given its old and new entries.
 fn change_in(level: Level, old: Option<&Entry>, new: Option<&Entry>) -> Change
     ensures { result ≡ change_in level (option_copied old.entry) (option_copied new.entry) }
 {
@@ -118,7 +118,7 @@ fn change_in(level: Level, old: Option<&Entry>, new: Option<&Entry>) -> Change
     }
 }
 
-/// Returns what happens to an id in a level.
+/// Returns the line with the change to an id in a level.
 fn change_line(level: Level, old: &Table, new: &Table, id: &Id) -> Line
     ensures { result ≡ change_line level old.now new.now id.now }
 {
@@ -146,8 +146,8 @@ fn changes(alloc: Global, level: Level, old: &Table, new: &Table) -> Result<Vec<
         .collect(alloc)
 }
 
-/// Returns what happens to each id in a level if init reads the new table in place of the old one. The level comes
-/// first, then each entry of the new table, then each entry that the new table lacks.
+/// Returns the changes in a level when init reads the new table in place of the old one: a line for the level, one for
+/// each entry of the new table, and one for each entry that the new table lacks.
 pub fn change_lines(
     alloc: Global,
     level: Level,

@@ -16,7 +16,7 @@ pub(crate) fn stage_letter(stage: Stage) -> u8 {
     }
 }
 
-/// Returns the character for a piece in a column, which may be the piece's first one.
+/// Returns the character for a piece in a column. `first` says whether it is the first column of the piece.
 fn sign_of(what: Drawn, first: bool) -> u8 {
     match what {
         Drawn::Name(stage, _) => stage_letter(stage),
@@ -81,7 +81,7 @@ fn add_row(text: &mut Vec<u8>, alloc: Global, frame: Frame, row: &Row) -> Result
     put(text, b"\n")
 }
 
-/// Adds the times of a drawing, separated by a blank or a newline.
+/// Adds the first and last time of a drawing, separated by a blank or a newline.
 pub(crate) fn add_times(
     text: &mut Vec<u8>,
     zone: Zone,
@@ -124,13 +124,13 @@ pub(crate) fn ill(rows: &[Row]) -> u64 {
     rows.iter().filter(|row| is_ill(row)).count() as u64
 }
 
-/// Returns a time that is not drawn before this position.
+/// Returns a time that is drawn at this position or later.
 fn time_of_place(frame: Frame, position: u64) -> u64 {
     let part = position.saturating_mul(frame.span());
     frame.start.saturating_add(part.div_ceil(frame.last.max(1)))
 }
 
-/// Adds the time of day of every fourteenth column that has room for it.
+/// Adds the time of day at every fourteenth column, if there is room for it.
 fn add_axis(text: &mut Vec<u8>, zone: Zone, frame: Frame) -> Result<(), AllocError> {
     put(text, b"    ")?;
     for number in 0..frame.last.saturating_add(4) / 14 {
@@ -140,7 +140,7 @@ fn add_axis(text: &mut Vec<u8>, zone: Zone, frame: Frame) -> Result<(), AllocErr
     put(text, b"\n")
 }
 
-/// Adds parts, given one per line, and joins them into lines of at most `width` columns.
+/// Adds the parts, which are given one per line, joined into lines of at most `width` columns.
 fn add_wrapped(text: &mut Vec<u8>, width: u64, parts: &[u8]) -> Result<(), AllocError> {
     let mut column: u64 = 0;
     for part in parts.split(|byte| *byte == b'\n') {
@@ -160,7 +160,7 @@ fn add_wrapped(text: &mut Vec<u8>, width: u64, parts: &[u8]) -> Result<(), Alloc
     put(text, b"\n")
 }
 
-/// Adds the times, and the state at the end.
+/// Adds the times of the drawing, and the state at the end.
 fn add_front(
     text: &mut Vec<u8>,
     alloc: Global,
@@ -180,8 +180,8 @@ fn add_front(
 }
 
 /// Adds rows of a timeline as lines with this number of columns: its times; the state at the end; the time of every
-/// fourteenth column; a row for the stages, and one for each id; and the legend. Nine columns are for the ids, thirteen
-/// for their states at the end and their numbers of faults, and the others, at least one, for the times.
+/// fourteenth column; a row for the stages, and one for each id; and the legend. The ids take nine columns, their states
+/// at the end and numbers of faults take thirteen, and the drawing takes the others, at least one.
 pub(crate) fn add_chart(
     text: &mut Vec<u8>,
     alloc: Global,

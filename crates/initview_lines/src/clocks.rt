@@ -1,4 +1,4 @@
-//! Readings of the clock as text, by the calendar and the time zones of jiff.
+//! Prints readings of the clock, using the calendar and time zones of the crate jiff.
 
 use crate::dimensions::YEAR;
 use crate::words::{add_number, put};
@@ -27,8 +27,8 @@ fn instant(seconds: u64) -> Option<Timestamp> {
     Timestamp::from_second(i64::try_from(seconds).ok()?).ok()
 }
 
-/// Returns a zone's offset from UTC in seconds. It is 0 in 1970, where no real clock of init has been, and `None` after
-/// the last instant of jiff, 26 hours before the year 10000.
+/// Returns a zone's offset from UTC in seconds. It is 0 for times in 1970, which no real clock of init shows, and `None`
+/// after the last instant of jiff, 26 hours before the year 10000.
 fn ahead(zone: Zone, seconds: u64) -> Option<i32> {
     match zone {
         Zone::Local(zone) if seconds >= YEAR => Some(zone.to_offset(instant(seconds)?).seconds()),
@@ -52,8 +52,7 @@ fn shown(zone: Zone, seconds: u64) -> Option<Reading> {
     })
 }
 
-/// Returns the seconds since the beginning of 1970 in the local time of a zone, or in UTC if the local time is not
-/// known.
+/// Returns the seconds since the beginning of 1970 in the local time of a zone, or in UTC if the local time is unknown.
 pub(crate) fn local_seconds(zone: Zone, seconds: u64) -> u64 {
     match shown(zone, seconds) {
         Some(reading) => reading.seconds,
@@ -96,8 +95,8 @@ pub(crate) fn add_day(text: &mut Vec<u8>, zone: Zone, seconds: u64) -> Result<()
     }
 }
 
-/// Adds the day and the time of day. In 1970, where no real clock of init has been, it adds the time of day only; in
-/// years with more than four digits the seconds.
+/// Adds the day and the time of day. For times in 1970, which no real clock of init shows, it adds only the time of day;
+/// for years with more than four digits, it adds the number of seconds.
 pub(crate) fn add_moment(text: &mut Vec<u8>, zone: Zone, seconds: u64) -> Result<(), AllocError> {
     let Some(reading) = shown(zone, seconds) else {
         return add_number(text, b"", seconds, b"");
@@ -109,7 +108,7 @@ pub(crate) fn add_moment(text: &mut Vec<u8>, zone: Zone, seconds: u64) -> Result
     add_hours(text, zone, seconds)
 }
 
-/// Adds the name of the zone after a time: ` UTC`, or for example ` CET`; nothing in 1970.
+/// Adds the name of the zone after a time, for example ` UTC` or ` CET`, or nothing in 1970.
 pub(crate) fn add_zone(text: &mut Vec<u8>, zone: Zone, seconds: u64) -> Result<(), AllocError> {
     match (zone, instant(seconds)) {
         _ if seconds < YEAR => Ok(()),
@@ -130,8 +129,8 @@ fn add_offset(text: &mut Vec<u8>, ahead: i32) -> Result<(), AllocError> {
 }
 
 /// Adds a reading of the clock, in seconds since the beginning of 1970, in the format of RFC 3339:
-/// `2026-01-31T07:15:00Z`, or with the offset of a zone. The format has no years with five digits; for them it adds the
-/// seconds.
+/// `2026-01-31T07:15:00Z`, or with the offset of a zone. For years with five digits, which the format lacks, it adds the
+/// number of seconds.
 pub(crate) fn add_time_of_day(
     text: &mut Vec<u8>,
     zone: Zone,
@@ -149,7 +148,7 @@ pub(crate) fn add_time_of_day(
     }
 }
 
-/// Adds a reading of the clock in that format, or the seconds only in 1970.
+/// Adds a reading of the clock in the format of RFC 3339, or the number of seconds in 1970.
 pub(crate) fn add_clock(text: &mut Vec<u8>, zone: Zone, seconds: u64) -> Result<(), AllocError> {
     if seconds < YEAR {
         add_number(text, b"", seconds, b"")

@@ -1,10 +1,10 @@
-//! The appearance of a timeline: its dimensions, in pixels if it is not scaled, and the shapes of its pieces.
+//! The appearance of a timeline: its dimensions, in unscaled pixels, and the shapes of its pieces.
 
-/// The width of the rows, which is the position of the last time.
+/// The width of the rows, which is also the position of the last time.
 pub const DRAWING: u64 = 900;
 
-/// The height of the row of the stages; the distance between rows; the distance between more than `MANY` rows; and that
-/// number of rows.
+/// The height of the row of the stages; the distance between rows; the distance if there are more than `MANY` rows; and
+/// the number `MANY`.
 pub const LEVEL: u64 = 26;
 
 pub const TALL: u64 = 22;
@@ -16,7 +16,7 @@ pub const MANY: usize = 60;
 /// The height of everything above the rows and below them.
 pub const MARGINS: u64 = 148;
 
-/// The minimum width of a stage that is labelled with its name, and with its letter.
+/// The minimum width of a stage labelled with its name, and of one labelled with its letter.
 pub const WORDS_ROOM: u64 = 104;
 
 pub const LETTER_ROOM: u64 = 12;
@@ -167,7 +167,7 @@ pub const AT_END: &[u8] =
     b"<text class=\"i z\" x=\"-8\" y=\"15\">level</text><text class=\"q\" x=\"912\" y=\"15\">at the end</text><text class=\"i q\" x=\"1042\" y=\"15\">faults</text>
 ";
 
-/// The legend of the characters in lines: three lines if they fit, each of parts that are given one per line here.
+/// The legend of the characters: three lines if they fit. Each line consists of parts, given one per line here.
 pub const LEGEND_LINES: [&[u8]; 3] = [
     b"level: i sysinit,
 b boot,

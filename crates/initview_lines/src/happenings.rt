@@ -1,4 +1,4 @@
-//! The news in the happenings of a trace, for an operator.
+//! The messages about the happenings of a trace that an operator sees.
 
 ghost use Rattle.std.specs.Prelude.{◌≡◌, [], ◌∷◌, ◌++◌, List, OnOk};
 ghost use Rattle.initview_lines.specs.CommonWords.{Event, Viewed};
@@ -26,15 +26,15 @@ pub enum News {
     NotBorn(Id),
     Ended(Id, ChildNumber, Status),
     NotSeen(Id),
-    /// A signal, named by the open order, and the number of the child.
+    /// A signal, as named by the open order, and the number of the child.
     Sent(Id, Option<OrderKind>, Option<ChildNumber>),
     NotSent(Id, Option<OrderKind>, Option<ChildNumber>),
     Got(HeardRequest),
     Handed(Handed),
 }
 
-/// Returns the news in a happening by itself, or `None` for one that an operator does not need to see: an order, a
-/// death, a look that found its child alive, an answer that reached init, a reading of the clock, a round.
+/// Returns the message for a single happening, without its past. Returns `None` for one that an operator does not need to
+/// see: an order, a death, a look that found its child alive, `told`, a reading of the clock, a round.
 pub(crate) fn news_alone(happening: &HappeningIn<Global>) -> Option<News>
     ensures { result ≡ news_of happening.now [] }
 {
@@ -58,7 +58,7 @@ pub(crate) fn news_alone(happening: &HappeningIn<Global>) -> Option<News>
     }
 }
 
-/// Returns the news in the happening that the view has seen last.
+/// Returns the message for the last happening that the view has seen, if it has one.
 fn news_of(view: &TraceView, happening: &HappeningIn<Global>) -> Option<News>
     ensures { (past : List Event) → Viewed view.now (happening.now ∷ past)
         → result ≡ news_of happening.now past }
@@ -70,7 +70,7 @@ fn news_of(view: &TraceView, happening: &HappeningIn<Global>) -> Option<News>
     }
 }
 
-/// Adds the news in the happening that the view has seen last, with the time of the trace's clock.
+/// Adds the message for the last happening that the view has seen, if any, with the time of the trace's clock.
 pub fn add_happening(
     lines: &mut Vec<Line>,
     view: &TraceView,

@@ -1,5 +1,5 @@
-//! The states of init and its entries as JSON objects. That texts are quoted correctly is proved; the rest is tested by
-//! `tools/rows/initview`.
+//! The states of init and its entries as JSON objects. The quoting of texts is proved correct; `tools/rows/initview`
+//! tests the rest.
 
 ghost use Rattle.std.specs.Prelude.{◌≡◌, ◌++◌, OnOk};
 ghost use Rattle.initview_lines.specs.Json.{quoted, quoted_byte, quoted_bytes};
@@ -64,7 +64,7 @@ fn state_of(row: &Row) -> &'static [u8] {
     }
 }
 
-/// Returns the id whose end init waits for.
+/// Returns the id that init waits for, if that is the reason.
 fn awaited(why: &Why) -> Option<&[u8]> {
     match why {
         Why::EarlierOwed(id) | Why::StageOwed(id) => Some(id.as_bytes()),
@@ -73,7 +73,7 @@ fn awaited(why: &Why) -> Option<&[u8]> {
     }
 }
 
-/// Adds the object of an id and the number of its child, if known, on one line.
+/// Adds the object for an id and the number of its child, if known, on one line.
 pub(crate) fn add_left(
     text: &mut Vec<u8>,
     id: &Id,
@@ -89,7 +89,7 @@ pub(crate) fn add_left(
     )
 }
 
-/// Adds the object of an id on one line.
+/// Adds the object for an id on one line.
 pub(crate) fn add_row(text: &mut Vec<u8>, at: &IdRow) -> Result<(), AllocError> {
     let row = &at.row;
     fill(
@@ -141,7 +141,7 @@ fn truth(so: bool) -> &'static [u8] {
     if so { b"true" } else { b"false" }
 }
 
-/// Adds the object of init on one line.
+/// Adds the object for init on one line.
 pub(crate) fn add_head(text: &mut Vec<u8>, head: &Head) -> Result<(), AllocError> {
     fill(
         text,

@@ -1,4 +1,4 @@
-//! What is left of a run: the children that were born and not reaped, and the entries whose start is open.
+//! The remains of a run: the children that were born and not reaped, and the entries whose start is open.
 
 ghost use Rattle.std.specs.Prelude.{◌≡◌, ◌++◌, List, filter, map, IfOk, OnOk};
 ghost use Rattle.initview_lines.specs.CommonWords.{Event, Viewed, row_of};
@@ -9,8 +9,7 @@ use init_words::{ChildNumber, Entry, Id, OrderKind};
 use std::alloc::{AllocError, Global};
 use trace_view::{BornChild, TraceView};
 
-/// Returns the children that were born and not reaped, the youngest first, and then the entries whose start is open, in
-/// the order of the table.
+/// Returns the unreaped children, youngest first, and then the entries whose start is open, in the order of the table.
 pub fn left_lines(
     alloc: Global,
     view: &TraceView,
@@ -27,7 +26,7 @@ pub fn left_lines(
     Ok(lines)
 }
 
-/// Reports whether a start of the id is open and it has no child.
+/// Reports whether a start of the id is open and the id has no child.
 pub fn is_starting(view: &TraceView, id: &Id) -> bool
     ensures { (past : List Event) → Viewed view.now past
         → result ≡ is_starting (row_of id.now past) }

@@ -1,7 +1,7 @@
-//! The lines of initview's answers. From a view of a trace: the state of the entries, why an entry is not started next,
-//! and which children are left. From inittabs: the lines that init ignores, what another inittab changes, also for the
-//! children that run at the end of a trace, and what a level starts. A line is a value, and proved; its wording is
-//! tested by `tools/rows`.
+//! The lines of initview's answers. About a trace: the state of the entries, the reason why an entry is not started next,
+//! and the remaining children. About inittabs: the lines that init ignores, the changes that another inittab makes, also
+//! to the children that run at the end of a trace, and the entries that a level starts. The contents of the lines are
+//! proved; `tools/rows` tests their wording.
 #![tactic(auto)]
 
 mod changes;

@@ -36,29 +36,29 @@ pub enum WhichRows {
 pub struct Head {
     /// The stage in force.
     pub stage: Option<Stage>,
-    /// Whether the stage is a level that was announced settled and no table was read since.
+    /// Whether the stage is a level that was announced settled, and no table has been read since.
     pub settled: bool,
-    /// Whether the stage is a level in which nothing is owed at this moment.
+    /// Whether the stage is a level that could be announced settled at this moment.
     pub complete: bool,
     pub time: u64,
     /// The time from SIGTERM to SIGKILL.
     pub grace: u64,
-    /// The level that is requested and not entered yet.
+    /// The level that was requested but has not been entered yet.
     pub goal: Option<Level>,
-    /// The request that is carried out first.
+    /// The pending request that init carries out first.
     pub wish: Option<Wish>,
 }
 
 /// The progress of stopping a child.
 #[derive(Clone, Copy)]
 pub struct Stopping {
-    /// The time since init was told that SIGTERM was sent.
+    /// The time since init learned that SIGTERM was sent.
     pub term: u64,
     /// The time until SIGKILL is sent.
     pub kill: u64,
 }
 
-/// The state of an id, with the times that belong to it.
+/// The state of an id, with its times.
 #[derive(Clone, Copy)]
 pub struct IdRow {
     pub id: Id,
@@ -72,70 +72,70 @@ pub struct IdRow {
     pub ended: Option<u64>,
 }
 
-/// Why an id is not started next, in a stage.
+/// The reason why an id is not started next, in a stage.
 #[derive(Drop)]
 pub struct Reason {
     pub at: IdRow,
     pub stage: Option<Stage>,
-    /// The id whose child is stopped first, because it has to end first; otherwise the same id.
+    /// The id whose child must end first and is being stopped; otherwise the same id.
     pub stopped: IdRow,
-    /// The trace, and the line of it that causes the reason, if there is one and the reason still holds.
+    /// The name of the trace, and the number of its line that explains the reason, if any and if the reason still holds.
     pub trace: Bytes,
     pub line: Option<u64>,
 }
 
-/// A message about a file of an inittab, or about one of its lines, which are counted from 1.
+/// A message about a file of an inittab, or about one of its lines. Lines are counted from 1.
 #[derive(Drop)]
 pub enum FileLine {
-    /// The line is ignored: the first check that it fails, the id or the action that is at fault, and the action that
-    /// was probably meant.
+    /// Init ignores the line: the first check that it fails, the faulty id or action, and the action that was probably
+    /// meant.
     LeftOut(u32, LineKind, Bytes, Option<Act>),
-    /// The line does not do what it seems to.
+    /// The line does not do what it seems to do.
     WasTermedBefore(usize, Warning),
-    /// The unchanged line, whose entry is in the table.
+    /// The line itself, whose entry is in the table.
     Kept(usize, Bytes),
-    /// Lines begin without an id.
+    /// Some lines have no id.
     Nameless,
-    /// No entry starts in the default level, or there is none.
+    /// No entry starts in the default level, or no default level is set.
     Default(Option<Level>),
     /// No line has the id.
     NoLine(Id),
 }
 
-/// A line, or a text that does not consist of such lines.
+/// A line of an answer, or any other text.
 #[derive(Drop)]
 pub enum Line {
     /// The state of init.
     Head(RowFormat, Head),
     /// The state of an id.
     Row(RowFormat, IdRow),
-    /// A child of the id was born and not reaped; or, without a number, its start is open.
+    /// The id has an unreaped child with this number; or, without a number, a start of the id is open.
     Left(RowFormat, Id, Option<ChildNumber>),
-    /// Why an id is not started next.
+    /// The reason why an id is not started next.
     Why(Reason),
-    /// What to do about an entry with this action that is not started next, in a stage.
+    /// Advice about an entry with this action that is not started next, in a stage.
     Advice(Option<Stage>, Option<Act>, Why),
-    /// A heading: the lines that follow are about this stage.
+    /// A heading for lines about this stage.
     Stage(Option<Stage>),
-    /// What happens to an id, its action afterwards, and its child.
+    /// The change to an id: its new action, the change, and the number of its child.
     Change(Id, Option<Act>, Change, Option<ChildNumber>),
-    /// An entry is started, and whether init waits for its end.
+    /// An entry that init starts, and whether init waits for it to end.
     Start(Id, Act, bool),
-    /// A heading: the critical path follows.
+    /// A heading for the critical path.
     CriticalPath,
-    /// An entry of the critical path, after the end of another one.
+    /// An entry of the critical path, and the entry whose end it waits for.
     OnPath(Id, Act, Option<Id>),
-    /// The level is reached, after the end of an entry.
+    /// The level that is reached, and the last entry whose end it waits for.
     Reached(Level, Option<Id>),
-    /// A heading: the times that the entries of the critical path took in a trace follow.
+    /// A heading for the times that the entries of the critical path took in a trace.
     PathTimes,
     /// The time that an entry of the critical path took.
     TimeTaken(Id, Act, TimeTaken),
-    /// The time that all of them took on the way to the level.
+    /// The total time of the critical path to the level.
     Whole(Level, u64),
     /// A message about the file with this name.
     File(Bytes, FileLine),
-    /// Something that happened at a time.
+    /// A message about a happening, with its time.
     Happened(u64, News),
     /// Rows of a timeline, in lines with this number of columns.
     Chart(u64, WhichRows, Timeline),

@@ -20,13 +20,13 @@ use inittab_text::{Fields, LineKind, PartFault, Table, TableFault, read_parts};
 use std::alloc::{AllocError, Global};
 use text_lines::{after_lines, cut, without_blanks};
 
-/// What was found in the files of an inittab.
+/// The overall result of checking the files of an inittab.
 #[derive(Clone, Copy, PartialEq, Eq)]
 pub enum Findings {
     Nothing,
-    /// Warnings, but no line that init ignores.
+    /// Some warnings, but no line that init ignores.
     Warnings,
-    /// A line that init ignores.
+    /// At least one line that init ignores.
     Faults,
 }
 
@@ -70,7 +70,7 @@ pub(crate) fn file_line(
     Ok(Line::File(name, told))
 }
 
-/// Adds a message about the first file, if `so` is set.
+/// Adds a message about the inittab, under the name of its first file, if `so` is true.
 pub(crate) fn add_note(
     lines: &mut Vec<Line>,
     alloc: Global,
@@ -106,7 +106,7 @@ fn line_at(number: u32, text: &[u8]) -> &[u8]
     }
 }
 
-/// Returns the id or the action of a line, if a check of it fails.
+/// Returns the id or the action of a line, if that field is faulty.
 fn field_in(kind: LineKind, line: &[u8]) -> &[u8]
     ensures { result.now ≡ field_in kind (fields_of line.now) }
 {
@@ -130,7 +130,7 @@ fn meant_for(kind: LineKind, field: &[u8]) -> Option<Act>
     }
 }
 
-/// Returns the message about an ignored line with this text.
+/// Returns the message about an ignored line, given the text of the line.
 fn told_of(
     alloc: Global,
     part: Option<&Part>,
@@ -178,8 +178,8 @@ struct Cursor<'a> {
     rest: &'a [u8],
 }
 
-/// Returns the position from which to walk to the line after `before` lines of a file: `from` if it is in this file and
-/// no later, otherwise the beginning of the file.
+/// Returns the nearest known position from which to reach the line after `before` lines of a file: `from`, if it is in
+/// this file and not too late, or else the beginning of the file.
 fn nearest<'a>(parts: &'a [Part], from: Cursor<'a>, part: usize, before: usize) -> Cursor<'a>
     ensures part { result.part ≡ part }
     ensures before { result.before ≤ before }
@@ -226,7 +226,7 @@ fn line_of<'a>(parts: &'a [Part], from: Cursor<'a>, fault: &PartFault) -> (&'a [
     }
 }
 
-/// Returns the messages about ignored lines, except those that begin without an id, and whether there are any of those.
+/// Returns the messages about the ignored lines that have an id, and whether any ignored line has none.
 fn fault_lines(
     alloc: Global,
     parts: &[Part],
@@ -287,7 +287,7 @@ fn any_starts(entries: &[Entry], level: Level) -> bool
     entries.iter().any(|entry| starts(entry, Stage::Run(level)))
 }
 
-/// Reports whether entries start in the default level.
+/// Reports whether any entry starts in the default level.
 fn serves(table: &Table) -> bool
     ensures { result ≡ serves table.now }
 {
@@ -297,7 +297,7 @@ fn serves(table: &Table) -> bool
     }
 }
 
-/// Returns what was found, given the faults and the warnings.
+/// Returns the overall result, given the faults and the warnings.
 fn found_by(faults: &[PartFault], warnings: &[LineWarning], serves: bool) -> Findings
     ensures { result ≡ found_by faults.now warnings.now serves }
 {
@@ -346,9 +346,9 @@ fn lint_table(
     Ok((lint_lines(alloc, parts, faults, &warnings, table)?, found))
 }
 
-/// Reads an inittab(5) of several files, as `read_parts` does, and returns the messages about it: first about the lines
-/// that init ignores, then the warnings, its own before those of the caller, and last that no entry starts in the
-/// default level. More than 256 files, or more than 1,048,576 bytes in total, are rejected.
+/// Reads an inittab(5) of several files, as `read_parts` does, and returns the messages about it: first the lines that
+/// init ignores, then the warnings of `inittab_lint`, then the given warnings, and last a message if no entry starts in
+/// the default level. Fails if there are more than 256 files, or more than 1,048,576 bytes in total.
 pub fn lint_parts(
     alloc: Global,
     parts: &[Part],

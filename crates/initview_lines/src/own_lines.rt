@@ -1,4 +1,4 @@
-//! The lines of an inittab's files that have an id.
+//! The lines of an inittab's files that have a given id.
 
 ghost use Rattle.std.specs.Prelude.{◌≡◌, ◌++◌, ◌↔◌, option_copied, IfOk, OnOk, IsErrOf};
 ghost use Rattle.text_lines.specs.Lines.{lines_of};
@@ -40,7 +40,7 @@ fn fault_at(faults: &[PartFault], part: usize, number: usize) -> Option<&PartFau
         .find(|fault| is_fault_at(part, number, *fault))
 }
 
-/// Returns the message about a line: why it is ignored, or the line itself.
+/// Returns the message about a line: the reason why init ignores it, or the line itself.
 fn line_told(
     alloc: Global,
     file: &Part,
@@ -126,7 +126,7 @@ fn add_files(
     Ok(())
 }
 
-/// Returns the messages about the id's lines, given the reader's faults.
+/// Returns the messages about the lines of the id, given the faults that the reader found.
 fn lines_by(
     alloc: Global,
     files: &[Part],
@@ -142,9 +142,9 @@ fn lines_by(
     Ok(lines)
 }
 
-/// Reads an inittab(5) of several files, as `read_parts` does, and returns a message about each line that has the id:
-/// why it is ignored, or the line itself if its entry is in the table. If no line has the id, a message says so. More
-/// than 256 files, or more than 1,048,576 bytes in total, are rejected.
+/// Reads an inittab(5) of several files, as `read_parts` does, and returns a message about each line that has the id: the
+/// reason why init ignores it, or the line itself if its entry is in the table. If no line has the id, the only message
+/// says so. Fails if there are more than 256 files, or more than 1,048,576 bytes in total.
 pub fn id_lines(alloc: Global, files: &[Part], id: &Id) -> Result<Vec<Line>, TableFault>
     ensures told { IfOk result (λ lines. lines.items ≡ id_lines id.now files.now) }
     ensures parts { IsErrOf result TableFault.Parts ↔ AreTooMany (texts_of files.now) }

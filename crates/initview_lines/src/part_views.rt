@@ -1,5 +1,5 @@
-//! The news in a text that begins in the middle of a run: what each of its happenings says by itself. Nothing before
-//! the text is known, so nothing is judged.
+//! The messages for a text that begins in the middle of a run. Each depends only on one happening, and no law is
+//! checked, because the earlier part of the run is unknown.
 
 ghost use Rattle.std.specs.Prelude.{◌≡◌, ◌^◌, ◌<◌, ◌∷◌, ◌++◌, [], List, ℕ, length, true, option_map, IfOk, OnOk};
 ghost use Rattle.initview_lines.specs.CommonWords.{Event, time_of, line_left, capped, left_of};
@@ -18,10 +18,10 @@ use trace_text::ReadFault;
 use trace_verdict::TextReader;
 use trace_view::ViewEnd;
 
-/// A text that begins in the middle of a run and comes in pieces, cut anywhere, up to the first line that begins no
-/// happening.
+/// A view of a text that begins in the middle of a run and arrives in pieces of any length. The view ends at the first
+/// line at which no happening begins.
 ///
-/// Contracts refer to the texts that it has taken (`HasTold`).
+/// Contracts describe it by the text that it has taken (`HasTold`).
 #[derive(Drop)]
 pub struct PartView {
     reader: TextReader<Global>,
@@ -48,7 +48,7 @@ fn time_after(time: u64, happening: &HappeningIn<Global>) -> u64
     }
 }
 
-/// Adds the news in a happening by itself.
+/// Adds the message for a single happening, if it has one.
 fn add_alone(
     lines: &mut Vec<Line>,
     time: u64,
@@ -64,7 +64,7 @@ fn add_alone(
 }
 
 impl PartView {
-    /// Creates a view that has taken nothing. It allocates no memory.
+    /// Creates a view that has taken no text. This does not allocate.
     pub fn new(alloc: Global) -> PartView
         ensures { HasTold result [] [] }
     {
@@ -75,7 +75,7 @@ impl PartView {
         }
     }
 
-    /// Adds the line for the next happening, if that is complete.
+    /// Adds the line for the next happening, if the happening is complete.
     fn tell_next(&mut self, lines: &mut Vec<Line>) -> Result<bool, Memory>
         ensures goes { IfOk result (λ more. (past_lines : List Line) (text : List ℕ)
             → length text < 2 ^ 64 → TellsOn more self.old (past_lines ++ lines.old.items)
@@ -114,8 +114,8 @@ impl PartView {
         Ok(())
     }
 
-    /// Takes the next piece of the text, cut anywhere, and adds the lines for all complete happenings. The view can't
-    /// be used any more if memory runs out.
+    /// Takes the next piece of the text, and adds the lines for all complete happenings. If memory runs out, the view must
+    /// not be used any more.
     pub fn take(&mut self, piece: &[u8], lines: &mut Vec<Line>) -> Result<(), Memory>
         ensures { OnOk result ((past_lines : List Line) (text : List ℕ)
             → length (text ++ piece.now) < 2 ^ 64
@@ -127,7 +127,7 @@ impl PartView {
         Ok(())
     }
 
-    /// Returns the number of the line, counted from 1, at which the last happening begins, if that is incomplete.
+    /// Returns the number of the line, counted from 1, at which an incomplete happening begins, if there is one.
     fn open_line(&self) -> Option<u64>
         ensures { result ≡ left_of self.now.stop
             (option_map capped (line_left self.now.reading.lines self.now.reading.over)) }
@@ -138,8 +138,8 @@ impl PartView {
         }
     }
 
-    /// Returns why the view goes no further, and the number of the line, counted from 1, at which the last happening
-    /// begins, if that is incomplete.
+    /// Returns the reason why the view ended, if it did, and the number of the line, counted from 1, at which an
+    /// incomplete happening begins, if there is one.
     pub fn end(&self) -> (Option<ViewEnd>, Option<u64>)
         ensures { (past_lines : List Line) (text : List ℕ) → length text < 2 ^ 64
             → HasTold self.now past_lines text → IsToldOf text result.0 result.1 past_lines }

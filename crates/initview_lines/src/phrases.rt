@@ -28,7 +28,7 @@ pub(crate) enum Value<'a> {
     Stage(Option<Stage>),
     Status(Option<Status>),
     Wish(Wish),
-    /// A reading of the clock, for people.
+    /// A reading of the clock, in a form for people.
     Clock(Zone<'a>, u64),
     /// A reading of the clock in the format of RFC 3339, in UTC.
     Time(u64),

@@ -1,4 +1,4 @@
-//! The lines for a text that comes in pieces.
+//! The lines for a text that arrives in pieces.
 
 ghost use Rattle.std.specs.Prelude.{◌≡◌, ◌^◌, ◌<◌, List, ℕ, ◌++◌, length, true, IfOk, OnOk};
 ghost use Rattle.initview_lines.specs.Following.{HasFollowedText, FollowsText};
@@ -9,7 +9,7 @@ use crate::lines::Line;
 use init_words::Memory;
 use trace_view::TextView;
 
-/// Adds the line for the next happening, if that is complete.
+/// Adds the line for the next happening, if the happening is complete.
 fn next_line(view: &mut TextView, lines: &mut Vec<Line>) -> Result<bool, Memory>
     ensures goes { IfOk result
         (λ more. (past_lines : List Line) (text : List ℕ) → length text < 2 ^ 64
@@ -27,8 +27,8 @@ fn next_line(view: &mut TextView, lines: &mut Vec<Line>) -> Result<bool, Memory>
     }
 }
 
-/// Shows a view the next piece of its text, cut anywhere, and adds the lines for all complete happenings. The view
-/// can't be used any more if memory runs out.
+/// Passes the next piece of the text to a view, and adds the lines for all complete happenings. If memory runs out, the
+/// view must not be used any more.
 pub fn take_lines(view: &mut TextView, piece: &[u8], lines: &mut Vec<Line>) -> Result<(), Memory>
     ensures { OnOk result
         ((past_lines : List Line) (text : List ℕ) → length (text ++ piece.now) < 2 ^ 64

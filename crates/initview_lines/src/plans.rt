@@ -1,4 +1,4 @@
-//! The entries that init starts by itself, that is, without a call, on its way to a level; and the critical path.
+//! The entries that init starts on its way to a level without any request, and the critical path.
 
 ghost use Rattle.std.specs.Prelude.{◌≡◌, ◌++◌, None, filter, map, IfOk, OnOk};
 ghost use Rattle.initview_lines.specs.CommonWords.{is_on_path, path_along, started_in, stages_to};
@@ -38,7 +38,7 @@ fn starts(alloc: Global, stage: Stage, entries: &[Entry]) -> Result<Vec<Line>, A
         .collect(alloc)
 }
 
-/// Adds stages, each followed by the entries that it starts by itself.
+/// Adds stages, each followed by the entries that init starts in it.
 fn add_stages(
     lines: &mut Vec<Line>,
     alloc: Global,
@@ -126,9 +126,9 @@ fn add_critical_path(lines: &mut Vec<Line>, level: Level, path: &[Waited]) -> Re
     Ok(())
 }
 
-/// Returns the entries that init starts by itself on its way to a level: each stage, followed by its entries in the
-/// order of their starts, with whether init waits for their end before it continues. Then comes the critical path: the
-/// entries whose ends the way to the level depends on, each with the one that it waits for.
+/// Returns the entries that init starts on its way to a level without any request: each stage, followed by its entries in
+/// the order of their starts, and whether init waits for each to end before it continues. Then comes the critical path:
+/// the entries that must end before the level is reached, each with the one that it waits for.
 pub fn plan_lines(alloc: Global, level: Level, table: &Table) -> Result<Vec<Line>, AllocError>
     ensures { IfOk result (λ lines. lines.items ≡ plan_in level table.now) }
 {

@@ -1,4 +1,4 @@
-//! Why an id is not started next, and what to do.
+//! The reason why an id is not started next, and advice about it.
 
 ghost use Rattle.std.specs.Prelude.{◌≡◌, List, IfOk};
 ghost use Rattle.initview_lines.specs.CommonWords.{Event, Lined, Viewed};
@@ -11,7 +11,7 @@ use init_words::Id;
 use std::alloc::{AllocError, Global};
 use trace_view::{LastLines, TraceView, Why};
 
-/// An id that is not started next, with the line of the trace that causes it, if there is one.
+/// An id that is not started next, with the line of the trace that explains why, if there is one.
 #[derive(Clone, Copy)]
 struct Link {
     id: Id,
@@ -25,8 +25,8 @@ pub struct Chain {
     root: Link,
 }
 
-/// Returns the id that is the root cause: the one that init waits for, which itself waits for none before it; otherwise
-/// the id itself.
+/// Returns the id that is the root cause: the entry that init waits for, if there is one, otherwise the id itself. The
+/// awaited entry does not wait for any other entry.
 fn root_of(id: Id, why: Why) -> Id
     ensures { result ≡ root_of id why }
 {
@@ -37,8 +37,7 @@ fn root_of(id: Id, why: Why) -> Id
     }
 }
 
-/// Returns the id whose child is stopped before an id is started: the one that has to end first; otherwise the id
-/// itself.
+/// Returns the id whose child must end before init can start this one, if that is the reason; otherwise the id itself.
 fn stopped_of(id: Id, why: Why) -> Id
     ensures { result ≡ stopped_of id why }
 {
@@ -48,7 +47,7 @@ fn stopped_of(id: Id, why: Why) -> Id
     }
 }
 
-/// Returns the line that causes the reason, if the reason still holds.
+/// Returns the line that explains the reason, if there still is a reason.
 fn fault_line(why: Why, line: Option<u64>) -> Option<u64>
     ensures { result ≡ fault_line why line }
 {
@@ -79,7 +78,7 @@ pub fn chain_of(view: &TraceView, lines: &LastLines, id: Id) -> Chain
     }
 }
 
-/// Returns why an id is not started next, the same for the root cause, and what to do. The line numbers are those of
+/// Returns the reason why an id is not started next, the reason for its root cause, and advice. The line numbers refer to
 /// the trace with this name.
 pub fn why_lines(
     alloc: Global,

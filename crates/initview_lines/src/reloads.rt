@@ -1,4 +1,4 @@
-//! What happens to each id if init, in the state at the end of a trace, reads another inittab now.
+//! The change to each id if init reads another inittab in the state at the end of a trace.
 
 ghost use Rattle.std.specs.Prelude.{◌≡◌, ◌++◌, ℕ, IsTrue, List, Option, Some, false, filter, map, option_copied, option_map, IfOk, OnOk};
 ghost use Rattle.initview_lines.specs.CommonWords.{Entry, Event, is_quiet, stage_of, table_of, Level, Stage, entry_of, Viewed, next_stage};
@@ -16,9 +16,8 @@ use inittab_text::Table;
 use std::alloc::{AllocError, Global};
 use trace_view::TraceView;
 
-/// States that if init reads another inittab in a stage, at a moment at which no start and no signal is open, the stage
-/// that its next step enters is the one for which the changes are shown. The function does nothing; its contract is the
-/// law.
+/// States that if init reads another inittab in a stage, at a moment at which no start and no signal is open, its next
+/// step enters the stage for which the changes are shown. The function does nothing; its contract states the law.
 pub fn law_of_reloads()
     ensures { (goal : Goal) (table : List Entry) (level : Option Level) (past : List Event)
         (now : Stage) (next : Stage) (seconds : ℕ)
@@ -27,7 +26,7 @@ pub fn law_of_reloads()
         → first (due goal (read_again table level past)) ≡ step.Enter next seconds }
 {}
 
-/// Returns what happens to an entry without a child, given whether it starts in the stage and is wanted.
+/// Returns the change to an entry without a child, given whether it starts in the stage and whether it is wanted.
 fn idle_by(act: Act, starts: bool, wanted: bool) -> Change
     ensures { result ≡ idle_by act starts wanted }
 {
@@ -49,7 +48,7 @@ fn idle_entry(view: &TraceView, entry: &Entry) -> Change
     idle_by(entry.act, view.starts(entry), view.is_wanted(entry))
 }
 
-/// Returns what happens to an id without a child.
+/// Returns the change to an id without a child.
 fn idle_change(view: &TraceView, id: &Id) -> Change
     ensures { (past : List Event) → Viewed view.now past → result ≡ idle_change past id.now }
 {
@@ -100,7 +99,7 @@ fn act_in(entry: Option<&Entry>) -> Option<Act>
     }
 }
 
-/// Returns what happens to an id, with the number of its child.
+/// Returns the line with the change to an id and the number of its child.
 fn line_now(old: &Table, view: &TraceView, id: &Id) -> Line
     ensures { (past : List Event) → Viewed view.now past → result ≡ line_now old.now past id.now }
 {
@@ -167,9 +166,9 @@ fn add_left(
     Ok(())
 }
 
-/// Returns what happens to each id, given the view of a trace after which init read another inittab in place of the old
-/// one: the stage in force, each entry of the new inittab in order, each entry of the old one that the new one lacks,
-/// and each child that has an entry in neither. A line has the number of the child that is stopped or kept.
+/// Returns the change to each id, given the view of a trace after which init read another inittab in place of the old
+/// one: a line for the stage in force, for each entry of the new inittab in order, for each entry of the old one that
+/// the new one lacks, and for each child that has an entry in neither. A line has the number of the id's child, if any.
 pub fn reload_lines(alloc: Global, old: &Table, view: &TraceView) -> Result<Vec<Line>, AllocError>
     ensures { IfOk result (λ lines. (past : List Event) → Viewed view.now past
         → lines.items ≡ reload_in old.now past) }

@@ -10,7 +10,7 @@ use respawn_limit::HOLD;
 use std::alloc::{AllocError, Global};
 use trace_view::{Births, Ending, Row, TraceView, Why};
 
-/// Returns the states of init, of each entry in the order of the table, and of each id whose child outlives its entry.
+/// Returns the states of init, of each entry in table order, and of each id that has a child but no entry any more.
 pub fn status_lines(
     alloc: Global,
     view: &TraceView,
@@ -102,7 +102,7 @@ fn runs_at(now: u64, births: Option<Births>) -> Option<u64>
     }
 }
 
-/// Returns the progress of stopping a child, given when init was told that SIGTERM was sent.
+/// Returns the progress of stopping a child, given the time at which init learned that SIGTERM was sent.
 fn stopping_at(now: u64, grace: u64, told: Option<u64>) -> Option<Stopping>
     ensures { result ≡ stopping_at now grace told }
 {

@@ -45,7 +45,7 @@ fn look_of(what: Drawn) -> &'static [u8] {
     }
 }
 
-/// Adds what a piece is, after its times.
+/// Adds the description of a piece, which follows its times.
 fn add_said(text: &mut Vec<u8>, what: Drawn) -> Result<(), AllocError> {
     match what {
         Drawn::Stage(_) | Drawn::Name(_, _) => put(text, b"entered"),
@@ -62,7 +62,7 @@ fn add_said(text: &mut Vec<u8>, what: Drawn) -> Result<(), AllocError> {
     }
 }
 
-/// Adds what a piece belongs to: a stage, an id, or a child of it.
+/// Adds the subject of a piece: a stage, an id, or a child of the id.
 fn add_whose(text: &mut Vec<u8>, id: &[u8], what: Drawn) -> Result<(), AllocError> {
     match what {
         Drawn::Stage(stage) | Drawn::Settled(stage) | Drawn::Name(stage, _) => {
@@ -103,8 +103,7 @@ fn add_name(text: &mut Vec<u8>, room: u64, stage: Stage) -> Result<(), AllocErro
     }
 }
 
-/// Adds bars, each from its start and as wide as its duration, and marks, each at its position, and the names of
-/// stages.
+/// Adds bars, whose width shows their duration, marks, each at its position, and the names of stages.
 fn add_pieces(
     text: &mut Vec<u8>,
     zone: Zone,
@@ -131,7 +130,7 @@ fn add_pieces(
     Ok(())
 }
 
-/// Adds a time of the axis, above or below the rows, and below it the seconds since the first time, or the day.
+/// Adds a time of the axis, above or below the rows, with the seconds since the first time, or the day, under it.
 fn add_axis_time(
     text: &mut Vec<u8>,
     zone: Zone,
@@ -151,7 +150,7 @@ fn add_axis_time(
     put(text, b"</text>")
 }
 
-/// Returns the seconds between two ticks. They are whole days if hours would be too many.
+/// Returns the seconds between two ticks. For long spans, it is a whole number of days.
 fn step_of(span: u64) -> u64 {
     for step in STEPS {
         if span < step.saturating_mul(TICKS) {
@@ -161,8 +160,8 @@ fn step_of(span: u64) -> u64 {
     (span / (TICKS * DAY) + 1).saturating_mul(DAY)
 }
 
-/// Returns the time of a tick. If less than an hour is shown, ticks are counted from the first time, otherwise they are
-/// at whole steps of the day.
+/// Returns the time of a tick. If the drawing shows less than an hour, ticks are counted from the first time; otherwise
+/// they are at multiples of the step within the day.
 fn tick_time(zone: Zone, frame: Frame, number: u64) -> u64 {
     let step = step_of(frame.span());
     let shown = local_seconds(zone, frame.start);
@@ -258,10 +257,10 @@ fn drawn(which: WhichRows, rows: &[Row]) -> usize {
 }
 
 /// Adds rows of a timeline as an SVG document: its times, the state at the end and the legend; an axis with the times
-/// of day above the rows and below them; a row for the stages, and one for each id, with its state at the end and its
-/// number of faults. Faults are highlighted, and each shape has a tooltip that says what it is. The document is 1,130
-/// wide, and its rows are 22 high, or 12 if there are more than 60. A browser shows it by itself, on a light or a dark
-/// background.
+/// of day above and below the rows; a row for the stages, and one for each id, with its state at the end and its number
+/// of faults. Faults are highlighted, and each shape has a tooltip that describes it. The document is 1,130 wide, and its
+/// rows are 22 high, or 12 if there are more than 60. It is self-contained, and has colors for light and dark
+/// backgrounds.
 pub(crate) fn add_svg(
     text: &mut Vec<u8>,
     zone: Zone,

@@ -20,14 +20,14 @@ impl Model for Bytes {
 }
 
 impl Bytes {
-    /// Takes over an existing text.
+    /// Creates a byte string from an existing text, without copying it.
     pub fn of(text: Vec<u8>) -> Bytes
         ensures { result ≡ text.items }
     {
         Bytes { text }
     }
 
-    /// Copies a text.
+    /// Creates a byte string with a copy of a text.
     pub fn copy_of(alloc: Global, text: &[u8]) -> Result<Bytes, AllocError>
         ensures { IfOk result (λ bytes. bytes ≡ text.now) }
     {

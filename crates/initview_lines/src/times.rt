@@ -1,4 +1,4 @@
-//! How long the entries that init waits for on its way to a level took in a trace.
+//! The times that the entries of the critical path to a level took in a trace.
 
 ghost use Rattle.std.specs.Prelude.{◌≡◌, ◌∷◌, ◌++◌, [], map, IfOk, OnOk};
 ghost use Rattle.initview_lines.specs.Times.{end_took, first_of, longest_of, seconds_of, seconds_to, sum_of, time_line, timed_of, times_by, times_in, took_of};
@@ -11,13 +11,13 @@ use initview_timeline::{Life, TimelineMark, lives_of, marks_for};
 use std::alloc::{AllocError, Global};
 use trace_view::Ending;
 
-/// How long an entry whose end init waits for took, from its first birth to its end, in seconds.
+/// The time that an entry of the critical path took, from its first birth to its end, in seconds.
 #[derive(Clone, Copy)]
 pub enum TimeTaken {
     NotStarted,
     RunsStill,
     Seconds(u64),
-    /// The same, and no entry of the path took longer.
+    /// The time in seconds, if no entry of the path took longer.
     Longest(u64),
 }
 
@@ -164,8 +164,8 @@ fn add_times(
     Ok(())
 }
 
-/// Adds how long each entry whose end init waits for on its way to a level took, given the marks of a trace, the oldest
-/// first: the seconds from its first birth to its end. The longest times are marked, and the last line has their sum.
+/// Adds the time that each entry of the critical path to a level took, given the marks of a trace, oldest first: the
+/// seconds from its first birth to its end. The longest times are marked, and the last line has the sum of all.
 pub fn add_path_times(
     lines: &mut Vec<Line>,
     alloc: Global,

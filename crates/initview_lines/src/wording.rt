@@ -1,4 +1,4 @@
-//! The wording of lines. It is tested by `tools/rows/initview`, and no contract mentions it.
+//! The wording of lines. `tools/rows/initview` tests it; no contract mentions it.
 
 use crate::changes::Change;
 use crate::chart::add_chart;
@@ -141,7 +141,7 @@ fn add_took(text: &mut Vec<u8>, id: &Id, act: Act, took: TimeTaken) -> Result<()
     }
 }
 
-/// Returns the word of an action, or a dash.
+/// Returns the name of an action, or a dash.
 fn act_words(act: Option<Act>) -> &'static [u8] {
     match act {
         Some(act) => act.word(),
@@ -260,7 +260,7 @@ fn add_waits(text: &mut Vec<u8>, at: &IdRow) -> Result<(), AllocError> {
     add_last(text, at)
 }
 
-/// Adds what is waited for.
+/// Adds the cause for which the id waits.
 fn add_waited(text: &mut Vec<u8>, at: &IdRow) -> Result<(), AllocError> {
     match at.row.why {
         Why::EarlierOwed(id) | Why::StageOwed(id) => { fill(text, b"for @; ", &[Value::Id(id)]) }
@@ -275,7 +275,7 @@ fn add_waited(text: &mut Vec<u8>, at: &IdRow) -> Result<(), AllocError> {
     }
 }
 
-/// Adds how an id last ended, and how long ago.
+/// Adds the last end of an id, and the time since then.
 fn add_last(text: &mut Vec<u8>, at: &IdRow) -> Result<(), AllocError> {
     match (at.ended, at.row.last) {
         (Some(seconds), Some(ending)) => fill(
@@ -375,7 +375,7 @@ fn add_why(text: &mut Vec<u8>, reason: &Reason) -> Result<(), AllocError> {
     }
 }
 
-/// Adds the state of a kept child: it runs, or its end was not told yet.
+/// Adds the state of a kept child: it is running, or init has not learned of its end yet.
 fn add_kept(text: &mut Vec<u8>, at: &IdRow, number: ChildNumber) -> Result<(), AllocError> {
     let number = [Value::Pid(number.0)];
     if at.row.child.is_none() {
@@ -398,7 +398,7 @@ fn order_words(ask: OrderKind) -> &'static [u8] {
     }
 }
 
-/// Returns what to do.
+/// Returns the advice for a reason.
 fn advice_of(stage: Option<Stage>, act: Option<Act>, why: Why) -> &'static [u8] {
     match why {
         Why::NoEntry => b"add its line to the inittab, or correct it, and run telinit q",
@@ -419,7 +419,7 @@ fn advice_of(stage: Option<Stage>, act: Option<Act>, why: Why) -> &'static [u8] 
     }
 }
 
-/// Returns what to do about an entry of another stage. If its action ignores levels, going to another level starts it.
+/// Returns the advice about an entry of another stage. If its action ignores levels, a change of level starts it.
 fn other_advice(stage: Option<Stage>, act: Option<Act>) -> &'static [u8] {
     match (stage, act) {
         (Some(Stage::Run(_)), Some(act)) if act.ignores_levels() => b"go to another level",
@@ -430,7 +430,7 @@ fn other_advice(stage: Option<Stage>, act: Option<Act>) -> &'static [u8] {
     }
 }
 
-/// Returns what to do about a running child, for which init may wait.
+/// Returns the advice about a running child, which init may be waiting for.
 fn kept_advice(act: Option<Act>) -> &'static [u8] {
     match act {
         Some(act) if act.is_waited() => b"wait until it exits, or kill it",
@@ -442,7 +442,7 @@ fn call_advice() -> &'static [u8] {
     b"start it with telinit a, b or c, or with telinit --power, depending on its action"
 }
 
-/// Returns what to do about an entry that was started, by itself or by a call.
+/// Returns the advice about an entry that was already started, with or without a call.
 fn again_advice(act: Option<Act>) -> &'static [u8] {
     match act {
         Some(act) if !act.is_wanted(true, true, false) => call_advice(),
@@ -486,7 +486,7 @@ fn add_start(text: &mut Vec<u8>, id: &Id, act: Act, waits: bool) -> Result<(), A
     }
 }
 
-/// Returns the id whose end is waited for.
+/// Returns the id of the entry whose end the next one waits for, if any.
 fn id_or_nothing(before: &Option<Id>) -> Value<'_> {
     match before {
         Some(id) => Value::Id(*id),
@@ -592,7 +592,7 @@ fn signal_word(order: Option<OrderKind>) -> &'static [u8] {
     }
 }
 
-/// Adds what happened to a signal for the child of an id.
+/// Adds whether a signal was sent to the child of an id.
 fn add_signal(
     text: &mut Vec<u8>,
     phrase: &[u8],

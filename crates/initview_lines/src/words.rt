@@ -36,7 +36,7 @@ fn hex_digit(number: u8) -> u8 {
     zero.saturating_add(number)
 }
 
-/// Adds a text, with control characters as `\xNN`.
+/// Adds a text, with control characters escaped as `\xNN`.
 pub(crate) fn add_shown(text: &mut Vec<u8>, bytes: &[u8]) -> Result<(), AllocError> {
     for byte in bytes {
         if *byte >= 32 && *byte != 127 {
@@ -65,7 +65,7 @@ pub(crate) fn add_stage(text: &mut Vec<u8>, stage: Option<Stage>) -> Result<(), 
     }
 }
 
-/// Adds the words for how an id ended.
+/// Adds the words for the end of an id, given the exit status.
 pub(crate) fn add_status(text: &mut Vec<u8>, status: Option<Status>) -> Result<(), AllocError> {
     match status {
         None => put(text, b"its start failed"),

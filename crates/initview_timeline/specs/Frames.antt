@@ -3,11 +3,11 @@ use Rattle.std.specs.Prelude.{ℕ, ◌+◌, ◌-◌, ◌*◌, ◌/◌, ◌^◌, 
 use Rattle.initview_timeline.specs.declared.frames.Frame.{Frame}
 use Rattle.initview_timeline.specs.declared.frames.TheConstants.{BAR_LEAST}
 
--- a sum, at most 2^64 - 1
+-- the sum, or 2^64 - 1 if it is greater
 abbrev pub plus : ℕ → ℕ → ℕ
 plus a b = min (a + b) (2 ^ 64 - 1)
 
--- a product, at most 2^64 - 1
+-- the product, or 2^64 - 1 if it is greater
 abbrev pub times : ℕ → ℕ → ℕ
 times a b = min (a * b) (2 ^ 64 - 1)
 
@@ -15,15 +15,15 @@ times a b = min (a * b) (2 ^ 64 - 1)
 abbrev pub scaled : ℕ → ℕ → ℕ → ℕ
 scaled part whole many = if whole == 0 then 0 else times part many / whole
 
--- the duration that is drawn, in seconds
+-- the duration of the drawing, in seconds
 abbrev pub span_of : Frame → ℕ
 span_of f = f.end - f.start
 
--- the position of a time: that of the first time is 0, that of the last time is the last position, and none is greater
+-- the position of a time: 0 for the first time, the last position for the last time, and never greater
 abbrev pub place_of : Frame → ℕ → ℕ
 place_of f time = min (scaled (time - f.start) (span_of f) f.last) f.last
 
--- the width of a bar: it reaches from the position of a time to that of a later one, and is wide enough to be visible
+-- the width of a bar between two times: the distance of their positions, but enough to be visible
 abbrev pub width_of : Frame → ℕ → ℕ → ℕ
 width_of f from to = max (place_of f to - place_of f from) BAR_LEAST
 

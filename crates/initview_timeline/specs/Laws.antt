@@ -14,23 +14,23 @@ use Rattle.initview_timeline.specs.Rows.{Scene}
 abbrev pub id_marks : Scene → List ℕ → List TimelineMark
 id_marks s id = marks_for (Some id) s.marks
 
--- the child of a birth, and when it was born
+-- the number of the child and the time, if the event is a birth
 abbrev pub birth_at : ℕ → Shown → List (ℕ × ℕ)
 birth_at time (Born id number) = (number, time) ∷ []
 birth_at time _ = []
 
--- the births among marks
+-- the births among the marks
 abbrev pub births : List TimelineMark → List (ℕ × ℕ)
 births [] = []
 births (mark ∷ marks) = birth_at mark.time mark.what ++ births marks
 
--- the child of the bar of a life, and the time from which it is drawn
+-- the number of the child and the time at which the bar begins, if the bar is that of a life
 abbrev pub life_from : ℕ → Drawn → List (ℕ × ℕ)
 life_from from (Waited l) = (l.number, from) ∷ []
 life_from from (Lives l) = (l.number, from) ∷ []
 life_from from _ = []
 
--- the lives among bars
+-- the lives among the bars
 abbrev pub lives_drawn : List Piece → List (ℕ × ℕ)
 lives_drawn [] = []
 lives_drawn (p ∷ ps) = life_from p.from p.what ++ lives_drawn ps

@@ -1,4 +1,4 @@
--- What a timeline knows about an id: the lives of its children, and everything else that happened to it.
+-- The data of a timeline about an id: the lifetimes of its children, and the other marks of the id.
 use Rattle.std.specs.Prelude.{ℕ, Bool, true, false, filter, if◌then◌else◌, List, [], ◌∷◌, ◌++◌, Option, Some, None}
 use Rattle.std.specs.List.{list_any}
 use Rattle.std.specs.Option.{option_or}
@@ -10,7 +10,7 @@ use Rattle.initview_timeline.specs.declared.marks.Shown.TheVariants.{Held}
 use Rattle.initview_timeline.specs.declared.marks.TimelineMark.{TimelineMark}
 use Rattle.initview_timeline.specs.declared.lives.Life.{Life}
 
--- the id that this happened to; none for a table or a stage
+-- the id that the event is about; none for a table or a stage
 abbrev pub id_of : Shown → Option (List ℕ)
 id_of Read = None
 id_of (Entered stage) = None
@@ -21,23 +21,23 @@ id_of (Ended id number status) = Some id
 id_of (Sent id signal) = Some id
 id_of (Held id) = Some id
 
--- the same id; or none in both cases, which is the row of the stages
+-- both are the same id, or both are none, which stands for the row of the stages
 abbrev pub same_row : Option (List ℕ) → Option (List ℕ) → Bool
 same_row None None = true
 same_row (Some id) (Some other) = same_id id other
 same_row _ _ = false
 
--- the ids with one more, if it is not among them
+-- the ids, followed by the given one if it is not among them
 abbrev pub with_id : List (List ℕ) → Option (List ℕ) → List (List ℕ)
 with_id found None = found
 with_id found (Some id) = if list_any (same_id id) found then found else found ++ id ∷ []
 
--- the ids to which something happened, each once, in that order
+-- the ids, followed by the new ids of the marks, each once, in order
 abbrev pub ids_from : List (List ℕ) → List TimelineMark → List (List ℕ)
 ids_from found [] = found
 ids_from found (mark ∷ marks) = ids_from (with_id found (id_of mark.what)) marks
 
--- the mark belongs to the row of an id or, without one, of the stages
+-- the event belongs to the row of the id, or without an id, to the row of the stages
 abbrev pub is_for : Option (List ℕ) → Shown → Bool
 is_for id what = same_row id (id_of what)
 
@@ -45,7 +45,7 @@ is_for id what = same_row id (id_of what)
 abbrev pub marks_for : Option (List ℕ) → List TimelineMark → List TimelineMark
 marks_for id marks = filter (λ (mark : TimelineMark). is_for id mark.what) marks
 
--- A life after a mark of its id: the first SIGTERM and the end are recorded.
+-- a life after a mark of its id, which may record the first SIGTERM or the end
 abbrev pub life_after : Life → ℕ → Shown → Life
 life_after l time (Sent id sig.Term) =
     record { number = l.number; from = l.from; term = option_or l.term (Some time); end = l.end }
@@ -64,8 +64,8 @@ last_after [] time what = []
 last_after (l ∷ []) time what = life_after l time what ∷ []
 last_after (l ∷ m ∷ ls) time what = l ∷ last_after (m ∷ ls) time what
 
--- The lives after a mark of their id: a birth begins a life, and everything else belongs to the last life, because no
--- id has two unreaped children.
+-- The lives after a mark of their id: a birth begins a life, and any other mark changes the last life, because no id has
+-- two unreaped children.
 abbrev pub lives_after : List Life → ℕ → Shown → List Life
 lives_after ls time (Born id number) = ls ++ record { number = number; from = time; term = None; end = None } ∷ []
 lives_after ls time what = last_after ls time what
@@ -74,6 +74,6 @@ abbrev pub lives_from : List Life → List TimelineMark → List Life
 lives_from ls [] = ls
 lives_from ls (mark ∷ marks) = lives_from (lives_after ls mark.time mark.what) marks
 
--- the lives of an id's children, the oldest first
+-- the lives of the children of an id, oldest first, given the marks of the id
 abbrev pub lives_of : List TimelineMark → List Life
 lives_of marks = lives_from [] marks

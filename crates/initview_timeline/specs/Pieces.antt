@@ -1,5 +1,5 @@
--- The pieces of a row of a timeline: bars, and signs on top of them. Each life has one bar, Lives or Waited, in order,
--- and no other definition makes such a bar.
+-- The pieces of a row of a timeline: bars, and signs on top of them. Each life has exactly one bar of the kind Lives or
+-- Waited, in order.
 use Rattle.std.specs.Prelude.{ℕ, min, Bool, true, false, ◌&&◌, ◌==◌, not, if◌then◌else◌, List, [], ◌∷◌, ◌++◌, Option}
 use Rattle.std.specs.Prelude.{Some, None}
 use Rattle.std.specs.List.{flat_map}
@@ -34,7 +34,7 @@ abbrev pub or_last : ℕ → Option Ending → ℕ
 or_last last None = last
 or_last last (Some ending) = ending.time
 
--- exit status 0
+-- the exit status is 0
 abbrev pub is_done : Option Status → Bool
 is_done (Some (Exit code)) = code == 0
 is_done _ = false
@@ -44,11 +44,11 @@ abbrev pub ended_ill : Option ℕ → Option Ending → Bool
 ended_ill term None = false
 ended_ill term (Some ending) = is_none term && not (is_done ending.status)
 
--- a life failed: it ended without being asked to, and not with exit status 0
+-- a life failed: the child ended without being sent SIGTERM, and not with exit status 0
 abbrev pub has_failed : Life → Bool
 has_failed l = ended_ill l.term l.end
 
--- the bar of a life depends on whether init waits for its end
+-- the kind of bar for a life, which depends on whether init waits for the child to end
 abbrev pub lived : Bool → Life → Drawn
 lived waited l = if waited then drawn.Waited l else drawn.Lives l
 
@@ -85,13 +85,13 @@ begins id (Entered stage) = true
 begins id Read = is_some id
 begins id what = is_start id what
 
--- the time of the first such mark, or the last time
+-- the time of the first mark for which `begins` holds, or the last time
 abbrev pub next_begin : ℕ → Option (List ℕ) → List TimelineMark → ℕ
 next_begin last id [] = last
 next_begin last id (mark ∷ later) = if begins id mark.what then mark.time else next_begin last id later
 
--- the bar for a mark: a stage, and that it is settled, last until the next one begins; a hold lasts for five minutes,
--- or until it is ended
+-- the bar for a mark: a stage and a settled stage last until the next stage begins; a hold lasts for five minutes, or
+-- until a stage, a table or a start ends it
 abbrev pub mark_bars : ℕ → ℕ → Shown → List Piece
 mark_bars next time (Entered stage) = piece (drawn.Stage stage) time next
 mark_bars next time (Settled level) = piece (drawn.Settled (Run level)) time next

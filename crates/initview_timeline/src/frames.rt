@@ -6,7 +6,7 @@ ghost use Rattle.initview_timeline.specs.Frames.{left_of, place_of, scaled, span
 /// The minimum width of a bar, so that it is visible.
 pub const BAR_LEAST: u64 = 2;
 
-/// The first and the last time of a drawing, in seconds, and the number of its last position. The first position is 0.
+/// The first and last time of a drawing, in seconds, and its last position. The first position is 0.
 #[derive(Clone, Copy)]
 pub struct Frame {
     pub start: u64,
@@ -14,7 +14,7 @@ pub struct Frame {
     pub last: u64,
 }
 
-/// Scales a part of a whole to `many` positions, rounded down.
+/// Returns `part` of `whole` scaled to `many` positions, rounded down.
 fn scaled(part: u64, whole: u64, many: u64) -> u64
     ensures { result ≡ scaled part whole many }
 {
@@ -26,14 +26,14 @@ fn scaled(part: u64, whole: u64, many: u64) -> u64
 }
 
 impl Frame {
-    /// Returns the duration that is drawn, in seconds.
+    /// Returns the duration of the drawing, in seconds.
     pub fn span(self) -> u64
         ensures { result ≡ span_of self }
     {
         self.end.saturating_sub(self.start)
     }
 
-    /// Returns the position of a time, from 0 to the last one.
+    /// Returns the position of a time, from 0 to the last position.
     pub fn position(self, time: u64) -> u64
         ensures { result ≡ place_of self time }
     {

@@ -9,20 +9,19 @@ ghost use Rattle.initview_timeline.specs.Lives.{lives_of};
 ghost use Rattle.initview_timeline.specs.Pieces.{has_failed};
 ghost use Rattle.initview_timeline.specs.Rows.{Scene, row_of};
 
-/// States what a row shows, for every scene and id. The function does nothing; its contract is the law.
+/// States the properties of every row of a timeline. The function does nothing; its contract states the law.
 pub fn law_of_rows()
-    // The lives in a row are the births of its id, in order, each from its birth on.
+    // A row has one life for each birth of its id, in order, and each life begins at the birth.
     ensures lives { (s : Scene) (id : List ℕ)
         → lives_drawn (row_of s id).pieces.bars ≡ births (id_marks s id) }
-    // The number of its fault marks is the number of its failed lives, of the SIGKILLs that were sent, and of the
-    // starts that failed.
+    // A row has one fault mark for each failed life, for each SIGKILL that was sent, and for each start that failed.
     ensures faults { (s : Scene) (id : List ℕ) → length (row_of s id).pieces.signs
         ≡ length (filter has_failed (lives_of (id_marks s id))) + length
         (filter is_fault (id_marks s id)) }
     // A later time is not drawn at an earlier position.
     ensures order { (f : Frame) (time later : ℕ)
         → time ≤ later → place_of f time ≤ place_of f later }
-    // A time within the drawing is drawn in proportion, less than one position too early.
+    // A time within the drawing is drawn to scale, less than one position too early.
     ensures scale { (f : Frame) (time : ℕ) → f.start ≤ time → time ≤ f.end → f.start < f.end
         → f.end * f.last < 2 ^ 64
         → (place_of f time * span_of f ≤ (time - f.start) * f.last)

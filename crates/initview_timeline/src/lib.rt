@@ -1,5 +1,5 @@
-//! The timeline of a trace: the lives of each entry's children, the signals sent to them, holds, failed starts and
-//! stages, over the time of the trace. `initview_lines` draws it.
+//! The timeline of a trace: the lifetimes of the children of each entry, the signals sent to them, holds, failed starts
+//! and stages, over the time of the trace. `initview_lines` draws it.
 #![tactic(auto)]
 
 mod frames;

@@ -1,4 +1,4 @@
-//! What a timeline knows about an id: the lives of its children, and everything else that happened to it.
+//! The data of a timeline about an id: the lifetimes of its children, and the other marks of the id.
 
 ghost use Rattle.std.specs.Prelude.{◌≡◌, Some, IfOk, OnOk};
 ghost use Rattle.initview_timeline.specs.Lives.{id_of, ids_from, is_for, last_after, life_after, lives_after, lives_of, marks_for, with_id};
@@ -9,8 +9,8 @@ use init_words::{ChildNumber, Id, SignalKind};
 use std::alloc::{AllocError, Global};
 use trace_view::Ending;
 
-/// The life of a child: its number, when it was born, when it was first sent SIGTERM if it was, and how and when it
-/// ended if it has. Times are in seconds.
+/// The lifetime of a child: its number, the time of its birth, the time of the first SIGTERM sent to it, if any, and the
+/// status and time of its end, if it has ended. Times are in seconds.
 #[derive(Clone, Copy)]
 pub struct Life {
     pub number: ChildNumber,
@@ -19,7 +19,7 @@ pub struct Life {
     pub end: Option<Ending>,
 }
 
-/// Returns the id that this happened to.
+/// Returns the id that the mark is about, if any.
 pub(crate) fn id_of(what: Shown) -> Option<Id>
     ensures { result ≡ id_of what }
 {
@@ -39,7 +39,7 @@ pub(crate) fn add_new(ids: &mut Ids, id: Id) -> Result<(), AllocError>
     Ok(())
 }
 
-/// Adds each id to which something happened, unless the set has it already.
+/// Adds the id of each mark, unless the set has it already.
 pub(crate) fn add_ids(ids: &mut Ids, marks: &[TimelineMark]) -> Result<(), AllocError>
     ensures { OnOk result (ids.new.keys ≡ ids_from ids.old.keys marks.now) }
 {
@@ -53,7 +53,7 @@ pub(crate) fn add_ids(ids: &mut Ids, marks: &[TimelineMark]) -> Result<(), Alloc
     Ok(())
 }
 
-/// Reports whether this belongs to the row of the id, or of the stages.
+/// Reports whether the mark belongs to the row of the id, or without an id, to the row of the stages.
 pub(crate) fn is_for(id: &Option<Id>, what: Shown) -> bool
     ensures { result ≡ is_for id.now what }
 {
@@ -122,7 +122,7 @@ fn take(lives: &mut Vec<Life>, mark: &TimelineMark) -> Result<(), AllocError>
     Ok(())
 }
 
-/// Returns the lives of an id's children, the oldest first, given its marks.
+/// Returns the lives of the children of an id, oldest first, given the marks of the id.
 pub fn lives_of(alloc: Global, marks: &[TimelineMark]) -> Result<Vec<Life>, AllocError>
     ensures { IfOk result (λ lives. lives.items ≡ lives_of marks.now) }
 {

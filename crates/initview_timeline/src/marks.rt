@@ -1,4 +1,4 @@
-//! What a timeline shows of a trace, and when it happened.
+//! The marks of a timeline: the events of a trace that it shows, with their times.
 
 ghost use Rattle.std.specs.Prelude.{◌≡◌, ◌∷◌, ◌++◌, List, OnOk};
 ghost use Rattle.trace_events.specs.Event.{Event};
@@ -12,10 +12,10 @@ use std::marker::Model;
 use trace_events::{Happening, HappeningIn};
 use trace_view::{TraceObserver, TraceView};
 
-/// Something that a timeline shows.
+/// An event that a timeline shows.
 #[derive(Clone, Copy)]
 pub enum Shown {
-    /// A table came into force.
+    /// Init adopted a table.
     Read,
     /// A stage was entered.
     Entered(Stage),
@@ -33,14 +33,14 @@ pub enum Shown {
     Held(Id),
 }
 
-/// Something that a timeline shows, and when it happened, in seconds.
+/// An event that a timeline shows, and its time in seconds.
 #[derive(Clone, Copy)]
 pub struct TimelineMark {
     pub time: u64,
     pub what: Shown,
 }
 
-/// Returns the signal that was sent for an order.
+/// Returns the event for a signal that was sent because of this order, if the order is for a signal.
 fn sent_for(id: Id, order: Option<OrderKind>) -> Option<Shown>
     ensures { result ≡ sent_for id order }
 {
@@ -51,7 +51,7 @@ fn sent_for(id: Id, order: Option<OrderKind>) -> Option<Shown>
     }
 }
 
-/// Returns what is shown for the happening that the view has seen last.
+/// Returns the event that the timeline shows for the last happening that the view has seen, if any.
 fn shown_of<A: Allocator, B: Allocator>(
     view: &TraceView<A>,
     happening: &HappeningIn<B>,
@@ -72,7 +72,7 @@ fn shown_of<A: Allocator, B: Allocator>(
     }
 }
 
-/// Adds a mark for something that is shown.
+/// Adds a mark for an event, if there is one.
 fn add_mark<A: Allocator>(
     marks: &mut Vec<TimelineMark, A>,
     time: u64,
@@ -86,7 +86,7 @@ fn add_mark<A: Allocator>(
     Ok(())
 }
 
-/// Adds the mark for the happening that the view has seen last.
+/// Adds the mark for the last happening that the view has seen, if it has one.
 fn take_mark<A: Allocator, B: Allocator>(
     marks: &mut Vec<TimelineMark, A>,
     view: &TraceView<A>,
@@ -102,7 +102,7 @@ fn take_mark<A: Allocator, B: Allocator>(
     Ok(())
 }
 
-/// Returns the first reading of the clock, after a happening.
+/// Returns the first reading of the clock after one more happening.
 fn start_after<B: Allocator>(start: Option<u64>, happening: &HappeningIn<B>) -> Option<u64>
     ensures { result ≡ start_after start happening.now }
 {
@@ -112,7 +112,7 @@ fn start_after<B: Allocator>(start: Option<u64>, happening: &HappeningIn<B>) -> 
     }
 }
 
-/// The marks of the happenings that were seen, the oldest first, and the first reading of the clock.
+/// The marks of the happenings seen, oldest first, and the first reading of the clock.
 #[derive(Drop)]
 pub struct Marks<A: Allocator = Global> {
     marks: Vec<TimelineMark, A>,

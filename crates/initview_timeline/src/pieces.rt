@@ -1,4 +1,4 @@
-//! The pieces of a row of a timeline: bars, from one time to another, and signs on top of them, at one time.
+//! The pieces of a row of a timeline: bars, which extend from one time to another, and signs at a single time on top.
 
 ghost use Rattle.std.specs.Prelude.{◌≡◌, ◌++◌, if◌then◌else◌, [], ◌∷◌, OnOk};
 ghost use Rattle.initview_timeline.specs.Pieces.{bars_of, begins, has_failed, is_start, life_bars, life_signs, mark_bars, mark_signs, marks_bars, marks_signs, next_begin, piece, signs_of};
@@ -10,27 +10,27 @@ use respawn_limit::HOLD;
 use std::alloc::{AllocError, Global};
 use std::marker::Model;
 
-/// What a piece shows.
+/// The meaning of a piece.
 #[derive(Clone, Copy)]
 pub enum Drawn {
-    /// A stage; that it was announced settled; its name, and the time at which it ends.
+    /// A stage; a stage that was announced settled; the name of a stage, with the time at which the stage ends.
     Stage(Stage),
     Settled(Stage),
     Name(Stage, u64),
-    /// A living child whose end init waits for; any other living child; a child that was sent SIGTERM and still lives.
+    /// A living child that init waits for; any other living child; a child that was sent SIGTERM and is still alive.
     Waited(Life),
     Lives(Life),
     Stops(Life),
-    /// The id is held; it was not started although it starts in the stage.
+    /// The id is held; the id was not started although it starts in the stage.
     Held,
     Due,
-    /// A child ended without being asked to, and not with exit status 0; SIGKILL was sent; a start failed.
+    /// A child failed: it ended without SIGTERM and not with exit status 0; SIGKILL was sent; a start failed.
     Failed(Life),
     Killed,
     Unborn,
 }
 
-/// A piece, with the times at which it begins and ends, in seconds.
+/// A piece and the times at which it begins and ends, in seconds.
 #[derive(Clone, Copy)]
 pub struct Piece {
     pub what: Drawn,
@@ -53,15 +53,15 @@ impl Model for Pieces {
     ghost view = { λ p. record { bars = p.bars.items; signs = p.signs.items } };
 }
 
-/// Reports whether this starts the id, or tries to.
+/// Reports whether the event is a start of the id, successful or failed.
 pub(crate) fn is_start(id: &Option<Id>, what: Shown) -> bool
     ensures { result ≡ is_start id.now what }
 {
     matches!(what, Shown::Born(_, _) | Shown::NotBorn(_)) && is_for(id, what)
 }
 
-/// Reports whether this ends a hold of the id, or a stage if there is no id: the next stage, a start of the id, or a
-/// table.
+/// Reports whether the event ends a hold of the id: a stage, a table, or a start of the id. Without an id, reports
+/// whether it ends a stage, which only the next stage does.
 fn begins(id: &Option<Id>, what: Shown) -> bool
     ensures { result ≡ begins id.now what }
 {
@@ -86,7 +86,7 @@ pub(crate) fn next_begin(last: u64, id: &Option<Id>, later: &[TimelineMark]) -> 
     last
 }
 
-/// Returns the time of the first such mark after a mark, given that of the first one from the mark on.
+/// Returns the time of the first mark after this one for which `begins` holds, given the time of the first from it on.
 fn next_behind(
     next: u64,
     last: u64,
@@ -104,7 +104,7 @@ fn next_behind(
     }
 }
 
-/// Reports whether a child ended without being asked to, and not with exit status 0.
+/// Reports whether a child failed: it ended without SIGTERM and not with exit status 0.
 fn has_failed(life: &Life) -> bool
     ensures { result ≡ has_failed life.now }
 {
@@ -141,7 +141,7 @@ impl Pieces {
         Ok(())
     }
 
-    /// Adds a life; from SIGTERM on another bar on top of it; and at its end whether it failed.
+    /// Adds the bar of a life, a second bar on top from SIGTERM on, and a sign at the end if the child failed.
     fn add_life(&mut self, last: u64, waited: bool, life: Life) -> Result<(), AllocError>
         ensures bars { OnOk result (self.new.bars
             ≡ self.old.bars ++ life_bars last waited life) }
@@ -185,8 +185,8 @@ impl Pieces {
         Ok(())
     }
 
-    /// Adds a stage and its name, a stage that is settled, a hold, a SIGKILL, or a failed start. Bars end at the given
-    /// next time.
+    /// Adds the pieces for a mark: a stage and its name, a settled stage, a hold, a SIGKILL, or a failed start. Bars end
+    /// at the time `next` at the latest.
     fn add_mark(&mut self, next: u64, mark: &TimelineMark) -> Result<(), AllocError>
         ensures bars { OnOk result (self.new.bars
             ≡ self.old.bars ++ mark_bars next mark.now.time mark.now.what) }

@@ -13,11 +13,11 @@ use respawn_limit::HOLD;
 use std::alloc::{AllocError, Global};
 use std::marker::Model;
 
-/// The number of rows up to which the marks are not divided among them.
+/// The maximum number of rows for which all marks are searched for each row.
 const FEW: usize = 8;
 
-/// What a timeline is drawn from: the table in force; the marks, the oldest first; the stage in force, whether it is
-/// settled, and whether nothing is owed in it; the first reading of the clock and the last one, in seconds.
+/// The input of a timeline: the table in force; the marks, oldest first; the stage in force, whether it is settled, and
+/// whether no entry is owed in it; and the first and last reading of the clock, in seconds.
 #[derive(Clone, Copy)]
 pub struct Seen<'a> {
     pub entries: &'a [Entry],
@@ -29,7 +29,7 @@ pub struct Seen<'a> {
     pub end: u64,
 }
 
-/// The state of an id at the end. If it ended without a status, its start failed.
+/// The state of an id at the end of the trace. An end without a status means that the start failed.
 #[derive(Clone, Copy)]
 pub enum State {
     Due,
@@ -40,7 +40,7 @@ pub enum State {
     Held,
 }
 
-/// The row of an id: its state at the end, and its pieces. Each sign is a fault.
+/// The row of an id: its state at the end, and its pieces. Each sign marks a fault.
 #[derive(Drop)]
 pub struct Row {
     pub id: Id,
@@ -48,8 +48,8 @@ pub struct Row {
     pub pieces: Pieces,
 }
 
-/// A timeline from the first reading of the clock to the last, in seconds: the pieces of the stages, the rows of the
-/// ids, the stage in force at the end, and whether that is settled.
+/// A timeline, from the first reading of the clock to the last, in seconds: the pieces of the stages, the rows of the
+/// ids, the stage in force at the end, and whether this stage is settled.
 #[derive(Drop)]
 pub struct Timeline {
     pub start: u64,
@@ -76,7 +76,7 @@ impl Model for Timeline {
 }
 
 impl Timeline {
-    /// Returns its times, for a drawing whose last position has this number.
+    /// Returns the frame of a drawing of the timeline whose last position is `last`.
     pub fn frame(&self, last: u64) -> Frame {
         Frame {
             start: self.start,
@@ -86,7 +86,7 @@ impl Timeline {
     }
 }
 
-/// Reports whether an entry is started by itself in a stage.
+/// Reports whether init starts the entry in the stage without any request.
 pub(crate) fn starts_now(entry: &Entry, stage: Option<Stage>) -> bool
     ensures { result ≡ starts_now entry.now stage }
 {
@@ -117,8 +117,8 @@ fn add_table_ids(
     Ok(())
 }
 
-/// Returns the ids: first those of the table that start in the stage in force, or to which something happened, in its
-/// order; then the others to which something happened.
+/// Returns the ids of the rows: first, in table order, the ids of the table that start in the stage in force or have a
+/// mark; then all other ids that have a mark.
 fn ids_of(alloc: Global, seen: &Seen) -> Result<Ids, AllocError>
     ensures { IfOk result (λ ids. ids.keys ≡ ids_of (scene_of seen.now)) }
 {
@@ -151,8 +151,7 @@ fn state_from(marks: &[TimelineMark]) -> State
         .fold(State::Due, |state, mark| state_after(state, mark.what))
 }
 
-/// Reports whether a hold of the id is in force at a time: it began less than five minutes before, and nothing ended
-/// it.
+/// Reports whether the id is held at this time: a hold began less than five minutes before, and no event has ended it.
 fn is_held(end: u64, id: &Option<Id>, marks: &[TimelineMark]) -> bool
     ensures { result ≡ is_held end id.now marks.now }
 {
@@ -169,7 +168,7 @@ fn is_held(end: u64, id: &Option<Id>, marks: &[TimelineMark]) -> bool
     false
 }
 
-/// Reports whether the id has a child, which may have been asked to end.
+/// Reports whether the id has a living child, even if it was sent SIGTERM.
 fn is_up(state: State) -> bool
     ensures { result ≡ is_up state }
 {
@@ -191,8 +190,8 @@ fn of_stage(marks: &[TimelineMark]) -> &[TimelineMark]
     found
 }
 
-/// What the rows share: the ids whose children's end init waits for, those that start in the stage in force, those that
-/// were started in it, and the marks from it on.
+/// Data shared by all rows: the ids that init waits for, those that start in the stage in force, those that were started
+/// in this stage, and the marks since the stage began.
 #[derive(Drop)]
 struct Common<'a> {
     waited: Ids,
@@ -213,7 +212,7 @@ fn common_of<'a>(alloc: Global, seen: &Seen<'a>) -> Result<Common<'a>, AllocErro
     })
 }
 
-/// Reports whether an id starts in the stage in force, in which something is owed, and was not started in it.
+/// Reports whether an id is due: some entry is owed in the stage in force, and the id starts in it but was not started.
 fn waits(seen: &Seen, common: &Common, id: Id) -> bool
     requires { IsCommon common.now (scene_of seen.now) }
     ensures { result ≡ waits (scene_of seen.now) id }
@@ -221,7 +220,7 @@ fn waits(seen: &Seen, common: &Common, id: Id) -> bool
     !seen.complete && common.starting.contains(&id) && !common.begun.contains(&id)
 }
 
-/// Returns the state of an id at the end, given the marks that concern it and its own.
+/// Returns the state of an id at the end, given all marks that affect it and the marks of the id.
 #[tactic(auto, using(crate::proofs::Parted::held_same))]
 fn state_of(
     seen: &Seen,
@@ -244,7 +243,7 @@ fn state_of(
     }
 }
 
-/// Adds that an id is due, from the time at which the stage in force was entered.
+/// Adds the bar for an id that is due, from the time at which init entered the stage in force.
 fn add_due(
     pieces: &mut Pieces,
     seen: &Seen,
@@ -264,7 +263,7 @@ fn add_due(
     Ok(())
 }
 
-/// Returns the row of an id, given the marks that concern it.
+/// Returns the row of an id, given the marks that affect it.
 fn row_of(
     alloc: Global,
     seen: &Seen,
@@ -286,7 +285,7 @@ fn row_of(
     Ok(Row { id, state, pieces })
 }
 
-/// Reports whether this concerns one of these ids, or all.
+/// Reports whether the event affects one of these ids, or all ids.
 fn is_near(ids: &Ids, what: Shown) -> bool
     ensures { result ≡ is_near ids.now.keys what }
 {
@@ -313,7 +312,7 @@ fn near_marks(
         .collect(alloc)
 }
 
-/// Returns the marks that concern one of these ids.
+/// Returns the marks that affect one of these ids.
 fn marks_near(
     alloc: Global,
     ids: &[Id],
@@ -327,7 +326,7 @@ fn marks_near(
     Ok(near)
 }
 
-/// Adds the rows of ids, given the marks that concern them.
+/// Adds the rows of ids, given the marks that affect them.
 fn add_each(
     rows: &mut Vec<Row>,
     alloc: Global,
@@ -349,8 +348,8 @@ fn add_each(
     Ok(())
 }
 
-/// Adds the rows of ids in the same way. The marks are divided between halves of the ids, so that no row goes through
-/// the marks of all others.
+/// Adds the rows of ids, given the marks that affect them. It splits the ids into halves, each with the marks that affect it, so
+/// that no row has to search the marks of all other rows.
 fn add_rows(
     rows: &mut Vec<Row>,
     alloc: Global,
@@ -392,7 +391,7 @@ fn stage_pieces(alloc: Global, seen: &Seen) -> Result<Pieces, AllocError>
     Ok(pieces)
 }
 
-/// Reports whether an operator has to look at this state.
+/// Reports whether this state needs the attention of an operator.
 pub fn is_loud(state: State) -> bool
     ensures { result ≡ is_loud state }
 {
@@ -403,14 +402,14 @@ pub fn is_loud(state: State) -> bool
     }
 }
 
-/// Reports whether an id has a fault, or its state at the end is one.
+/// Reports whether an id has a fault mark, or its state at the end needs attention.
 pub fn is_ill(row: &Row) -> bool
     ensures { result ≡ is_ill row.now }
 {
     !row.pieces.signs.is_empty() || is_loud(row.state)
 }
 
-/// Returns the timeline of what was seen. If the clock was never read, it is a single moment.
+/// Returns the timeline. If the trace has no reading of the clock, the timeline is a single moment.
 pub fn timeline_of(alloc: Global, seen: &Seen) -> Result<Timeline, AllocError>
     ensures { IfOk result (λ timeline. timeline ≡ timeline_of (scene_of seen.now)) }
 {

@@ -1,4 +1,4 @@
-//! Sets of ids, which are searched in constant time.
+//! Sets of ids with lookup in constant time.
 
 ghost use Rattle.std.specs.Prelude.{◌≡◌, ◌&&◌, ◌||◌, List, ℕ, [], IfOk, OnOk};
 ghost use Rattle.std.specs.Option.{option_map_or};
@@ -24,7 +24,7 @@ pub(crate) fn no_ids(alloc: Global) -> Ids
     IndexSet::new(alloc)
 }
 
-/// Adds the id if the test holds.
+/// Adds the id if `test` is true.
 fn add_if(ids: &mut Ids, id: Id, test: bool) -> Result<(), AllocError>
     ensures { OnOk result ((other : List ℕ) → among other ids.new.keys
         ≡ (same_id other id && test || among other ids.old.keys)) }
@@ -35,7 +35,7 @@ fn add_if(ids: &mut Ids, id: Id, test: bool) -> Result<(), AllocError>
     Ok(())
 }
 
-/// Returns the ids to which something happened.
+/// Returns the ids that have a mark.
 #[tactic(auto, using(crate::proofs::Parted::one_more))]
 pub(crate) fn marked_ids(alloc: Global, marks: &[TimelineMark]) -> Result<Ids, AllocError>
     ensures { IfOk result (λ ids. (id : List ℕ) → among id ids.keys ≡ had_marks id marks.now) }
@@ -51,7 +51,7 @@ pub(crate) fn marked_ids(alloc: Global, marks: &[TimelineMark]) -> Result<Ids, A
     Ok(ids)
 }
 
-/// Returns the ids that were started, or of which a start failed.
+/// Returns the ids that have a start, successful or failed.
 #[tactic(auto, using(crate::proofs::Parted::one_more))]
 pub(crate) fn begun_ids(alloc: Global, marks: &[TimelineMark]) -> Result<Ids, AllocError>
     ensures { IfOk result (λ ids. (id : List ℕ) → among id ids.keys ≡ is_begun id marks.now) }
@@ -67,7 +67,7 @@ pub(crate) fn begun_ids(alloc: Global, marks: &[TimelineMark]) -> Result<Ids, Al
     Ok(ids)
 }
 
-/// Returns the ids whose children's end init waits for.
+/// Returns the ids of the entries that init waits for.
 #[tactic(auto, using(crate::proofs::Parted::one_more))]
 pub(crate) fn waited_ids(alloc: Global, entries: &[Entry]) -> Result<Ids, AllocError>
     ensures { IfOk result (λ ids. (id : List ℕ) → among id ids.keys ≡ is_waited id entries.now) }

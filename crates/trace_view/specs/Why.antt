@@ -20,7 +20,7 @@ use Rattle.trace_view.specs.Births.{ran_early}
 use Rattle.trace_view.specs.Calls.{was_named}
 use Rattle.trace_view.specs.Wishes.{first_wish}
 
--- the first entry in the table that init waits for, if it comes before the entry of the id
+-- the first entry that init waits for, among those before the entry of the id
 abbrev pub first_owed : List ℕ → List Event → Option Entry
 first_owed id past = find (λ e. is_owed e past) (entries_before id (table_of past))
 
