@@ -1,5 +1,4 @@
--- The command line of `initview`: options with their values can be anywhere, and the first of the other arguments is
--- the command.
+-- The command line of `initview`. Options and their values can be anywhere; the first other argument is the command.
 use Rattle.std.specs.Prelude.{ℕ, suc, ◌+◌, Bool, true, false, not, ◌&&◌, ◌||◌, ◌==◌, if◌then◌else◌, List, [], ◌∷◌}
 use Rattle.std.specs.Prelude.{codes, length, map, Option, Some, None, option_and_then, unwrap_or}
 use Rattle.std.specs.List.{list_all}
@@ -36,7 +35,7 @@ command_line = line_of (codes "initview") (written OPTIONS.now)
 abbrev pub words_said : List Row → List Text
 words_said rows = unwrap_or (all_of (codes "WORD") rows) []
 
--- the row of the table is an option that is given
+-- the row of the table is an option in the command line
 abbrev pub is_given : List Row → Line → Bool
 is_given rows row =
     if length row.1 == 0 then is_set row.0 rows
@@ -53,7 +52,7 @@ abbrev pub level_given : Option Text → Option (Option Level)
 level_given None = Some None
 level_given (Some word) = option_map Some (level_in word)
 
--- the level that is given
+-- the level in the command line
 abbrev pub level_said : List Row → Option (Option Level)
 level_said rows = level_given (first_of (codes "--level") rows)
 
@@ -72,7 +71,7 @@ form_given rows false (Some width) = option_map (λ columns. Lines columns rows)
 form_given rows true None = Some (Svg rows)
 form_given rows true (Some width) = None
 
--- the form that is given
+-- the form in the command line
 abbrev pub form_said : List Row → Option Form
 form_said rows = form_given (which_said rows) (is_set (codes "--svg") rows) (first_of (codes "--width") rows)
 
@@ -80,12 +79,12 @@ form_said rows = form_given (which_said rows) (is_set (codes "--svg") rows) (fir
 abbrev pub local_said : List Row → Bool
 local_said rows = is_set (codes "--local") rows
 
--- a number of lines, which is not 0
+-- the number of lines, if it is not 0
 abbrev pub some_lines : Option ℕ → Option ℕ
 some_lines (Some (suc count)) = Some (suc count)
 some_lines _ = None
 
--- the number of lines that a word stands for, 1 to 10,000; none if it is not such a number
+-- the number of lines that an argument means, 1 to 10,000; none if it is not such a number
 abbrev pub last_of : Text → Option ℕ
 last_of word = some_lines (number_read (LAST_LIMIT + 1) word)
 
@@ -94,7 +93,7 @@ abbrev pub last_given : Option Text → Option (Option ℕ)
 last_given None = Some None
 last_given (Some word) = option_map Some (last_of word)
 
--- the number of lines that is given
+-- the number of lines in the command line
 abbrev pub last_said : List Row → Option (Option ℕ)
 last_said rows = last_given (first_of (codes "-n") rows)
 
@@ -171,7 +170,7 @@ asked_by rows verb words =
     else if bytes_eq verb (codes "why") then explain_of words
     else or_tables (plain_of rows verb words) (tables_of rows verb words)
 
--- the command that the arguments select, whatever other options are given; none if there is no such command
+-- the command that the arguments select, even if it does not accept all options; none if there is no such command
 abbrev pub asked : List Row → List Text → Option Command
 asked rows [] = None
 asked rows (verb ∷ words) = asked_by rows verb words
@@ -209,15 +208,15 @@ takes (Reload level) option = goes_by_level option
 takes (Timing level) option = goes_by_level option
 takes (Tables question) option = bytes_eq option (codes "--inittab-dir") || table_takes question option
 
--- the row of the table is not an option that is given, or is one that the command accepts
+-- the command accepts the row of the table, or the row is not an option in the command line
 abbrev pub belongs : List Row → Command → Line → Bool
 belongs rows what row = not (is_given rows row) || takes what row.0
 
--- the command accepts all options that are given
+-- the command accepts all options in the command line
 abbrev pub has_only : List Row → Command → Bool
 has_only rows what = list_all (belongs rows what) (written OPTIONS.now)
 
--- the command, if it accepts all options that are given
+-- the command, if it accepts all options in the command line
 abbrev pub where_only : List Row → Command → Option Command
 where_only rows what = if has_only rows what then Some what else None
 
@@ -246,7 +245,7 @@ abbrev pub after_first : List Text → List Text
 after_first (first ∷ words) = words
 after_first [] = []
 
--- the path of the trace, or the folders of programs
+-- the path of the trace, or the folders to search for programs
 abbrev pub path_of : Command → List Row → List Text → Text
 path_of (Reload level) rows words = value_said (codes "--trace") rows
 path_of (Timing level) rows words = value_said (codes "--trace") rows
@@ -259,7 +258,7 @@ abbrev pub files_of : Command → List Text → List Text
 files_of (Explain id) words = after_third words
 files_of _ words = after_first words
 
--- the paths, with the folder of an inittab's further files
+-- the paths, and the folder with additional files of an inittab
 pub record PathTexts : Type 0 where
   pub path : Text
   pub files : List Text

@@ -1,4 +1,4 @@
--- The exit status of initview for its arguments, and the output it wrote. `KnownOutput` is the output so far.
+-- The exit status and the output of initview for its arguments. `KnownOutput` is the output so far.
 use Rattle.std.specs.Prelude.{◌≡◌, ◌⊎◌, ℕ, Bool, true, false, if◌then◌else◌, List, [], ◌∷◌, codes, Option, Some, None}
 use Rattle.initview_command.specs.Words.{DONE, REFUSED, DEVICE_FAULT, KnownTexts, asks_version, given_by, version_line}
 use Rattle.initview_command.specs.Words.{KnownOutput, WritesNothing, with_local_times}
@@ -18,8 +18,8 @@ use Rattle.initview_command.specs.Tables.{Answers, AreNone, NoneOf}
 use Rattle.initview_command.specs.WithFiles.{ShowsWithFiles}
 use Rattle.initview_command.specs.Writers.{KnownWriters}
 
--- the command was carried out on the trace at the path, or on the files, as far as its output could be written: it
--- returned this status, and the output went from `old` to `new`
+-- initview carried out the command on the trace or the files, to the extent that it could write the output: it returned
+-- this status, and the output changed from `old` to `new`
 abbrev pub Does : KnownTexts → KnownTexts → KnownWriters → PathTexts → Command → ℕ → KnownOutput → KnownOutput → Type 0
 Does text_at growing_at writers paths (Show question) status old new =
     WritesOne (Shows text_at writers paths.path (answer_by question)) status old new
@@ -36,7 +36,7 @@ Does text_at growing_at writers paths (Timing level) status old new =
 Does text_at growing_at writers paths (Tables question) status old new =
     WritesOne (Answers text_at paths question) status old new
 
--- the arguments were rejected, or memory ran out, and nothing was written
+-- initview rejected the arguments or ran out of memory, and wrote nothing
 abbrev pub Refuses : ℕ → KnownOutput → KnownOutput → Type 0
 Refuses status old new = ((status ≡ REFUSED) ⊎ (status ≡ DEVICE_FAULT)) × WritesNothing old new
 
@@ -44,14 +44,14 @@ Refuses status old new = ((status ≡ REFUSED) ⊎ (status ≡ DEVICE_FAULT)) ×
 abbrev pub timed : Bool → KnownOutput → KnownOutput
 timed local now = if local then with_local_times now else now
 
--- the command was carried out with such times; or the time zone could not be read, and nothing was written
+-- initview carried out the command with local times if requested; or it could not read the time zone, and wrote nothing
 abbrev pub DoesTimed : Bool → KnownTexts → KnownTexts → KnownWriters → PathTexts → Command → ℕ → KnownOutput
     → KnownOutput → Type 0
 DoesTimed local text_at growing_at writers paths what status old new =
     Does text_at growing_at writers paths what status (timed local old) new
     ⊎ ((local ≡ true) × (status ≡ DEVICE_FAULT) × WritesNothing old new)
 
--- the outcome for parsed arguments: the command was carried out, or they were rejected because they select no command
+-- the outcome for parsed arguments: initview carried out the command, or rejected the arguments if they select none
 abbrev pub EndsFor : KnownTexts → KnownTexts → KnownWriters → List Row → Option Command → ℕ → KnownOutput → KnownOutput
     → Type 0
 EndsFor text_at growing_at writers rows (Some what) status old new =
@@ -64,20 +64,20 @@ abbrev pub EndsOf : KnownTexts → KnownTexts → KnownWriters → List Row → 
 EndsOf text_at growing_at writers rows status old new =
     EndsFor text_at growing_at writers rows (what_of rows (words_said rows)) status old new
 
--- the outcome for arguments other than `--version`: they were rejected if clap found a fault in them
+-- the outcome for arguments other than `--version`: initview rejected them if clap found a fault in them
 abbrev pub EndsWhere : KnownTexts → KnownTexts → KnownWriters → Option (List Row) → ℕ → KnownOutput
     → KnownOutput → Type 0
 EndsWhere text_at growing_at writers (Some rows) status old new = EndsOf text_at growing_at writers rows status old new
 EndsWhere text_at growing_at writers None status old new = Refuses status old new
 
--- the same outcome; or memory ran out, and nothing was written
+-- the outcome as in `EndsWhere`; or initview ran out of memory, and wrote nothing
 abbrev pub EndsOn : KnownTexts → KnownTexts → KnownWriters → List (List ℕ) → ℕ → KnownOutput → KnownOutput
     → Type 0
 EndsOn text_at growing_at writers words status old new =
     EndsWhere text_at growing_at writers (given_by command_line words) status old new
     ⊎ ((status ≡ DEVICE_FAULT) × WritesNothing old new)
 
--- the outcome if the version is requested, which is that it was written; and if it is not
+-- the outcome: if the version is requested, initview wrote it; otherwise, the outcome is as in `EndsOn`
 abbrev pub EndsAs : Bool → KnownTexts → KnownTexts → KnownWriters → List (List ℕ) → ℕ → KnownOutput
     → KnownOutput → Type 0
 EndsAs true text_at growing_at writers words status old new =

@@ -14,15 +14,15 @@ abbrev pub files_lines : List ℕ → List NamedText → List Line
 files_lines id [] = []
 files_lines id (file ∷ files) = id_lines id (file ∷ files)
 
--- the answer: the reason at present, with the lines of the trace that cause it, then the lines about the inittab
+-- the answer: the current reason, with the lines of the trace that explain it, then the lines about the inittab
 abbrev pub explanation : List ℕ → Chain → List Line → List Event → List Line
 explanation path chain told now = why_in path chain now ++ told
 
--- the answer and the exit status, for who writes the trace and why it is shown no further
+-- the answer and the exit status, given the writer of the trace and the reason why the view ended, if it did
 abbrev pub explained : List ℕ → List ℕ → List Line → Writer → Option ViewEnd → List Event → List Line × ℕ
 explained path id told writer stop past =
     (explanation path (chain_of id past) told (present writer stop past), stop_status stop)
 
--- the answer to the query, with the id's lines in the files
+-- the answer to the query, including the lines of the id in the files
 abbrev pub explained_with : List ℕ → List ℕ → List NamedText → Writer → Option ViewEnd → List Event → List Line × ℕ
 explained_with path id files = explained path id (files_lines id files)

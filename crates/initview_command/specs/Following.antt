@@ -17,19 +17,19 @@ IsAllOf input text = IfSome input (λ known. text ≡ known)
 abbrev pub BeginsAllOf : Option (List ℕ) → List ℕ → Type 0
 BeginsAllOf input text = IfSome input (λ known. (rest : List ℕ) × (text ++ rest ≡ known))
 
--- the text begins a run: with the `use` line of an inittab, because no other line of a trace begins with u; or it is
+-- the text can be the beginning of a run: it begins with a `use` line, the only line of a trace that begins with u, or is
 -- empty
 abbrev pub begins_run : List ℕ → Bool
 begins_run [] = true
 begins_run (byte ∷ text) = byte == 117
 
--- the text is judged, which it is unless only the last lines are requested and it does not begin a run
+-- the laws are checked, unless only the last lines are requested and the text begins in the middle of a run
 abbrev pub is_judged : Option ℕ → List ℕ → Bool
 is_judged None text = true
 is_judged (Some count) text = begins_run text
 
--- the lines for a text, given why it is shown no further and the line at which an incomplete happening begins; if the
--- text is not judged, each happening is worded by itself
+-- these are the lines for a text, given the reason why the view ended and the line at which an incomplete happening
+-- begins; if the laws are not checked, the message about each happening does not depend on the past
 abbrev pub AreLinesOf : Bool → List ℕ → Option ViewEnd → Option ℕ → List Line → Type 0
 AreLinesOf true text stop line past_lines = AreFollowedLines text stop line past_lines
 AreLinesOf false text stop line past_lines = IsToldOf text stop line past_lines
@@ -43,48 +43,48 @@ IsHidden (Some count) input hidden =
     × AreLinesOf (begins_run there) there stop line (hidden ++ shown)
     × (length hidden ≡ length (hidden ++ shown) - count)
 
--- how following began: the number of lines requested, the lines that are not written, and the output before
+-- the start of following: the number of lines requested, the lines that are not written, and the previous output
 pub record Start : Type 0 where
   pub last : Option ℕ
   pub hidden : List Line
   pub heard : KnownOutput
 
--- the other lines of the whole input were written
+-- all lines for the whole input were written, except the hidden ones
 abbrev pub WritesAll : Start → Option (List ℕ) → Option ViewEnd → Option ℕ → KnownOutput → Type 0
 WritesAll start input stop line now =
     (text : List ℕ) × (shown : List Line) × IsAllOf input text
     × AreLinesOf (is_judged start.last text) text stop line (start.hidden ++ shown) × WritesLines start.heard now shown
 
--- some of the other lines of a prefix of the input were written, from the first one on
+-- a prefix of the lines for a part of the input was written, except the hidden ones
 abbrev pub WritesPart : Start → Option (List ℕ) → KnownOutput → Type 0
 WritesPart start input now =
     (text : List ℕ) × (shown : List Line) × (stop : Option ViewEnd) × (line : Option ℕ) × BeginsAllOf input text
     × AreLinesOf (is_judged start.last text) text stop line (start.hidden ++ shown)
     × WritesLinePrefix start.heard now shown
 
--- following began with these lines hidden
+-- the start of following with these lines hidden
 abbrev pub start_of : Option ℕ → List Line → KnownOutput → Start
 start_of last hidden heard = record { last = last; hidden = hidden; heard = heard }
 
--- everything was written, except lines that are not requested
+-- all lines for the input were written, except lines that were not requested
 abbrev pub FollowsAll : Option ℕ → Option (List ℕ) → Option ViewEnd → Option ℕ → KnownOutput → KnownOutput → Type 0
 FollowsAll last input stop line old new =
     (hidden : List Line) × IsHidden last input hidden × WritesAll (start_of last hidden old) input stop line new
 
--- some of the lines for a prefix of the input were written, except lines that are not requested
+-- some of the lines for a prefix of the input were written, except lines that were not requested
 abbrev pub FollowsPart : Option ℕ → Option (List ℕ) → KnownOutput → KnownOutput → Type 0
 FollowsPart last input old new =
     (hidden : List Line) × IsHidden last input hidden × WritesPart (start_of last hidden old) input new
 
--- everything was written, and this is its exit status; or the trace could not be read further, or its lines could not
--- be written
+-- the outcome of following: all lines were written, and this is the exit status; or the trace could not be read further,
+-- or its lines could not be written
 abbrev pub Follows : Option ℕ → Option (List ℕ) → ℕ → KnownOutput → KnownOutput → Type 0
 Follows last input status old new =
     ((stop : Option ViewEnd) × (line : Option ℕ) × (status ≡ stop_status stop)
     × FollowsAll last input stop line old new)
     ⊎ (EndsUnwritten status new × FollowsPart last input old new)
 
--- the reader judges its text
+-- the reader checks the laws
 abbrev pub judges : Reader → Bool
 judges (Run state) = true
 judges (Part state) = false
@@ -94,7 +94,7 @@ abbrev pub HasLines : Reader → List Line → List ℕ → Type 0
 HasLines (Run state) past_lines text = HasFollowedText state past_lines text
 HasLines (Part state) past_lines text = HasTold state past_lines text
 
--- the reader is the right one for the text, whatever follows
+-- the reader is of the right kind for the text, whatever text follows
 abbrev pub IsFor : Option ℕ → Reader → List ℕ → Type 0
 IsFor last reader text = (more : List ℕ) → is_judged last (text ++ more) ≡ judges reader
 

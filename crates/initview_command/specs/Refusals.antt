@@ -1,4 +1,4 @@
--- What initview reports about arguments that it rejects, and its exit status if there is no answer.
+-- The reports of initview about rejected arguments, and its exit status if there is no answer.
 use Rattle.std.specs.Prelude.{◌≡◌, ◌⊎◌, ◌++◌, ℕ, codes}
 use Rattle.initview_command.specs.Words.{Text, ReportsUsage, REFUSED, DEVICE_FAULT, AppendsReport, ReportList}
 use Rattle.inittab_text.specs.declared.faults.TableFault.{TableFault}
@@ -7,14 +7,14 @@ use Rattle.initview_command.specs.declared.command.TheConstants.{USAGE}
 use Rattle.initview_command.specs.declared.telling.Refusal.{Refusal}
 use Rattle.initview_command.specs.declared.telling.Refusal.TheVariants as refusal
 
--- a command's line of usage
+-- the usage line of a command
 abbrev pub usage_line : Text → Text
 usage_line usage = codes "usage: " ++ (usage ++ codes "\n")
 
 abbrev pub memory_line : Text
 memory_line = codes "initview: out of memory\n"
 
--- a reason and a line of usage, or the whole usage if help is requested, were reported; or that memory ran out
+-- initview reported a reason and a usage line, or the whole usage if help is requested; or it reported lack of memory
 abbrev pub ReportsRefusal : ℕ → ReportList → ReportList → Type 0
 ReportsRefusal status old new =
     ((status ≡ REFUSED) × (usage : Text)

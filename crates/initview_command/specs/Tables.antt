@@ -28,7 +28,7 @@ AreFilesAt text_at (path ∷ paths) parts =
     (text : List ℕ) × (others : List NamedText) × (parts ≡ record { name = path; bytes = text } ∷ others)
     × IsTextAt text_at path text × AreFilesAt text_at paths others
 
--- the files are followed by those of a folder, if one is given
+-- the files `parts` are the files `own`, followed by those of a folder, if one is given
 abbrev pub IsFolderBehind : Option (List ℕ) → List NamedText → List NamedText → Type 0
 IsFolderBehind None own parts = parts ≡ own
 IsFolderBehind (Some folder) own parts = (more : List NamedText) × (parts ≡ own ++ more)
@@ -48,7 +48,7 @@ found_status found.Warnings = 2
 abbrev pub table_in : List NamedText → List Entry
 table_in parts = table_of_texts (texts_of parts)
 
--- the level that a command is about: the given one, otherwise the table's default, otherwise S, as for init
+-- the level for a command: the given level, or else the table's default, or else S, as for init
 abbrev pub level_asked : Option Level → List Entry → Level
 level_asked (Some level) table = level
 level_asked None table = unwrap_or (default_level_of table) S
@@ -57,20 +57,20 @@ level_asked None table = unwrap_or (default_level_of table) S
 abbrev pub changes_by : Option Level → List Entry → List Entry → List Line
 changes_by level old new = changes_in (level_asked level new) old new
 
--- what an inittab starts on the way to a level
+-- the lines for the entries that init starts on the way to a level
 abbrev pub plan_by : Option Level → List Entry → List Line
 plan_by level entries = plan_in (level_asked level entries) entries
 
--- the files of the old inittab of a diff: the first one, and all after the second, in which both inittabs continue
+-- the files of the old inittab of a diff: the first one, and all files after the second, which belong to both inittabs
 abbrev pub old_of : List NamedText → List NamedText
 old_of parts = take 1 parts ++ drop 2 parts
 
--- the warnings about missing programs: any with --programs, because they depend on the file system, and otherwise none
+-- these can be the warnings about missing programs: any with --programs (the file system decides), otherwise none
 abbrev pub AreMissing : TableQuestion → List LineWarning → Type 0
 AreMissing table.Programs missing = list_all is_missing missing ≡ true
 AreMissing _ missing = missing ≡ []
 
--- the faults and warnings of the files, with further warnings, and the exit status
+-- the faults and warnings of the files, including the given warnings, and the exit status
 abbrev pub lint_by : List NamedText → List LineWarning → List Line × ℕ
 lint_by parts missing = ((lint_in parts missing).0, found_status (lint_in parts missing).1)
 

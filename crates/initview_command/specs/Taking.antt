@@ -1,4 +1,4 @@
--- How far a followed trace was read.
+-- The progress in reading a followed trace.
 use Rattle.std.specs.Prelude.{◌≡◌, ◌≤◌, ℕ, ◌+◌, ◌*◌, ◌-◌, List, [], ◌++◌, length, Option, Some, None}
 use Rattle.std.specs.Io.KnownBytes.{Consumes}
 use Rattle.initview_command.specs.Words.{PIECE_LIMIT, PIECES_LIMIT, KnownOutput}
@@ -22,7 +22,7 @@ MayKeep limit count input reader lines remaining =
     × IsFor (Some count) reader text × HasLines reader (hidden ++ lines) text
     × (length hidden ≤ length (hidden ++ lines) - count)
 
--- the same, and exactly the last `count` lines are kept
+-- a text of at most `limit` bytes was read from the input, and exactly the last `count` lines for it are kept
 abbrev pub HasKept : ℕ → ℕ → Option (List ℕ) → Reader → List Line → Option (List ℕ) → Type 0
 HasKept limit count input reader lines remaining =
     (text : List ℕ) × (hidden : List Line) × Consumes input remaining text × (length text ≤ limit)

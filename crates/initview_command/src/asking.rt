@@ -1,4 +1,4 @@
-//! The command line of `initview`: options can be anywhere, and the first of the other arguments is the command.
+//! The command line of `initview`. Options can be anywhere; the first other argument is the command.
 
 ghost use Rattle.std.specs.Prelude.{◌≡◌, map, string_bytes, IfErr, IfOk, IsSome, None, Some};
 ghost use Rattle.std.specs.List.{list_all};
@@ -23,7 +23,7 @@ pub enum TraceQuery {
     Status(RowFormat),
     /// The state of this id.
     Row(Id, RowFormat),
-    /// The children that are left.
+    /// The children that were not reaped, and the open starts.
     Left(RowFormat),
 }
 
@@ -32,26 +32,26 @@ pub enum TraceQuery {
 pub enum TableQuestion {
     /// The faults and warnings of an inittab.
     Lint,
-    /// The same, and which of its programs are not found.
+    /// The faults and warnings of an inittab, and its programs that do not exist.
     Programs,
-    /// What happens to the entries of the first inittab in a level if the second one replaces it.
+    /// The changes to the entries in a level when the second inittab replaces the first.
     Diff(Option<Level>),
     /// The entries that an inittab starts on the way to a level.
     Plan(Option<Level>),
 }
 
-/// The command that the arguments select, about a trace or the files of inittabs.
+/// The command that the arguments select. It is about a trace, the files of inittabs, or both.
 #[derive(Clone, Copy)]
 pub enum Command {
     Show(TraceQuery),
     Draw(Form),
-    /// The news of the trace, from the last lines of the existing text on if their number is given.
+    /// The messages about the trace as it grows, from the last lines of the existing text on if their number is given.
     Follow(Option<usize>),
-    /// Why the id is not started, and its lines in the files.
+    /// The reason why the id is not started, and its lines in the files.
     Explain(Id),
-    /// What happens to the running children if init reads the second file and goes to the level.
+    /// The changes to the running children if init reads the second file and goes to the level.
     Reload(Option<Level>),
-    /// The entries that are started on the way to the level, and how long those that init waits for took in the trace.
+    /// The entries that init starts on the way to the level, and the times that those on the critical path took in the trace.
     Timing(Option<Level>),
     Tables(TableQuestion),
 }
@@ -59,11 +59,11 @@ pub enum Command {
 /// The paths of the trace and the files that a command is about.
 #[derive(Clone, Copy)]
 pub(crate) struct Paths<'m, 'a> {
-    /// The path of the trace, or the folders of programs.
+    /// The path of the trace, or the folders to search for programs.
     pub(crate) path: &'a str,
     /// The paths of the files of inittabs.
     pub(crate) files: &'m [&'a str],
-    /// The folder with further files of inittabs.
+    /// The folder with additional files of inittabs.
     pub(crate) folder: Option<&'a str>,
 }
 
@@ -82,7 +82,7 @@ pub(crate) const OPTIONS: &[Row] = &[
     ("WORD", "..", ""),
 ];
 
-/// Returns the values that the arguments give the rows of the table.
+/// Returns the values of the options and positional arguments in the command line.
 pub(crate) fn matched(alloc: Global, words: &[String]) -> Result<ArgMatches<'_>, WordFault>
     ensures ok { IfOk result (λ found. given_by command_line (map string_bytes words.now)
         ≡ Some (rows_of (found_of found))) }
@@ -92,7 +92,7 @@ pub(crate) fn matched(alloc: Global, words: &[String]) -> Result<ArgMatches<'_>,
     read_line(alloc, "initview", OPTIONS, words)
 }
 
-/// Reports whether a row of the table is an option that is given.
+/// Reports whether a row of the table is an option in the command line.
 fn is_given(matches: &ArgMatches, row: Row) -> bool
     ensures { result ≡ is_given (rows_of (found_of matches.now)) (text_of row.entry) }
 {
@@ -147,7 +147,7 @@ fn takes(what: &Command, option: &str) -> bool
     }
 }
 
-/// Reports whether a row of the table is not a given option, or one that the command accepts.
+/// Reports whether the command accepts a row of the table, or the row is not an option in the command line.
 pub(crate) fn belongs(matches: &ArgMatches, what: &Command, row: Row) -> bool
     ensures { result ≡ belongs (rows_of (found_of matches.now)) what.now (text_of row.entry) }
 {
@@ -171,7 +171,7 @@ pub(crate) fn level_in(word: &str) -> Option<Level>
     }
 }
 
-/// Returns the level that is given, if any, or `None` if the value is not a level.
+/// Returns the level in the command line, if any, or `None` if the value is not a level.
 fn level_said(matches: &ArgMatches) -> Option<Option<Level>>
     ensures { result ≡ level_said (rows_of (found_of matches.now)) }
 {
@@ -213,7 +213,7 @@ fn form_said(matches: &ArgMatches) -> Option<Form>
     }
 }
 
-/// Returns the number of lines that a word stands for.
+/// Returns the number of lines that an argument means.
 pub(crate) fn last_of(word: &str) -> Option<usize>
     ensures { result ≡ last_of word.now }
 {
@@ -223,7 +223,7 @@ pub(crate) fn last_of(word: &str) -> Option<usize>
     }
 }
 
-/// Returns the number of lines that is given, if any, or `None` if the value is not such a number.
+/// Returns the number of lines in the command line, if any, or `None` if the value is not such a number.
 fn last_said(matches: &ArgMatches) -> Option<Option<usize>>
     ensures { result ≡ last_said (rows_of (found_of matches.now)) }
 {
@@ -326,7 +326,7 @@ fn tables_of(matches: &ArgMatches, verb: &str, words: &[&str]) -> Option<Command
     }
 }
 
-/// Returns the command, of those whose only argument is the path of a trace, that the arguments select.
+/// Returns the command that the arguments select, if its only argument is the path of a trace.
 fn plain_of(matches: &ArgMatches, verb: &str, words: &[&str]) -> Option<Command>
     ensures { result ≡ plain_of (rows_of (found_of matches.now)) verb.now
         (map (λ word. word.now) words.now) }
@@ -360,8 +360,8 @@ fn asked_by(matches: &ArgMatches, verb: &str, words: &[&str]) -> Option<Command>
     }
 }
 
-/// Returns the command that the options and words select, whatever other options are given, or `None` if there is no
-/// such command.
+/// Returns the command that the options and arguments select, or `None` if there is no such command. Does not check
+/// whether the command accepts all options.
 pub(crate) fn asked(matches: &ArgMatches, words: &[&str]) -> Option<Command>
     ensures { result
         ≡ asked (rows_of (found_of matches.now)) (map (λ word. word.now) words.now) }
@@ -372,8 +372,8 @@ pub(crate) fn asked(matches: &ArgMatches, words: &[&str]) -> Option<Command>
     }
 }
 
-/// Returns the command that the options and words select, or `None` if there is no such command or it does not accept
-/// one of the options.
+/// Returns the command that the options and arguments select, or `None` if there is no such command or it does not
+/// accept one of the options.
 pub(crate) fn what_of(matches: &ArgMatches, words: &[&str]) -> Option<Command>
     ensures { result
         ≡ what_of (rows_of (found_of matches.now)) (map (λ word. word.now) words.now) }
@@ -386,7 +386,7 @@ pub(crate) fn what_of(matches: &ArgMatches, words: &[&str]) -> Option<Command>
     }
 }
 
-/// Returns the path of the trace, or the folders of programs.
+/// Returns the path of the trace, or the folders to search for programs.
 fn path_of<'a>(what: &Command, matches: &ArgMatches<'a>, words: &[&'a str]) -> &'a str
     ensures { result.now ≡ path_of what.now (rows_of (found_of matches.now))
         (map (λ word. word.now) words.now) }
@@ -414,7 +414,7 @@ fn files_of<'m, 'a>(what: &Command, words: &'m [&'a str]) -> &'m [&'a str]
     }
 }
 
-/// Returns the paths in the options and words of a command.
+/// Returns the paths in the options and arguments of a command.
 pub(crate) fn paths_of<'m, 'a>(
     what: &Command,
     matches: &ArgMatches<'a>,

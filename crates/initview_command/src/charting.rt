@@ -28,7 +28,7 @@ pub enum Form {
     Svg(WhichRows),
 }
 
-/// Returns the width that a word stands for.
+/// Returns the width that an argument means.
 pub(crate) fn width_of(word: &str) -> Option<u64>
     ensures { result ≡ width_of word.now }
 {
@@ -40,7 +40,7 @@ pub(crate) fn width_of(word: &str) -> Option<u64>
     }
 }
 
-/// Returns what a timeline is drawn from.
+/// Returns the input of a timeline.
 fn seen_by<'a>(marks: &'a Marks, view: &'a TraceView) -> Seen<'a>
     ensures { (past : List Event) → Viewed view.now past
         → marks.now ≡ seen_of past → scene_of result ≡ drawn_of past }

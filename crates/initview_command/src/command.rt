@@ -24,8 +24,8 @@ use jiff::Error;
 use program_io::{DONE, Reporter, Reports, Texts};
 use std::alloc::Global;
 
-/// The usage, printed when help is requested. A command's line of it is printed when its arguments are rejected. It has
-/// one line for each command, up to the last line that begins with blanks and `initview`.
+/// The usage, printed when help is requested. If the arguments of a command are rejected, only the line of this command
+/// is printed. Each line up to the last one that begins with blanks and `initview` is for one command.
 pub const USAGE: &str = "usage: initview why [--inittab-dir DIR] ID TRACE [TABLE..]
        initview status [--json] [--local] TRACE [ID]
        initview left [--json] TRACE
@@ -79,15 +79,14 @@ pub const USAGE: &str = "usage: initview why [--inittab-dir DIR] ID TRACE [TABLE
 /// - 0: the trace was read to its end, and the answer was written to `out`.
 /// - 1: the arguments are rejected, a line is not a line of a trace, the text begins in the middle of a run (except
 ///   with `follow -n`), an inittab is too large, or `lint` found faults.
-/// - 2: a happening breaks a law, or `lint` found warnings only.
+/// - 2: a happening breaks a law, or `lint` found only warnings.
 /// - 4: the trace can't be read, the output fails, or memory runs out.
 ///
-/// `status TRACE ID` returns 0, 3 or 4, as the LSB defines them.
+/// `status TRACE ID` returns 0, 3 or 4, as defined by the LSB.
 ///
-/// If a line is not a line of a trace, or breaks a law, the happenings before it are shown, and they are the trace of
-/// `diff --trace` and `plan --trace`. Nothing is shown of a text that begins in the middle of a run, except its last
-/// lines by `follow -n`. A trace that is followed is read from `growing` until it ends, and each of its lines is
-/// written as it comes. Faults of files are reported on `err`.
+/// If a line is not a line of a trace, or breaks a law, the commands use only the happenings before it. They show nothing
+/// of a text that begins in the middle of a run, except that `follow -n` shows its last lines. `follow` reads the trace
+/// from `growing` until it ends, and writes each line immediately. Faults of files are reported on `err`.
 pub fn run_words<T: Texts, G: LiveTraces, S: LineSink, E: Reporter>(
     texts: &T,
     growing: &G,
@@ -99,7 +98,7 @@ pub fn run_words<T: Texts, G: LiveTraces, S: LineSink, E: Reporter>(
     ensures ends { ArgumentsEnd (T.text_at texts.now) (G.text_at growing.now)
         (G.writer_at growing.now) (map string_bytes words.now)
         result (S.said out.old) (S.said out.new) }
-    // If the arguments select no command, a reason and the usage of a command are reported.
+    // If the arguments select no command, the reason and the usage of the command are reported.
     ensures refused { asks_version (map string_bytes words.now) ≡ false
         → asked_of (map string_bytes words.now) ≡ None
         → ReportsRefusal result (E.reports err.old) (E.reports err.new) }
@@ -138,7 +137,7 @@ fn say_version<S: LineSink, E: Reporter>(alloc: Global, out: &mut S, err: &mut E
     }
 }
 
-/// Switches the output to times in the system's time zone, if that is requested.
+/// Switches the output to times in the system's time zone, if `is_local` is set.
 fn use_times<S: LineSink>(is_local: bool, out: &mut S) -> Result<(), Error>
     ensures ok { OnOk result (S.said out.new ≡ timed is_local (S.said out.old)) }
     ensures err { OnErr result

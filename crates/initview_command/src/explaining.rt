@@ -21,14 +21,14 @@ use program_io::Texts;
 use std::alloc::{AllocError, Global};
 use trace_view::{LastLines, ObservedTrace, TraceView};
 
-/// A query for the reason why an id is not started, and the lines that follow the answer.
+/// A query for the reason why an id is not started, and additional lines that follow the answer.
 #[derive(Drop)]
 struct Reason {
     id: Id,
     told: Vec<Line>,
 }
 
-/// Returns the present reason, with the lines of the trace that cause it, and the lines that follow it.
+/// Returns the current reason, with the lines of the trace that explain it, and the additional lines.
 fn explanation(
     alloc: Global,
     path: &str,
@@ -86,7 +86,7 @@ fn files_lines(alloc: Global, files: &[Part], id: &Id) -> Result<Vec<Line>, Tabl
     }
 }
 
-/// Answers why the id is not started next, with the id's lines in the files.
+/// Returns the reason why the id is not started next, and the lines of the id in the files.
 pub(crate) fn why_answer<'a, T: Texts, G: LiveTraces>(
     texts: &T,
     growing: &G,

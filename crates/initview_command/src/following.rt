@@ -1,4 +1,4 @@
-//! The `follow` command: writes a trace in words while it grows.
+//! The `follow` command: writes messages about a trace while it grows.
 
 ghost use Rattle.std.specs.Prelude.{◌≡◌, ◌^◌, ◌<◌, ◌≤◌, ◌-◌, ◌++◌, [], List, ℕ, length, Option, Some, None, option_map, IfOk, OnOk, OnErr, true, false};
 ghost use Rattle.initview_command.specs.Words.{PIECE_LIMIT, WritesNothing};
@@ -18,7 +18,7 @@ use std::io;
 use std::io::{ErrorKind, Read};
 use trace_view::{TextView, ViewEnd};
 
-/// The reason why a trace is not followed to its end.
+/// The reason why a trace could not be followed to its end.
 #[derive(Drop)]
 enum FollowFault {
     Unread(io::Error),
@@ -62,10 +62,10 @@ fn report_fault<S: LineSink, E: Reporter>(
     }
 }
 
-/// Why a trace is shown no further, and the number of the line at which an incomplete happening begins.
+/// The reason why a view of a trace ended, and the number of the line at which an incomplete happening begins.
 type End = (Option<ViewEnd>, Option<u64>);
 
-/// The reader of a followed trace: of a run, which is judged, or of a text that begins in the middle of one.
+/// The reader of a followed trace: one for a whole run, which checks the laws, or one for a text that begins in mid-run.
 #[derive(Drop)]
 enum Reader {
     Run(TextView),
@@ -99,7 +99,7 @@ fn begins_run(text: &[u8]) -> bool
     }
 }
 
-/// Allocates the reader for a text that begins like this.
+/// Allocates the reader for a text that begins with `first`.
 fn reader_of(alloc: Global, first: &[u8]) -> Result<Box<Reader>, Memory>
     ensures { IfOk result (λ reader. (judges reader.value ≡ begins_run first.now)
         × HasLines reader.value [] []) }
@@ -111,7 +111,7 @@ fn reader_of(alloc: Global, first: &[u8]) -> Result<Box<Reader>, Memory>
     }
 }
 
-/// Passes the next piece of its text to a reader, and adds the lines for it.
+/// Passes the next piece of the text to a reader, and adds the lines for the piece.
 fn take_piece(reader: &mut Reader, piece: &[u8], lines: &mut Vec<Line>) -> Result<(), Memory>
     ensures same { OnOk result (judges reader.new ≡ judges reader.old) }
     ensures lines { OnOk result ((past_lines : List Line) (text : List ℕ)
@@ -125,7 +125,7 @@ fn take_piece(reader: &mut Reader, piece: &[u8], lines: &mut Vec<Line>) -> Resul
     }
 }
 
-/// Returns why the reader goes no further, and the line of an incomplete happening.
+/// Returns the reason why the reader ended, if it did, and the line of an incomplete happening, if there is one.
 fn end_of(reader: &Reader) -> End
     ensures { (past_lines : List Line) (text : List ℕ) → length text < 2 ^ 64
         → HasLines reader.now past_lines text
@@ -140,7 +140,7 @@ fn end_of(reader: &Reader) -> End
     }
 }
 
-/// Passes the next piece of its text to a reader, and writes the lines for it.
+/// Passes the next piece of the text to a reader, and writes the lines for the piece.
 fn write_piece<S: LineSink>(
     reader: &mut Reader,
     alloc: Global,
@@ -162,8 +162,8 @@ fn write_piece<S: LineSink>(
     Ok(())
 }
 
-/// Writes the lines of the rest of a text, each as it comes, until the text ends or the reader goes no further. After
-/// 4,294,967,296 reads it fails with `FileTooLarge`.
+/// Writes the lines for the rest of a text, each immediately, until the text or the reader ends. Fails with
+/// `FileTooLarge` after 4,294,967,296 reads.
 fn write_lines<R: Read, S: LineSink>(
     from: &mut R,
     reader: &mut Reader,
@@ -192,7 +192,7 @@ fn write_lines<R: Read, S: LineSink>(
     Err(FollowFault::Unread(io::Error::from(ErrorKind::FileTooLarge)))
 }
 
-/// Passes the next piece of its text to a reader, and appends the lines for it to others.
+/// Passes the next piece of the text to a reader, and appends the lines for the piece to `lines`.
 fn add_piece(
     reader: &mut Reader,
     alloc: Global,
@@ -212,7 +212,7 @@ fn add_piece(
     Ok(())
 }
 
-/// Removes all lines but the last ones.
+/// Removes all lines except the last `count`.
 fn keep_last(lines: &mut Vec<Line>, count: usize) -> Result<(), Memory>
     ensures { OnOk result ((front : List Line) × (lines.old.items ≡ front ++ lines.new.items)
         × (length front ≡ length lines.old.items - count)) }
@@ -223,7 +223,7 @@ fn keep_last(lines: &mut Vec<Line>, count: usize) -> Result<(), Memory>
     Ok(())
 }
 
-/// Reads the existing part of a text, and keeps the last of its lines.
+/// Reads the existing part of a text, and keeps the last lines for it.
 fn take_there<R: LiveTrace>(
     from: &mut R,
     reader: &mut Reader,
@@ -251,7 +251,7 @@ fn take_there<R: LiveTrace>(
     Err(FollowFault::Unread(io::Error::from(ErrorKind::FileTooLarge)))
 }
 
-/// Allocates the reader of a text, and adds the lines of its first piece. Returns `None` if the text is empty.
+/// Allocates the reader for a text, and adds the lines for its first piece. Returns `None` if the text is empty.
 fn first_reader<R: Read>(
     from: &mut R,
     alloc: Global,
@@ -283,7 +283,7 @@ fn tell_part<E: Reporter>(path: &str, reader: &Reader, err: &mut E) {
     }
 }
 
-/// Writes the last lines of the existing part of a text, and all lines that follow.
+/// Writes the last lines for the existing part of a text, and all later lines.
 fn follow_last<R: LiveTrace, S: LineSink, E: Reporter>(
     from: &mut R,
     alloc: Global,
@@ -307,7 +307,7 @@ fn follow_last<R: LiveTrace, S: LineSink, E: Reporter>(
     write_lines(from, &mut reader, alloc, out)
 }
 
-/// Writes all lines of a text.
+/// Writes all lines for a text.
 fn follow_all<R: Read, S: LineSink>(
     from: &mut R,
     alloc: Global,
@@ -322,7 +322,7 @@ fn follow_all<R: Read, S: LineSink>(
     write_lines(from, &mut reader, alloc, out)
 }
 
-/// Writes the lines of a text, all of them or from the last ones of its existing part on.
+/// Writes all lines for a text, or only the last lines for its existing part and all later ones.
 fn follow<R: LiveTrace, S: LineSink, E: Reporter>(
     from: &mut R,
     alloc: Global,
@@ -342,7 +342,7 @@ fn follow<R: LiveTrace, S: LineSink, E: Reporter>(
     }
 }
 
-/// Writes the lines of a text in the same way, and returns the exit status.
+/// Writes the lines for a text as `follow` does, and returns the exit status.
 fn follow_text<R: LiveTrace, S: LineSink, E: Reporter>(
     from: &mut R,
     alloc: Global,

@@ -1,4 +1,4 @@
-//! Texts that may grow while they are read, and their writers.
+//! Texts that may grow during reading, and the programs that write them.
 
 ghost use Rattle.std.specs.Prelude.{◌≡◌, ◌≤◌, ◌++◌, List, length, take, IfOk, OnOk};
 ghost use Rattle.std.specs.Io.{ReadsAtMost};
@@ -19,14 +19,14 @@ use std::rt::{Clock, Files};
 use std::{fs, io};
 use trace_pieces::{PiecedFiles, TraceReader, is_given};
 
-/// Who writes a trace, according to its lock, which init holds while it writes.
+/// The writer of a trace, determined from its lock, which init holds while it writes.
 #[derive(Clone, Copy)]
 pub enum Writer {
     /// The trace has no lock: it is standard input, not a regular file, or on a file system without locks.
     Unknown,
-    /// No init, because the lock is free.
+    /// No init writes the trace, because the lock is free.
     Nobody,
-    /// An init, with the seconds since it last wrote.
+    /// An init writes the trace. It last wrote this number of seconds ago.
     Init(u64),
 }
 
@@ -39,28 +39,28 @@ pub trait LiveTrace: Read {
             (Self.remaining self.new) (take count buf.new)) };
 }
 
-/// Opens texts to follow them while they grow, knows their writers, and reads folders.
+/// Opens texts that may grow, determines their writers, and reads folders.
 ///
-/// In its contracts a path has a text, all of it, which ends, and a writer, if these are known.
+/// Contracts describe the complete text at a path, which is finite, and its writer, if these are known.
 pub trait LiveTraces {
     /// The text at a path, or `None` if it is not known.
     ghost text_at: { Self → KnownTexts };
 
-    /// Who writes the text at a path, or `None` if that is not known.
+    /// The writer of the text at a path, or `None` if it is not known.
     ghost writer_at: { Self → KnownWriters };
 
-    /// A text that is followed. A read waits for more bytes, and returns 0 if no more can come.
+    /// A text that may grow. A read waits for more bytes, and returns 0 if there can be no more.
     type Growing: LiveTrace + Drop;
 
     /// Opens the text at a path.
     fn open(&self, alloc: Global, path: &str) -> io::Result<Self::Growing>
         ensures { IfOk result (λ text. Self.Growing.remaining text ≡ text_at self.now path.now) };
 
-    /// Returns who writes the text at a path, according to its lock.
+    /// Returns the writer of the text at a path, determined from its lock.
     fn writer(&self, path: &str) -> Writer
         ensures { IsWriterAt (writer_at self.now) path.now result };
 
-    /// Appends the files of an inittab's folder, in init's order.
+    /// Appends the files of an inittab folder, in the order in which init reads them.
     fn add_folder(
         &self,
         alloc: Global,
@@ -70,13 +70,13 @@ pub trait LiveTraces {
         ensures { OnOk result ((more : List NamedText)
             × (parts.new.items ≡ parts.old.items ++ more)) };
 
-    /// Reports whether a program is found: in one of the folders, which are separated by colons, or at its path if that
-    /// begins with `/`. Any other path depends on the folder in which init is started, and is assumed to exist.
+    /// Reports whether a program exists: in one of the folders, which are separated by colons, or at its path if the path
+    /// begins with `/`. Any other path depends on the working directory of init, and is assumed to exist.
     fn has_program(&self, alloc: Global, folders: &str, program: &str) -> Result<bool, AllocError>;
 }
 
-/// The files of the operating system, which may grow while they are followed. A trace is read together with the earlier
-/// pieces of it. The contracts know neither the texts nor who writes them.
+/// The files of the operating system, which may grow while they are followed. A trace is read together with its earlier
+/// pieces. Contracts know neither the texts nor their writers.
 #[derive(Drop)]
 pub struct GrowingFiles<'a, R> {
     rt: &'a R,
@@ -98,8 +98,8 @@ impl<'a, R: Files<File = File> + Clock + Eprint> LiveTraces for GrowingFiles<'a,
 
     type Growing = GrowingFile<'a, R>;
 
-    /// Opens standard input for `-`. That, and paths below `/dev/` from the system or a shell, have an end. A file at
-    /// any other path is opened only if it is a regular one. It is read after its earlier pieces, and may grow.
+    /// Opens standard input for `-`. Standard input and files in `/dev/` are read to their end. Any other path must be a
+    /// regular file, which is read after its earlier pieces, and may grow.
     fn open(&self, alloc: Global, path: &str) -> io::Result<GrowingFile<'a, R>> {
         if is_given(path) {
             let path = if path == "-" { "/dev/stdin" } else { path };
@@ -109,8 +109,7 @@ impl<'a, R: Files<File = File> + Clock + Eprint> LiveTraces for GrowingFiles<'a,
         Ok(GrowingFile::Grows(files.open(path)?))
     }
 
-    /// Tries to take the lock in shared mode, so that other readers that try are not affected, and releases it
-    /// immediately.
+    /// Tries to take the lock in shared mode, which does not affect other readers, and releases it immediately.
     fn writer(&self, path: &str) -> Writer {
         if is_given(path) {
             return Writer::Unknown;
@@ -157,7 +156,7 @@ fn is_program(rt: &impl Files, path: &str) -> bool {
     }
 }
 
-/// Returns who writes a file.
+/// Returns the writer of a file.
 fn writer_of(rt: &impl Clock, file: &File) -> Writer {
     match file.metadata() {
         Ok(found) if found.is_file() => match file.try_lock_shared() {
@@ -180,17 +179,17 @@ fn seconds_since(rt: &impl Clock, found: &Metadata) -> u64 {
 /// The pause before a file is read again, in milliseconds.
 const PAUSE: i32 = 100;
 
-/// The maximum number of pauses, which take about thirteen years.
+/// The maximum number of pauses, which amounts to about thirteen years.
 const PAUSES_LIMIT: u64 = 4_294_967_296;
 
-/// A trace that is followed: one that has an end, or one that continues, also in files that later appear at its path.
+/// A followed trace: one that has an end, or one that may grow and continue in new files at its path.
 #[derive(Drop)]
 pub enum GrowingFile<'a, R> {
     Ends(File),
     Grows(TraceReader<'a, R>),
 }
 
-/// Waits for one pause, or until nothing reads standard output any more, and reports whether that happened.
+/// Waits for one pause, or until the reader of standard output is gone. Reports whether the reader is gone.
 fn no_reader_within_pause() -> bool {
     let mut asked = [pollfd {
         fd: 1,
@@ -200,8 +199,8 @@ fn no_reader_within_pause() -> bool {
     poll(&mut asked, PAUSE) > 0
 }
 
-/// Waits until there are bytes to read. Fails with `TimedOut` after 4,294,967,296 attempts, and with `BrokenPipe` if
-/// nothing reads standard output any more.
+/// Waits until there are bytes to read. Fails with `TimedOut` after 4,294,967,296 attempts, and with `BrokenPipe` if the
+/// reader of standard output is gone.
 fn wait_for_bytes<R: Files<File = File> + Eprint>(
     trace: &mut TraceReader<'_, R>,
     buf: &mut [u8],

@@ -1,4 +1,4 @@
-//! The `plan --trace` command: the plan of an inittab, and how long the entries that init waits for took in a trace.
+//! The `plan --trace` command: the plan of an inittab, and the times that its critical path took in a trace.
 
 ghost use Rattle.std.specs.Prelude.{◌≡◌, List, IfOk};
 ghost use Rattle.initview_command.specs.Words.{Event, marks_of};
@@ -62,7 +62,7 @@ impl Query for Timing {
     }
 }
 
-/// Answers with the plan of the files' inittab, and the times of its critical path in the trace.
+/// Returns the plan of the inittab in the files, and the times of its critical path in the trace.
 pub(crate) fn timing_answer<'a, T: Texts, G: LiveTraces>(
     texts: &T,
     growing: &G,

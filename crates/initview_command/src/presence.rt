@@ -1,4 +1,4 @@
-//! The present state of a trace.
+//! The current state of a trace.
 
 ghost use Rattle.std.specs.Prelude.{◌≡◌, ◌∷◌, ◌+◌, ◌-◌, ◌^◌, min, List, OnOk};
 ghost use Rattle.initview_command.specs.Words.{Clock, Event, time_of, Viewed};
@@ -12,7 +12,7 @@ use std::alloc::Global;
 use trace_events::{Happening, HappeningIn};
 use trace_view::{ObservedTrace, TraceObserver, ViewEnd};
 
-/// Shows the view a reading of the clock that is later by these seconds.
+/// Passes the view a reading of the clock that is later by this number of seconds.
 fn show_clock<S: TraceObserver<Global> + Drop>(
     text: &mut ObservedTrace<S>,
     seconds: u64,
@@ -27,7 +27,7 @@ fn show_clock<S: TraceObserver<Global> + Drop>(
     Ok(())
 }
 
-/// Shows the view the present state of the trace.
+/// Brings the view to the current state of the trace, by advancing its clock.
 pub(crate) fn show_present<S: TraceObserver<Global> + Drop>(
     text: &mut ObservedTrace<S>,
     writer: Writer,
@@ -42,7 +42,7 @@ pub(crate) fn show_present<S: TraceObserver<Global> + Drop>(
     }
 }
 
-/// Adds a remark if a trace that is shown to its end is not written any more.
+/// Adds a remark if the trace was read to its end and no init writes it any more.
 pub(crate) fn tell_writer(shown: &TraceOutcome, remarks: &mut Remarks) {
     if let (Writer::Nobody, None) = (shown.writer, shown.stop) {
         let path = shown.path;

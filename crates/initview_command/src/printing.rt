@@ -1,4 +1,4 @@
-//! Lines written to an output as text.
+//! Writes lines to an output as text.
 
 use initview_lines::{Line, LineSink, SinkFault, Zone, words_of};
 use jiff::Error;
@@ -11,7 +11,7 @@ use std::io;
 use std::io::{ErrorKind, Write};
 use std::rt::{Env, Files};
 
-/// The time zone of the system, and the zones that it may refer to.
+/// The time zone of the system, and the known zones.
 #[derive(Drop)]
 struct SystemZone {
     zone: SystemTimeZone,
@@ -19,8 +19,7 @@ struct SystemZone {
 }
 
 impl SystemZone {
-    /// Reads the zone that TZ names, or otherwise `/etc/localtime`. Returns `None` if there is neither, which means
-    /// UTC.
+    /// Reads the zone that TZ names, or else `/etc/localtime`. Returns `None` if neither exists, which means UTC.
     fn read<R: Env + Files + AllocGlobal + Clone + Drop>(
         rt: &R,
     ) -> Result<Option<SystemZone>, Error> {
@@ -38,7 +37,7 @@ impl SystemZone {
         Ok(Some(SystemZone { zone, known }))
     }
 
-    /// Returns the zone, which was read before.
+    /// Returns the zone that was read.
     fn zone(&self) -> Zone<'_> {
         match self.zone.time_zone(&self.known) {
             Ok(zone) => Zone::Local(zone),
@@ -47,8 +46,8 @@ impl SystemZone {
     }
 }
 
-/// An output to which lines are written as text, with the system that has its time zone. The contracts do not know what
-/// was written.
+/// An output that writes lines as text, in UTC or in the time zone of the system. Contracts do not know what it has
+/// written.
 #[derive(Drop)]
 pub struct Printed<'a, R, W: Write + Drop> {
     rt: &'a R,
@@ -59,7 +58,7 @@ pub struct Printed<'a, R, W: Write + Drop> {
 }
 
 impl<'a, R, W: Write + Drop> Printed<'a, R, W> {
-    /// Creates the output. Times are in UTC.
+    /// Creates an output that writes to `out`, with times in UTC.
     pub fn on(rt: &'a R, out: W) -> Printed<'a, R, W> {
         Printed {
             rt,
@@ -77,8 +76,8 @@ fn write_whole<W: Write>(out: &mut W, text: &[u8]) -> io::Result<()> {
     out.flush()
 }
 
-/// Reports whether standard output is a pipe that nobody reads any more. A terminal that hung up has POLLHUP in
-/// addition to POLLERR.
+/// Reports whether standard output is a pipe whose reader is gone. A terminal that hung up has POLLHUP in addition to
+/// POLLERR.
 fn is_pipe_without_reader() -> bool {
     let mut asked = [pollfd {
         fd: 1,
@@ -114,7 +113,7 @@ impl<R: Env + Files + AllocGlobal + Clone + Drop, W: Write + Drop> LineSink for 
         }
     }
 
-    /// Reports whether a failed write or the state of standard output shows that nobody reads the output any more.
+    /// Reports whether the reader of the output is gone, as shown by a failed write or the state of standard output.
     fn is_unread(&mut self) -> bool {
         self.is_unread = self.is_unread || is_pipe_without_reader();
         self.is_unread

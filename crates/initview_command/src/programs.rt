@@ -11,7 +11,7 @@ use std::alloc::Global;
 use std::str;
 use text_lines::first_line;
 
-/// Reports whether the program is in none of the folders. A name that is not UTF-8 is not searched for.
+/// Reports whether the program is in none of the folders. Does not search for a name that is not UTF-8.
 fn is_missing<G: LiveTraces>(
     growing: &G,
     alloc: Global,

@@ -1,4 +1,4 @@
-//! Reports of a rejected command line: the reason, what was probably meant, and the usage of the command.
+//! Reports about a rejected command line: the reason, a suggestion, and the usage of the command.
 
 ghost use Rattle.std.specs.Prelude.{◌≡◌, string_bytes, IfOk};
 ghost use Rattle.command_words.specs.declared.faults.WordFault.TheVariants.{Memory};
@@ -47,7 +47,7 @@ fn command_meant(name: &str) -> Option<&'static str> {
     None
 }
 
-/// Returns the line of usage of a command.
+/// Returns the usage line of a command.
 fn usage_of(name: &str) -> &'static str {
     for line in USAGE.lines() {
         let line = line.trim_start();
@@ -87,7 +87,7 @@ fn value_reason<'a>(matches: &ArgMatches<'a>) -> Option<(&'static str, &'a str, 
     }
 }
 
-/// Returns the argument that has to be an id.
+/// Returns the argument that must be an id, if the command has one.
 fn id_in<'a>(name: &str, words: &[&'a str]) -> Option<&'a str> {
     match (name, words) {
         ("why", [id, ..]) => Some(*id),
@@ -96,7 +96,7 @@ fn id_in<'a>(name: &str, words: &[&'a str]) -> Option<&'a str> {
     }
 }
 
-/// Returns what is wrong with the arguments of a command, and with the values of options.
+/// Returns the faults in the arguments of a command and in the values of its options.
 fn words_reason(
     alloc: Global,
     matches: &ArgMatches,
@@ -137,7 +137,7 @@ fn options_reason(
     Ok(reason)
 }
 
-/// Returns that there is no such command, and which one was probably meant.
+/// Returns the reason that there is no such command, and the command that was probably meant.
 fn command_reason(alloc: Global, name: &str) -> Result<String, AllocError> {
     match command_meant(name) {
         Some(meant) => format!(in alloc; "unknown command: {name}; did you mean {meant}?"),
@@ -145,7 +145,7 @@ fn command_reason(alloc: Global, name: &str) -> Result<String, AllocError> {
     }
 }
 
-/// Returns why the options and words, of which the first is the command, are rejected.
+/// Returns the reason for rejecting the options and arguments. The first argument is the command.
 fn refusal_of(alloc: Global, matches: &ArgMatches, words: &[&str]) -> Result<String, AllocError> {
     let [name, rest @ ..] = words else {
         return String::from_str(alloc, "missing argument");
@@ -157,7 +157,7 @@ fn refusal_of(alloc: Global, matches: &ArgMatches, words: &[&str]) -> Result<Str
     }
 }
 
-/// Reports why the options and words are rejected, and returns the exit status.
+/// Reports why the options and arguments are rejected, and returns the exit status.
 pub(crate) fn report_refusal<E: Reporter>(
     alloc: Global,
     matches: &ArgMatches,
@@ -197,7 +197,7 @@ pub(crate) fn report_fault<E: Reporter>(
     }
 }
 
-/// Reports a reason with the usage of the command of this name, or the whole usage if help is requested.
+/// Reports a reason and the usage of the command with this name, or the whole usage if help is requested.
 fn report_reason<E: Reporter>(alloc: Global, reason: &str, name: &str, err: &mut E) -> u8
     ensures { ReportsRefusal result (E.reports err.old) (E.reports err.new) }
 {

@@ -1,4 +1,4 @@
-//! The `diff --trace` command: what happens to the running children if init reads another inittab.
+//! The `diff --trace` command: the changes to the running children if init reads another inittab.
 
 ghost use Rattle.std.specs.Prelude.{◌≡◌, ◌∷◌, List, OnOk};
 ghost use Rattle.initview_command.specs.Words.{NewTable, Event, Viewed, gone_on, reloaded, with_request};
@@ -22,8 +22,8 @@ use std::alloc::Global;
 use trace_events::{Happening, HappeningIn};
 use trace_view::ObservedTrace;
 
-/// A query for what happens to the running children if init reads the new inittab in place of the old one and goes to
-/// the level.
+/// A query for the changes to the running children if init reads the new inittab in place of the old one and goes to the
+/// level.
 #[derive(Drop)]
 struct Reload {
     old: Table,
@@ -31,7 +31,7 @@ struct Reload {
     level: Option<Level>,
 }
 
-/// Shows the view a request for a level, if one is given.
+/// Passes the view a request for a level, if one is given.
 fn ask(text: &mut ObservedTrace<()>, level: Option<Level>) -> Result<(), Memory>
     ensures { OnOk result ((past : List Event) → Viewed text.old.viewing.viewing past
         → Viewed text.new.viewing.viewing (with_request level past)) }
@@ -45,7 +45,7 @@ fn ask(text: &mut ObservedTrace<()>, level: Option<Level>) -> Result<(), Memory>
     Ok(())
 }
 
-/// Shows the view that init continues to a level that is requested.
+/// Passes the view the next stage on the way to a requested level, if there is one.
 fn go_on(text: &mut ObservedTrace<()>) -> Result<(), Memory>
     ensures { OnOk result ((past : List Event) → Viewed text.old.viewing.viewing past
         → Viewed text.new.viewing.viewing (gone_on past)) }
@@ -67,8 +67,8 @@ fn show_table(alloc: Global, text: &mut ObservedTrace<()>, table: &Table) -> Res
     Ok(())
 }
 
-/// Shows the view that init reads an inittab, and continues to a level if one is given or was requested. No law ever
-/// forbids either.
+/// Passes the view a new inittab and, if a level is given or was requested, the next stage on the way to it. Neither can
+/// break a law.
 fn read_anew(
     alloc: Global,
     text: &mut ObservedTrace<()>,
@@ -104,7 +104,7 @@ impl Query for Reload {
     }
 }
 
-/// Answers what happens to the running children if init reads the second file in place of the first, and goes to the
+/// Returns the changes to the running children if init reads the second file in place of the first, and goes to the
 /// level.
 pub(crate) fn reload_answer<'a, T: Texts, G: LiveTraces>(
     texts: &T,

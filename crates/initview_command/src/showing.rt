@@ -18,7 +18,7 @@ use program_io::{DEVICE_FAULT, DONE, PieceTaker, REFUSED, Reporter, Reports, Tex
 use std::alloc::{AllocError, Global};
 use trace_view::{ObservedTrace, Row, TraceObserver, TraceView, ViewEnd};
 
-/// The trace at a path after it was shown, who writes it, and why it is shown no further.
+/// The result of reading a trace: its path, its writer, and the reason why the view ended, if it did.
 #[derive(Clone, Copy)]
 pub(crate) struct TraceOutcome<'a> {
     pub(crate) path: &'a str,
@@ -26,7 +26,7 @@ pub(crate) struct TraceOutcome<'a> {
     pub(crate) stop: Option<ViewEnd>,
 }
 
-/// Remarks that are reported before an answer is written.
+/// Remarks, which are reported before the answer.
 pub(crate) type Remarks = Reports<Vec<u8>>;
 
 /// The lines of an answer, and the exit status.
@@ -37,11 +37,11 @@ pub(crate) trait Query: Drop {
     /// The observer that sees the happenings for the query.
     type Seen: TraceObserver<Global> + Drop;
 
-    /// The lines and the exit status, for the path of the trace, who writes it, why it is shown no further, and its
-    /// past.
+    /// The lines and the exit status, given the path of the trace, its writer, the reason why the view ended, if it did,
+    /// and its past.
     ghost gives: { Self → List ℕ → Writer → Option ViewEnd → List Event → List Line × ℕ };
 
-    /// Adds remarks about the trace that the answer itself can't contain.
+    /// Adds remarks about the trace that are not part of the answer.
     fn remark(&self, _view: &TraceView, _shown: &TraceOutcome, _remarks: &mut Remarks) {}
 
     /// Returns the lines of the answer, and the exit status.
@@ -68,7 +68,7 @@ struct FileText<S: TraceObserver<Global> + Drop> {
     unpacker: Option<&'static str>,
 }
 
-/// Returns the program that unpacks a text that begins like this, if it is compressed.
+/// Returns the program that unpacks a text whose first piece is this one, if the text is compressed.
 fn unpacker(piece: &[u8]) -> Option<&'static str> {
     match piece {
         [0x1f, 0x8b, ..] => Some("zcat"),
@@ -78,8 +78,8 @@ fn unpacker(piece: &[u8]) -> Option<&'static str> {
     }
 }
 
-/// Allocates a text of which nothing was read or seen. It is on the heap because functions with such a text in their
-/// frame are expensive to prove.
+/// Allocates a text of which nothing has been read. It is on the heap because functions with such a text in their frame
+/// are expensive to prove.
 fn file_text<S: TraceObserver<Global> + Drop>(alloc: Global) -> Result<Box<FileText<S>>, Memory>
     ensures { IfOk result (λ file. HasSeenText S.has_seen file.value.text []) }
 {
@@ -108,7 +108,7 @@ impl<S: TraceObserver<Global> + Drop> PieceTaker for FileText<S> {
     }
 }
 
-/// Returns the exit status for a child that runs: 4, unknown, if no init writes the trace.
+/// Returns the exit status for a running child: 0, or 4 (unknown) if no init writes the trace.
 fn running_status(writer: Writer) -> u8
     ensures { result ≡ running_status writer }
 {
@@ -119,8 +119,8 @@ fn running_status(writer: Writer) -> u8
     }
 }
 
-/// Returns the exit status of `status` in the LSB: that of a running child for an id that has one, 3 for one that does
-/// not, 4 for one that the trace does not know.
+/// Returns the exit status that the LSB defines for `status`: `running_status` for an id with a child, 3 for an id without
+/// a child, and 4 for an id that the trace does not know.
 fn lsb_status(writer: Writer, row: &Row) -> u8
     ensures { result ≡ lsb_status writer row.now }
 {
@@ -133,7 +133,7 @@ fn lsb_status(writer: Writer, row: &Row) -> u8
     }
 }
 
-/// Returns the exit status for a trace that was shown to its end, or up to this point.
+/// Returns the exit status for a trace that was read to its end, or for which the view ended for this reason.
 pub(crate) fn stop_status(stop: Option<ViewEnd>) -> u8
     ensures { result ≡ stop_status stop }
 {
@@ -145,7 +145,7 @@ pub(crate) fn stop_status(stop: Option<ViewEnd>) -> u8
     }
 }
 
-/// Returns the exit status of an answer. That of a single id is unknown if the trace was not shown to its end.
+/// Returns the exit status of an answer. For a single id, it is 4 (unknown) if the trace was not read to its end.
 fn status_of(view: &TraceView, question: &TraceQuery, writer: Writer, stop: Option<ViewEnd>) -> u8
     ensures { (past : List Event) → Viewed view.now past
         → result ≡ status_by question.now writer stop past }
@@ -176,7 +176,7 @@ fn answer_lines(
     }
 }
 
-/// Adds a remark for each open start that says what to do.
+/// Adds a remark with advice for each open start.
 fn tell_starts(view: &TraceView, path: &str, remarks: &mut Remarks) {
     for entry in view.table().entries() {
         if is_starting(view, &entry.id) {
@@ -306,7 +306,7 @@ pub(crate) fn say_lines<S: LineSink, E: Reporter>(
     }
 }
 
-/// Reports up to which line a trace is shown, if not all of it is.
+/// Reports the line up to which a trace is shown, if that is not the whole trace.
 pub(crate) fn tell_stop<E: Reporter>(
     path: &str,
     stop: Option<ViewEnd>,

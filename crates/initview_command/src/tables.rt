@@ -51,7 +51,7 @@ fn read_named<'a, T: Texts>(
     Ok(parts)
 }
 
-/// Reads the files at the paths, in order, and after them those of a folder if one is given.
+/// Reads the files at the paths, in order, and then the files of a folder, if one is given.
 pub(crate) fn read_files<'a, T: Texts, G: LiveTraces>(
     texts: &T,
     growing: &G,
@@ -72,7 +72,7 @@ pub(crate) fn read_files<'a, T: Texts, G: LiveTraces>(
     }
 }
 
-/// Returns the exit status for what was found: 1 for faults, 2 for warnings only.
+/// Returns the exit status for the result: 1 for faults, 2 for warnings only, otherwise 0.
 fn found_status(found: Findings) -> u8
     ensures { result ≡ found_status found }
 {
@@ -83,7 +83,7 @@ fn found_status(found: Findings) -> u8
     }
 }
 
-/// Adds a remark that init ignores lines of an inittab, and which command lists them.
+/// Adds a remark that init ignores lines of an inittab, with the command that lists them.
 fn tell_faulty(parts: &[Part], faults: &[PartFault], remarks: &mut Remarks) {
     let count = faults.len();
     if let (Some(part), true) = (parts.first(), count > 0) {
@@ -115,7 +115,7 @@ pub(crate) fn table_in(
     }
 }
 
-/// Returns the level that a command is about: the given one, otherwise the table's default, otherwise S.
+/// Returns the level for a command: the given level, or else the table's default, or else S.
 pub(crate) fn level_asked(level: Option<Level>, table: &Table) -> Level
     ensures { result ≡ level_asked level table.now }
 {
@@ -125,7 +125,7 @@ pub(crate) fn level_asked(level: Option<Level>, table: &Table) -> Level
     }
 }
 
-/// Returns the faults and warnings of an inittab, with further warnings, and the exit status.
+/// Returns the faults and warnings of an inittab, including the given warnings, and the exit status.
 fn lint_answer(alloc: Global, parts: &[Part], missing: &[LineWarning]) -> Result<Answer, TableFault>
     ensures told { IfOk result (λ given. (given.0.items ≡ (lint_by parts.now missing.now).0)
         × (given.1 ≡ (lint_by parts.now missing.now).1)) }
@@ -149,8 +149,8 @@ fn after_first(parts: &[Part]) -> &[Part]
     }
 }
 
-/// Returns the files of the old inittab of a diff as a slice. The first two files are swapped for that, because both
-/// tables continue in the files after them.
+/// Returns the files of the old inittab of a diff as a slice. To do so, it swaps the first two files, because both
+/// inittabs continue in the files after them.
 #[tactic(auto, using(crate::proofs::Files::old_short, crate::proofs::Files::old_swapped))]
 fn old_of(parts: &mut [Part]) -> &[Part]
     ensures { result.now ≡ old_of parts.old }
@@ -162,7 +162,7 @@ fn old_of(parts: &mut [Part]) -> &[Part]
     after_first(parts)
 }
 
-/// Returns what an inittab starts on the way to a level.
+/// Returns the lines for the entries that init starts on the way to a level.
 pub(crate) fn plan_of(
     alloc: Global,
     level: Option<Level>,

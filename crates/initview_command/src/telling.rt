@@ -20,9 +20,9 @@ pub(crate) enum Refusal<'a> {
     Unread(&'a str, io::Error),
     /// A folder with files of inittabs can't be read.
     Folder(FolderFault),
-    /// The trace at a path is compressed; this program unpacks it.
+    /// The trace at a path is compressed. The second value is the program that unpacks it.
     Packed(&'a str, &'static str),
-    /// The trace begins in the middle of a run, as a remark says.
+    /// The trace begins in the middle of a run. A remark reports this.
     Within,
     /// The files are not an inittab.
     Table(TableFault),
@@ -86,8 +86,8 @@ fn report_no_table<E: Reporter>(fault: TableFault, err: &mut E) -> u8
     }
 }
 
-/// Reports why not all lines were written, and returns the exit status. If nobody reads the output any more, nothing is
-/// reported.
+/// Reports why not all lines were written, and returns the exit status. If the reader of the output is gone, reports
+/// nothing.
 pub(crate) fn report_unsaid<S: LineSink, E: Reporter>(
     fault: SinkFault,
     out: &mut S,
@@ -103,7 +103,7 @@ pub(crate) fn report_unsaid<S: LineSink, E: Reporter>(
     }
 }
 
-/// Does the same for an output that failed.
+/// Reports that the output failed, unless its reader is gone, and returns the exit status.
 fn report_unwritten<S: LineSink, E: Reporter>(out: &mut S, err: &mut E) -> u8
     ensures ends { EndsUnwritten result (S.said out.new) }
     ensures said { WritesNothing (S.said out.old) (S.said out.new) }

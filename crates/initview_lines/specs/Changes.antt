@@ -1,4 +1,4 @@
--- What happens to the entries of an inittab in a level if another one replaces it (inittab(5), init(8)).
+-- The changes to the entries in a level when another inittab replaces the one in force (inittab(5), init(8)).
 use Rattle.std.specs.Prelude.{ℕ, Bool, false, ◌&&◌, if◌then◌else◌, List, ◌∷◌, ◌++◌, filter, map, Option, Some, None}
 use Rattle.std.specs.Prelude.{is_none}
 use Rattle.std.specs.List.{list_any}
@@ -13,12 +13,12 @@ use Rattle.initview_lines.specs.declared.changes.Change.TheVariants.{NotHere}
 use Rattle.initview_lines.specs.declared.lines.Line.{Line}
 use Rattle.initview_lines.specs.declared.lines.Line.TheVariants as line
 
--- there is an entry, which is started by itself in the level
+-- the entry exists, and init starts it in the level without any request
 abbrev pub starts_there : Level → Option Entry → Bool
 starts_there level None = false
 starts_there level (Some e) = is_started (Run level) e
 
--- the entry has a child: a stage on the way to the level starts it by itself, and its child may live in the level
+-- the entry has a child: a stage on the way to the level starts it without any request, and its child may live there
 abbrev pub is_there : Level → Option Entry → Bool
 is_there level None = false
 is_there level (Some e) = list_any (λ stage. is_started stage e) (stages_to level) && lives_of e (Run level)
@@ -32,9 +32,9 @@ abbrev pub same_process : Option Entry → Option Entry → Bool
 same_process (Some old) (Some new) = bytes_eq old.process.items new.process.items
 same_process _ _ = false
 
--- A child that may live by the new inittab is kept; if the process is another one, that is run at its next start. A
--- child that may not live is stopped, and the entry is started again if it starts in the level. An entry without a
--- child is started if it starts in the level.
+-- Init keeps a child that may live under the new inittab; if its process field has changed, the next start uses the new
+-- one. Init stops a child that may not live, and starts the entry again if it starts in the level. Init starts an entry
+-- without a child if it starts in the level.
 abbrev pub change_in : Level → Option Entry → Option Entry → Change
 change_in level old new =
     if is_there level old then
@@ -42,7 +42,7 @@ change_in level old new =
     else (if starts_there level new then StopStart else Stop)
     else (if starts_there level new then Start else NotHere)
 
--- what happens to an id: its action in the new inittab, and its change
+-- the line for an id: its action in the new inittab, and its change
 abbrev pub change_line : Level → List Entry → List Entry → List ℕ → Line
 change_line level old new id =
     line.Change id (act_there (entry_of id new)) (change_in level (entry_of id old) (entry_of id new)) None
@@ -54,7 +54,7 @@ entry_change level old new e = change_line level old new e.id
 abbrev pub is_gone : List Entry → Entry → Bool
 is_gone table e = is_none (entry_of e.id table)
 
--- the level, then the entries of the new inittab in order, then the old entries that the new inittab lacks
+-- the lines for the level, for the entries of the new inittab in order, and for the old entries that it lacks
 abbrev pub changes_in : Level → List Entry → List Entry → List Line
 changes_in level old new =
     line.Stage (Some (Run level)) ∷ map (entry_change level old new) (new ++ filter (is_gone new) old)

@@ -1,4 +1,4 @@
--- The news in the happenings of a trace, for an operator.
+-- The messages about the happenings of a trace that an operator sees.
 use Rattle.std.specs.Prelude.{ℕ, List, [], ◌∷◌, ◌++◌, length, Option, Some, None}
 use Rattle.std.specs.Option.{option_map}
 use Rattle.initview_lines.specs.CommonWords.{NewTable, NotRead, Enter, Call, Power, Hold, Settle, Birth, NoBirth}
@@ -13,9 +13,9 @@ use Rattle.initview_lines.specs.declared.lines.Line.TheVariants as line
 abbrev pub child_number : List ℕ → List Event → Option ℕ
 child_number id past = option_map number_of (child_of id past)
 
--- The news in a happening after this past. A signal is named by the open order. There is no news in an order, because
--- the action on it is news; in a death, because the reaping is; in a look that found its child alive; in an answer that
--- reached init; in a reading of the clock; and in a round.
+-- The message about a happening after this past. The open order names a signal. There is no message about an order,
+-- because the act that answers it has one; about a death, because the reaping has one; and about a look that found its
+-- child alive, `told`, a reading of the clock and a round.
 abbrev pub news_of : Event → List Event → Option News
 news_of (NewTable table) past = Some (news.Table (length table))
 news_of NotRead past = Some news.NotRead
@@ -34,16 +34,16 @@ news_of (Got request) past = Some (news.Got request)
 news_of (Handed how) past = Some (news.Handed how)
 news_of _ past = None
 
--- the line for news at a time
+-- the line for a message at this time, if there is one
 abbrev pub line_at : ℕ → Option News → List Line
 line_at time None = []
 line_at time (Some told) = line.Happened time told ∷ []
 
--- the line for the news in a happening
+-- the line for the message about a happening, if there is one
 abbrev pub happening_lines : Event → List Event → List Line
 happening_lines happening past = line_at (time_of (happening ∷ past)) (news_of happening past)
 
--- the news in all happenings of a past, the oldest first
+-- the lines for all happenings of a past, oldest first
 abbrev pub follow_in : List Event → List Line
 follow_in [] = []
 follow_in (happening ∷ past) = follow_in past ++ happening_lines happening past

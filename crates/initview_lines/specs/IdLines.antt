@@ -1,4 +1,4 @@
--- The lines of an inittab's files that have an id: the position of each, and its text or why it is ignored.
+-- The lines of an inittab's files that have a given id: the position of each, and its text or the reason to ignore it.
 use Rattle.std.specs.Prelude.{ℕ, Bool, ◌+◌, ◌&&◌, ◌==◌, if◌then◌else◌, List, [], ◌∷◌, ◌++◌, find, Option, Some, None}
 use Rattle.std.specs.Str.{bytes_eq}
 use Rattle.text_lines.specs.Lines.{cut, lines_of, skip_blanks}
@@ -33,23 +33,23 @@ abbrev pub own_line : List ℕ → List PartFault → ℕ → NamedText → ℕ 
 own_line id faults part file number line =
     if bytes_eq (id_written line) id then line_told file number line (fault_at faults part number) ∷ [] else []
 
--- the messages about the lines of a file, of which the first has this number; lines are counted from 1
+-- the messages about the lines of a file; lines are numbered from `number`
 abbrev pub own_lines : List ℕ → List PartFault → ℕ → NamedText → ℕ → List (List ℕ) → List Line
 own_lines id faults part file number [] = []
 own_lines id faults part file number (line ∷ lines) =
     own_line id faults part file number line ++ own_lines id faults part file (number + 1) lines
 
--- the messages about the lines of several files, of which the first has this number; files are counted from 0
+-- the messages about the lines of several files; files are numbered from `part`
 abbrev pub lines_from : List ℕ → List PartFault → ℕ → List NamedText → List Line
 lines_from id faults part [] = []
 lines_from id faults part (file ∷ files) =
     own_lines id faults part file 1 (lines_of file.bytes) ++ lines_from id faults (part + 1) files
 
--- the lines, or if there are none a message that no line has the id
+-- the lines, or if there are none, a message that no line has the id
 abbrev pub or_none : List ℕ → List NamedText → List Line → List Line
 or_none id files lines = lines ++ note_if (is_empty lines) files (told.NoLine id)
 
--- the messages about the lines of the id, given the reader's faults
+-- the messages about the lines of the id, given the faults that the reader found
 abbrev pub lines_by : List ℕ → List PartFault → List NamedText → List Line
 lines_by id faults files = or_none id files (lines_from id faults 0 files)
 

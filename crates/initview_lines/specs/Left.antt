@@ -1,4 +1,4 @@
--- What is left of a run: the children that were born and not reaped, and the entries whose start is open.
+-- The remains of a run: the children that were born and not reaped, and the entries whose start is open.
 use Rattle.std.specs.Prelude.{Bool, true, false, List, ◌++◌, filter, map, ℕ, Option, Some, None}
 use Rattle.initview_lines.specs.CommonWords.{Entry, Event, Child, table_of, unreaped_children, Row, row_of}
 use Rattle.init_words.specs.declared.orders.OrderKind.{OrderKind}
@@ -18,15 +18,15 @@ abbrev pub is_unanswered : Option ℕ → Option OrderKind → Bool
 is_unanswered None (Some Start) = true
 is_unanswered _ _ = false
 
--- a start of the id is open, and it has no child
+-- a start of the id is open, and the id has no child
 abbrev pub is_starting : Row → Bool
 is_starting row = is_unanswered row.child row.order
 
--- a start of the entry is open, and it has no child
+-- a start of the entry is open, and the entry has no child
 abbrev pub is_open : List Event → Entry → Bool
 is_open past entry = is_starting (row_of entry.id past)
 
--- the children, the youngest first, then the open starts, in the order of the table
+-- the lines for the unreaped children, youngest first, then for the open starts, in table order
 abbrev pub left_in : RowFormat → List Event → List Line
 left_in shape past =
     map (child_line shape) (unreaped_children past) ++ map (start_line shape) (filter (is_open past) (table_of past))

@@ -52,27 +52,27 @@ line_at number text = line_begun (after_lines (number - 1) text)
 abbrev pub IsCursor : List NamedText → Cursor → Type 0
 IsCursor parts cursor = after_lines cursor.before (text_of (slice_get parts cursor.part)) ≡ Some cursor.rest.now
 
--- the id or the action of an entry, if a check of it fails
+-- the id or the action of an entry, if the fault is in that field
 abbrev pub field_of : LineKind → FieldBytes → List ℕ
 field_of kind.Id f = f.id
 field_of kind.Twice f = f.id
 field_of kind.Action f = f.action
 field_of _ f = []
 
--- the field at fault in a line; empty if it does not have the fields of an entry
+-- the faulty field of a line; empty if the line has too few fields
 abbrev pub field_in : LineKind → Option FieldBytes → List ℕ
 field_in kind fields = option_map_or (field_of kind) fields []
 
--- the action that was probably meant
+-- the action that was probably meant, if the fault is an unknown action
 abbrev pub meant_for : LineKind → List ℕ → Option Act
 meant_for kind.Action word = meant word
 meant_for _ word = None
 
--- an ignored line: its number, the first check that it fails, the field at fault and the action that was probably meant
+-- an ignored line: its number, the first check that it fails, the faulty field, and the action that was probably meant
 abbrev pub left_out : PartFault → List ℕ → FileLine
 left_out fault field = told.LeftOut fault.line fault.kind field (meant_for fault.kind field)
 
--- the message about an ignored line with this text
+-- the message about an ignored line, given the text of the line
 abbrev pub told_of : Option NamedText → PartFault → List ℕ → Line
 told_of part fault line = File (name_of part) (left_out fault (field_in fault.kind (fields_of (skip_blanks line))))
 
@@ -111,8 +111,8 @@ note_if so parts note = if so then File (name_of (slice_get parts 0)) note ∷ [
 abbrev pub serves : List Entry → Bool
 serves table = option_map_or (λ level. list_any (λ e. starts_of e (Run level)) table) (default_level_of table) false
 
--- all messages, in this order: ignored lines that begin with an id; that lines begin without one; warnings; that no
--- entry starts in the default level
+-- all messages, in order: the ignored lines that have an id; a message if lines have no id; the warnings; and a message if
+-- no entry starts in the default level
 abbrev pub lint_lines : List NamedText → List PartFault → List LineWarning → List Entry → List Line
 lint_lines parts faults warnings table =
     map (fault_line_of parts) (filter (λ fault. not (is_nameless parts fault)) faults)
@@ -120,19 +120,19 @@ lint_lines parts faults warnings table =
     ++ (map (warning_line parts) warnings
     ++ note_if (not (serves table)) parts (told.Default (default_level_of table))))
 
--- what was found: any fault comes before any warning
+-- the overall result: faults take precedence over warnings
 abbrev pub found_by : List PartFault → List LineWarning → Bool → Findings
 found_by (fault ∷ faults) warnings served = found.Faults
 found_by [] (warning ∷ warnings) served = found.Warnings
 found_by [] [] served = if served then found.Nothing else found.Warnings
 
--- the messages, and what was found
+-- the messages and the overall result
 abbrev pub lint_by : List NamedText → List PartFault → List LineWarning → List Entry → List Line × Findings
 lint_by parts faults warnings table =
     (lint_lines parts faults warnings table, found_by faults warnings (serves table))
 
--- the result for files: the faults of the reader, the warnings that apply and the further ones, and the default level
--- of their table
+-- the messages and the result for these files: the faults that the reader found, the warnings that apply followed by the
+-- given ones, and the default level of the table
 abbrev pub lint_in : List NamedText → List LineWarning → List Line × Findings
 lint_in parts more =
     lint_by parts (faults_of_parts (texts_of parts)) (warnings_of (texts_of parts) ++ more)

@@ -1,16 +1,16 @@
--- The entries that init starts by itself, that is, without a call, on its way to a level, in order; and the critical
--- path (inittab(5), init(8)).
+-- The entries that init starts on its way to a level without any request, in order; and the critical path (inittab(5),
+-- init(8)).
 use Rattle.std.specs.Prelude.{ℕ, List, [], ◌∷◌, ◌++◌, map, Option, Some, None}
 use Rattle.initview_lines.specs.CommonWords.{Entry, Level, Stage, waited_of, critical_path, started_in, stages_to}
 use Rattle.initview_lines.specs.declared.lines.Line.{Line}
 use Rattle.initview_lines.specs.declared.lines.Line.TheVariants as line
 use Rattle.initview_lines.specs.declared.plans.Waited.{Waited}
 
--- an entry that is started, and whether init waits for its child's end before it continues
+-- an entry that init starts, and whether init waits for its child to end before it continues
 abbrev pub start_line : Entry → Line
 start_line e = line.Start e.id e.act (waited_of e)
 
--- a stage, and the entries that it starts by itself
+-- a stage, followed by the entries that init starts in it
 abbrev pub stage_lines : List Entry → Stage → List Line
 stage_lines table stage = line.Stage (Some stage) ∷ map start_line (started_in table stage)
 
@@ -36,7 +36,7 @@ abbrev pub last_of : Option (List ℕ) → List Waited → Option (List ℕ)
 last_of before [] = before
 last_of before (w ∷ ws) = last_of (Some w.id) ws
 
--- a path, and after its last entry the level
+-- the lines for a path, and for the level after its last entry
 abbrev pub path_in : Level → List Waited → List Line
 path_in level path = line.CriticalPath ∷ (path_lines None path ++ line.Reached level (last_of None path) ∷ [])
 

@@ -1,4 +1,4 @@
--- Why an id is not started next, and what to do.
+-- The reason why an id is not started next, and advice about it.
 use Rattle.std.specs.Prelude.{ℕ, if◌then◌else◌, List, [], ◌∷◌, ◌++◌, Option, None}
 use Rattle.init_words.specs.Ids.{same_id}
 use Rattle.initview_lines.specs.CommonWords.{Event, stage_of, Why, line_at_fault, row_of}
@@ -10,18 +10,18 @@ use Rattle.initview_lines.specs.declared.reasons.Chain.{Chain}
 use Rattle.initview_lines.specs.declared.reasons.Link.{Link}
 use Rattle.initview_lines.specs.Rows.{id_row}
 
--- the root cause: the id that init waits for, which itself waits for none before it; otherwise the id itself
+-- the root cause: the id of the entry that init waits for, if there is one; otherwise the id itself
 abbrev pub root_of : List ℕ → Why → List ℕ
 root_of id (why.StageOwed awaited) = awaited
 root_of id (why.EarlierOwed earlier) = earlier
 root_of id _ = id
 
--- the id whose child is stopped before an id is started: the one that has to end first; otherwise the id itself
+-- the id whose child must end before init can start this one, if that is the reason; otherwise the id itself
 abbrev pub stopped_of : List ℕ → Why → List ℕ
 stopped_of id (why.ExcludedKept child) = child.id
 stopped_of id _ = id
 
--- an id with the line of the trace that causes its reason
+-- an id, with the line of the trace that explains its reason
 abbrev pub link_of : List ℕ → List Event → Link
 link_of id past = record { id = id; line = line_at_fault id (why_of id past) past }
 
@@ -29,13 +29,13 @@ link_of id past = record { id = id; line = line_at_fault id (why_of id past) pas
 abbrev pub chain_of : List ℕ → List Event → Chain
 chain_of id past = record { asked = link_of id past; root = link_of (root_of id (why_of id past)) past }
 
--- the line that causes the reason; none if nothing keeps the id back any more, which can change as time passes
+-- the line that explains the reason; none if there is no reason any more, which can happen as time passes
 abbrev pub fault_line : Why → Option ℕ → Option ℕ
 fault_line why.Nothing line = None
 fault_line _ line = line
 
--- why an id is not started next, the state of the child that is stopped first, and the line of the trace with this name
--- that causes the reason
+-- the reason why an id is not started next, the state of the child that must end first, and the line of the trace with
+-- this name that explains the reason
 abbrev pub reason_line : List ℕ → Link → List Event → Line
 reason_line name link past = line.Why (record {
   at = id_row past link.id;
@@ -45,16 +45,16 @@ reason_line name link past = line.Why (record {
   line = fault_line (why_of link.id past) link.line;
 })
 
--- what to do, which depends on the stage, the action and the reason
+-- the advice, which depends on the stage, the action and the reason
 abbrev pub advice_line : List ℕ → List Event → Line
 advice_line id past = line.Advice (stage_of past) (row_of id past).act (why_of id past)
 
--- the reason for the id, if another one is its root cause
+-- the reason for the id, if its root cause is another id
 abbrev pub asked_lines : List ℕ → Chain → List Event → List Line
 asked_lines name chain past =
     if same_id chain.asked.id chain.root.id then [] else reason_line name chain.asked past ∷ []
 
--- the reason for the id, if another one is its root cause; the reason for the root cause; and what to do about that
+-- the reason for the id, if its root cause is another id; the reason for the root cause; and the advice about that
 abbrev pub why_in : List ℕ → Chain → List Event → List Line
 why_in name chain past =
     asked_lines name chain past ++ (reason_line name chain.root past ∷ advice_line chain.root.id past ∷ [])

@@ -1,5 +1,4 @@
--- What happens to each id if init, in the state after a past, reads another inittab now (inittab(5), init(8),
--- telinit(8)).
+-- The change to each id if init reads another inittab in the state after a past (inittab(5), init(8), telinit(8)).
 use Rattle.std.specs.Prelude.{ℕ, Bool, true, false, not, ◌&&◌, ◌||◌, if◌then◌else◌, List, ◌∷◌, ◌++◌, filter, map}
 use Rattle.std.specs.Prelude.{Option, Some, None, is_none}
 use Rattle.std.specs.Option.{option_map, option_map_or}
@@ -15,21 +14,21 @@ use Rattle.initview_lines.specs.declared.lines.Line.{Line}
 use Rattle.initview_lines.specs.declared.lines.Line.TheVariants as line
 use Rattle.initview_lines.specs.Changes.{is_gone, same_process}
 
--- a request for a level, if one is given
+-- the past after init receives a request for a level, if one is given
 abbrev pub with_request : Option Level → List Event → List Event
 with_request None past = past
 with_request (Some level) past = Got (got.Level level (grace_of past)) ∷ past
 
--- init enters a stage, if there is a next one
+-- the past after init enters this stage, if one is given
 abbrev pub entered : Option (Stage × ℕ) → List Event → List Event
 entered None past = past
 entered (Some next) past = Enter next.0 next.1 ∷ past
 
--- init enters the next stage, if there is one
+-- the past after init enters the next stage, if there is one
 abbrev pub gone_on : List Event → List Event
 gone_on past = entered (next_stage past) past
 
--- init reads an inittab, as for telinit q, after a request for a level if one is given
+-- the past after init reads an inittab, as for telinit q; if a level is given, init receives a request for it first
 abbrev pub read_again : List Entry → Option Level → List Event → List Event
 read_again table level past = NewTable table ∷ with_request level past
 
@@ -37,59 +36,59 @@ read_again table level past = NewTable table ∷ with_request level past
 abbrev pub reloaded : List Entry → Option Level → List Event → List Event
 reloaded table level past = gone_on (read_again table level past)
 
--- The definitions below are about a past in which the inittab was just read, so no entry is called (`is_called`).
+-- The definitions below are for a past in which init has just read the inittab, so no entry is called (`is_called`).
 
--- the entry starts in the stage in force, and its action wants a start if it was not started yet
+-- the entry starts in the stage in force, and its action asks for a start if the entry was not started yet
 abbrev pub starts_itself : Entry → List Event → Bool
 starts_itself e past = starts_now e past && wanted_by e.act true true false
 
--- its action wants a start when it has no child
+-- the action asks for a start if the entry has no child
 abbrev pub asks_anew : Entry → List Event → Bool
 asks_anew e past = wanted_by e.act true (not (is_asked e.id past)) false
 
--- what happens to an entry without a child
+-- the change to an entry without a child
 abbrev pub idle_entry : List Event → Entry → Change
 idle_entry past e = if starts_itself e past then (if asks_anew e past then Start else NotAgain) else NotHere
 
--- what happens to an id without a child
+-- the change to an id without a child
 abbrev pub idle_change : List Event → List ℕ → Change
 idle_change past id = option_map_or (idle_entry past) (entry_of id (table_of past)) NotHere
 
--- what happens to a child that is stopped, given what happens to its id afterwards
+-- the change for a child that is stopped, given the change to its id without a child
 abbrev pub stopped_change : Change → Change
 stopped_change Start = StopStart
 stopped_change _ = Stop
 
--- what happens to a child that keeps running, given whether its process is the same
+-- the change for a child that keeps running, given whether the process field is the same
 abbrev pub kept_change : Bool → Change
 kept_change same = if same then Keep else NextStart
 
--- what happens to a child: it is stopped if it is excluded (`is_excluded`) by the table and the stage in force;
--- otherwise it keeps running, and the processes of the old and the new inittab are compared
+-- the change for a child: if it is excluded (`is_excluded`) by the table and the stage in force, it is stopped; otherwise
+-- it keeps running, and the change depends on whether the two inittabs have the same process field
 abbrev pub child_change : List Entry → List Event → List ℕ → Child → Change
 child_change old past id child =
     if is_excluded past child then stopped_change (idle_change past id)
     else kept_change (same_process (entry_of id old) (entry_of id (table_of past)))
 
--- what happens to an id: to its unreaped child if it has one
+-- the change to an id, which is the change for its unreaped child if it has one
 abbrev pub change_now : List Entry → List Event → List ℕ → Change
 change_now old past id = option_map_or (child_change old past id) (child_of id past) (idle_change past id)
 
--- the same for an entry without a child, from what a view keeps: whether it starts in the stage, and whether it is
--- wanted
+-- the change to an entry without a child, computed from the state of a view: whether the entry starts in the stage, and
+-- whether it is wanted
 abbrev pub idle_by : Act → Bool → Bool → Change
 idle_by action starts wanted =
     if starts && wanted_by action true true false then (if is_limited action || wanted then Start else NotAgain)
     else NotHere
 
--- the same for an id, from what a view keeps: its child's number, whether that child is excluded, what would happen
--- without a child, and whether its process is the same
+-- the change to an id, computed from the state of a view: the number of its child, whether the child is excluded, the
+-- change without a child, and whether the process field is the same
 abbrev pub change_by : Option ℕ → Bool → Change → Bool → Change
 change_by None excluded idle same = idle
 change_by (Some number) excluded idle same =
     if excluded then stopped_change idle else kept_change same
 
--- what happens to an id: its action in the new inittab, its change, and its child's number
+-- the line for an id: its action in the new inittab, its change, and the number of its child
 abbrev pub line_now : List Entry → List Event → List ℕ → Line
 line_now old past id =
     line.Change id (act_of id (table_of past)) (change_now old past id) (option_map number_of (child_of id past))
@@ -101,8 +100,8 @@ entry_now old past e = line_now old past e.id
 abbrev pub is_new : List Entry → List ℕ → Bool
 is_new table id = is_none (entry_of id table)
 
--- the stage, the entries of the new inittab in order, the old entries that the new inittab lacks, and the children that
--- have an entry in neither
+-- the lines for the stage, for the entries of the new inittab in order, for the old entries that it lacks, and for the
+-- children that have an entry in neither inittab
 abbrev pub reload_in : List Entry → List Event → List Line
 reload_in old past =
     line.Stage (stage_of past)

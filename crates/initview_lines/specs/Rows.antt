@@ -30,7 +30,7 @@ head_of past = record {
 abbrev pub runs_at : ℕ → Option Births → Option ℕ
 runs_at now births = option_map (λ (b : Births). now - b.latest) births
 
--- the time since init was told that SIGTERM was sent, and the time until SIGKILL is sent
+-- the time since init learned that SIGTERM was sent, and the time until SIGKILL is due
 abbrev pub stopping_at : ℕ → ℕ → Option ℕ → Option Stopping
 stopping_at now grace told = option_map (λ t. record { term = now - t; kill = grace - (now - t) }) told
 
@@ -43,7 +43,7 @@ held_at now _ = None
 abbrev pub ended_at : ℕ → Option Ending → Option ℕ
 ended_at now last = option_map (λ (e : Ending). now - e.time) last
 
--- the state of an id, from what a view keeps of it
+-- the state of an id, computed from the state of a view
 abbrev pub row_by : ℕ → ℕ → List ℕ → Row → IdRow
 row_by now grace id row = record {
   id = id;
@@ -64,8 +64,8 @@ row_at shape past id = line.Row shape (id_row past id)
 abbrev pub entry_row : RowFormat → List Event → Entry → Line
 entry_row shape past entry = row_at shape past entry.id
 
--- the states of init, of the entries in the order of the table, and of the ids whose child outlives its entry, the
--- youngest first
+-- the states of init, of the entries in table order, and of the ids that have a child but no entry any more, youngest
+-- child first
 abbrev pub status_in : RowFormat → List Event → List Line
 status_in shape past =
     line.Head shape (head_of past)

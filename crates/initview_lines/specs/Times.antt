@@ -1,5 +1,4 @@
--- How long the entries that init waits for on the critical path to a level took in a trace, each from its first birth
--- to its end.
+-- The times that the entries of the critical path to a level took in a trace, each from its first birth to its end.
 use Rattle.std.specs.List.{fold}
 use Rattle.std.specs.Prelude.{ℕ, ◌-◌, ◌&&◌, ◌==◌, max, nat_lt, if◌then◌else◌, List, [], ◌∷◌, ◌++◌, map, Option, Some}
 use Rattle.std.specs.Prelude.{None}
@@ -25,12 +24,12 @@ first_of (life ∷ lives) = Some life
 abbrev pub timed_of : List TimelineMark → Waited → Timed
 timed_of marks w = record { entry = w; life = first_of (lives_of (marks_for (Some w.id) marks)) }
 
--- the seconds from a birth to an end, or 0 if there is none
+-- the seconds from a birth to an end, or 0 if there is no end
 abbrev pub seconds_to : ℕ → Option Ending → ℕ
 seconds_to from None = 0
 seconds_to from (Some ending) = ending.time - from
 
--- the seconds of a life that ended, and 0 for any other
+-- the duration of a life that has ended, in seconds; otherwise 0
 abbrev pub seconds_of : Option Life → ℕ
 seconds_of None = 0
 seconds_of (Some life) = seconds_to life.from life.end
@@ -43,17 +42,17 @@ sum_of timed = fold (λ sum (t : Timed). plus sum (seconds_of t.life)) 0 timed
 abbrev pub longest_of : List Timed → ℕ
 longest_of timed = fold (λ longest (t : Timed). max longest (seconds_of t.life)) 0 timed
 
--- how many seconds an entry took, and whether they are the longest
+-- the seconds that an entry took, and whether no entry took longer
 abbrev pub seconds_took : ℕ → ℕ → TimeTaken
 seconds_took longest seconds =
     if nat_lt 0 seconds && seconds == longest then took.Longest seconds else took.Seconds seconds
 
--- how long a child took, or that it still runs
+-- the time that a child took, or that it is still running
 abbrev pub end_took : ℕ → ℕ → Option Ending → TimeTaken
 end_took longest from None = took.RunsStill
 end_took longest from (Some ending) = seconds_took longest (ending.time - from)
 
--- how long an entry took, or that it was not started
+-- the time that an entry took, or that it was not started
 abbrev pub took_of : ℕ → Option Life → TimeTaken
 took_of longest None = took.NotStarted
 took_of longest (Some life) = end_took longest life.from life.end

@@ -260,7 +260,7 @@ fn add_waits(text: &mut Vec<u8>, at: &IdRow) -> Result<(), AllocError> {
     add_last(text, at)
 }
 
-/// Adds the cause for which the id waits.
+/// Adds the words for what an id is waiting for: an entry, a child, a request, or the end of its hold.
 fn add_waited(text: &mut Vec<u8>, at: &IdRow) -> Result<(), AllocError> {
     match at.row.why {
         Why::EarlierOwed(id) | Why::StageOwed(id) => { fill(text, b"for @; ", &[Value::Id(id)]) }
@@ -592,7 +592,7 @@ fn signal_word(order: Option<OrderKind>) -> &'static [u8] {
     }
 }
 
-/// Adds whether a signal was sent to the child of an id.
+/// Adds a phrase about a signal, with the id and number of the child.
 fn add_signal(
     text: &mut Vec<u8>,
     phrase: &[u8],
