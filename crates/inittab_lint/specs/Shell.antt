@@ -42,8 +42,8 @@ opened part b c =
     else if (b == 34 || b == 39) && (in_commands part || is_part 125 part) then Some b
     else None
 
--- the two characters form a unit: a backslash, outside single quotes, with any character; $( and ${; and, among commands,
--- <& and >& and >|
+-- the two characters form a unit: a backslash, outside single quotes, with any character; $( and ${; and, among
+-- commands, <& and >& and >|
 abbrev pub is_two : Option ℕ → ℕ → ℕ → Bool
 is_two part b c =
     b == 92 && not (is_part 39 part)
@@ -94,8 +94,8 @@ abbrev pub next_in : List ℕ → ℕ
 next_in text = unwrap_or (slice_get text 0) 0
 
 -- The first operator of a text outside all parts and before any comment; `Unclosed` if a part is open at the end of the
--- text or at the beginning of a comment. The arguments are the open parts, whether the first character forms a unit with
--- the one before it, and whether a word begins with it.
+-- text or at the beginning of a comment. The arguments are the open parts, whether the first character forms a unit
+-- with the one before it, and whether a word begins with it.
 abbrev pub operator_in : List ℕ → Bool → Bool → List ℕ → Option Operator
 operator_in parts was_read start [] = unclosed (innermost parts)
 operator_in parts true start (b ∷ text) = operator_in parts false start text

@@ -1,5 +1,5 @@
-//! Checks an inittab(5) before init uses it: warns about lines that init accepts but that do not do what they seem to do,
-//! and suggests the action that an unknown word probably means.
+//! Checks an inittab(5) before init uses it: warns about lines that init accepts but that do not do what they seem to
+//! do, and suggests the action that an unknown word probably means.
 #![tactic(auto)]
 
 mod linting;

@@ -1,5 +1,5 @@
-//! How the shell interprets a process that init starts with `exec` (inittab(5)), if the effect differs from what the line
-//! seems to say.
+//! How the shell interprets a process that init starts with `exec` (inittab(5)), if the effect differs from what the
+//! line seems to say.
 
 ghost use Rattle.std.specs.Prelude.{◌≡◌, ◌&&◌, ◌||◌, ◌==◌, not, true, false, IsTrue};
 ghost use Rattle.std.specs.List.{list_all, list_any};

@@ -52,7 +52,8 @@ checked before line (Some f) =
     else if nat_lt MARK_LIMIT (length f.levels) then Err fault.Levels
     else checked_with (act_read f.action) before line f
 
--- the result for a line that follows these entries, after its leading blanks: an entry, none if it is ignored, or a fault
+-- the result for a line that follows these entries, after its leading blanks: an entry, none if it is ignored, or a
+-- fault
 unfoldable pub verdict_of : List Entry → List ℕ → Result (Option Entry) LineKind
 verdict_of before line =
     let text = skip_blanks line in

@@ -1,8 +1,8 @@
 //! The reader and writer of inittab(5).
 //!
 //! The reader turns a text, or several texts in order, into a table of entries, which keeps the order of the lines and
-//! finds entries by id. It skips each line that fails a check, and reports it as a fault. The writer writes one line per
-//! entry; reading these lines yields the same table.
+//! finds entries by id. It skips each line that fails a check, and reports it as a fault. The writer writes one line
+//! per entry; reading these lines yields the same table.
 #![tactic(auto)]
 
 mod checks;

@@ -17,8 +17,8 @@ IsAllOf input text = IfSome input (λ known. text ≡ known)
 abbrev pub BeginsAllOf : Option (List ℕ) → List ℕ → Type 0
 BeginsAllOf input text = IfSome input (λ known. (rest : List ℕ) × (text ++ rest ≡ known))
 
--- the text can be the beginning of a run: it begins with a `use` line, the only line of a trace that begins with u, or is
--- empty
+-- the text can be the beginning of a run: it begins with a `use` line, the only line of a trace that begins with u, or
+-- is empty
 abbrev pub begins_run : List ℕ → Bool
 begins_run [] = true
 begins_run (byte ∷ text) = byte == 117
@@ -76,8 +76,8 @@ abbrev pub FollowsPart : Option ℕ → Option (List ℕ) → KnownOutput → Kn
 FollowsPart last input old new =
     (hidden : List Line) × IsHidden last input hidden × WritesPart (start_of last hidden old) input new
 
--- the outcome of following: all lines were written, and this is the exit status; or the trace could not be read further,
--- or its lines could not be written
+-- the outcome of following: all lines were written, and this is the exit status; or the trace could not be read
+-- further, or its lines could not be written
 abbrev pub Follows : Option ℕ → Option (List ℕ) → ℕ → KnownOutput → KnownOutput → Type 0
 Follows last input status old new =
     ((stop : Option ViewEnd) × (line : Option ℕ) × (status ≡ stop_status stop)

@@ -31,8 +31,8 @@ abbrev pub running_status : Writer → ℕ
 running_status Nobody = 4
 running_status writer = 0
 
--- the exit status that the LSB defines for the action `status`: `running_status` if there is a child; 3 if there is none;
--- 4 if the table has no entry for the id either
+-- the exit status that the LSB defines for the action `status`: `running_status` if there is a child; 3 if there is
+-- none; 4 if the table has no entry for the id either
 abbrev pub lsb_status : Writer → Row → ℕ
 lsb_status writer row = if is_some row.child then running_status writer else if is_some row.act then 3 else 4
 

@@ -12,8 +12,8 @@ KnownWriters = List ℕ → Option Writer
 abbrev pub IsWriterAt : KnownWriters → List ℕ → Writer → Type 0
 IsWriterAt writers path writer = IfSome (writers path) (λ known. writer ≡ known)
 
--- the past in the current state of a trace: if an init writes the trace and the trace was read to its end, the clock has
--- advanced by the seconds since the last write to the file, up to 2^64 - 1
+-- the past in the current state of a trace: if an init writes the trace and the trace was read to its end, the clock
+-- has advanced by the seconds since the last write to the file, up to 2^64 - 1
 abbrev pub present : Writer → Option ViewEnd → List Event → List Event
 present (Init seconds) None past = Clock (min (time_of past + seconds) (2 ^ 64 - 1)) ∷ past
 present writer stop past = past

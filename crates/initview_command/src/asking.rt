@@ -51,7 +51,8 @@ pub enum Command {
     Explain(Id),
     /// The changes to the running children if init reads the second file and goes to the level.
     Reload(Option<Level>),
-    /// The entries that init starts on the way to the level, and the times that those on the critical path took in the trace.
+    /// The entries that init starts on the way to the level, and the times that those on the critical path took in the
+    /// trace.
     Timing(Option<Level>),
     Tables(TableQuestion),
 }

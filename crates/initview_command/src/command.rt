@@ -84,9 +84,9 @@ pub const USAGE: &str = "usage: initview why [--inittab-dir DIR] ID TRACE [TABLE
 ///
 /// `status TRACE ID` returns 0, 3 or 4, as defined by the LSB.
 ///
-/// If a line is not a line of a trace, or breaks a law, the commands use only the happenings before it. They show nothing
-/// of a text that begins in the middle of a run, except that `follow -n` shows its last lines. `follow` reads the trace
-/// from `growing` until it ends, and writes each line immediately. Faults of files are reported on `err`.
+/// If a line is not a line of a trace, or breaks a law, the commands use only the happenings before it. They show
+/// nothing of a text that begins in the middle of a run, except that `follow -n` shows its last lines. `follow` reads
+/// the trace from `growing` until it ends, and writes each line immediately. Faults of files are reported on `err`.
 pub fn run_words<T: Texts, G: LiveTraces, S: LineSink, E: Reporter>(
     texts: &T,
     growing: &G,

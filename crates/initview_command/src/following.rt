@@ -65,7 +65,8 @@ fn report_fault<S: LineSink, E: Reporter>(
 /// The reason why a view of a trace ended, and the number of the line at which an incomplete happening begins.
 type End = (Option<ViewEnd>, Option<u64>);
 
-/// The reader of a followed trace: one for a whole run, which checks the laws, or one for a text that begins in mid-run.
+/// The reader of a followed trace: one for a whole run, which checks the laws, or one for a text that begins in
+/// mid-run.
 #[derive(Drop)]
 enum Reader {
     Run(TextView),

@@ -70,8 +70,8 @@ pub trait LiveTraces {
         ensures { OnOk result ((more : List NamedText)
             × (parts.new.items ≡ parts.old.items ++ more)) };
 
-    /// Reports whether a program exists: in one of the folders, which are separated by colons, or at its path if the path
-    /// begins with `/`. Any other path depends on the working directory of init, and is assumed to exist.
+    /// Reports whether a program exists: in one of the folders, which are separated by colons, or at its path if the
+    /// path begins with `/`. Any other path depends on the working directory of init, and is assumed to exist.
     fn has_program(&self, alloc: Global, folders: &str, program: &str) -> Result<bool, AllocError>;
 }
 
@@ -98,8 +98,8 @@ impl<'a, R: Files<File = File> + Clock + Eprint> LiveTraces for GrowingFiles<'a,
 
     type Growing = GrowingFile<'a, R>;
 
-    /// Opens standard input for `-`. Standard input and files in `/dev/` are read to their end. Any other path must be a
-    /// regular file, which is read after its earlier pieces, and may grow.
+    /// Opens standard input for `-`. Standard input and files in `/dev/` are read to their end. Any other path must be
+    /// a regular file, which is read after its earlier pieces, and may grow.
     fn open(&self, alloc: Global, path: &str) -> io::Result<GrowingFile<'a, R>> {
         if is_given(path) {
             let path = if path == "-" { "/dev/stdin" } else { path };
@@ -199,8 +199,8 @@ fn no_reader_within_pause() -> bool {
     poll(&mut asked, PAUSE) > 0
 }
 
-/// Waits until there are bytes to read. Fails with `TimedOut` after 4,294,967,296 attempts, and with `BrokenPipe` if the
-/// reader of standard output is gone.
+/// Waits until there are bytes to read. Fails with `TimedOut` after 4,294,967,296 attempts, and with `BrokenPipe` if
+/// the reader of standard output is gone.
 fn wait_for_bytes<R: Files<File = File> + Eprint>(
     trace: &mut TraceReader<'_, R>,
     buf: &mut [u8],

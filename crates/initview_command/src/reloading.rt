@@ -22,8 +22,8 @@ use std::alloc::Global;
 use trace_events::{Happening, HappeningIn};
 use trace_view::ObservedTrace;
 
-/// A query for the changes to the running children if init reads the new inittab in place of the old one and goes to the
-/// level.
+/// A query for the changes to the running children if init reads the new inittab in place of the old one and goes to
+/// the level.
 #[derive(Drop)]
 struct Reload {
     old: Table,
@@ -67,8 +67,8 @@ fn show_table(alloc: Global, text: &mut ObservedTrace<()>, table: &Table) -> Res
     Ok(())
 }
 
-/// Passes the view a new inittab and, if a level is given or was requested, the next stage on the way to it. Neither can
-/// break a law.
+/// Passes the view a new inittab and, if a level is given or was requested, the next stage on the way to it. Neither
+/// can break a law.
 fn read_anew(
     alloc: Global,
     text: &mut ObservedTrace<()>,

@@ -37,8 +37,8 @@ pub(crate) trait Query: Drop {
     /// The observer that sees the happenings for the query.
     type Seen: TraceObserver<Global> + Drop;
 
-    /// The lines and the exit status, given the path of the trace, its writer, the reason why the view ended, if it did,
-    /// and its past.
+    /// The lines and the exit status, given the path of the trace, its writer, the reason why the view ended, if it
+    /// did, and its past.
     ghost gives: { Self → List ℕ → Writer → Option ViewEnd → List Event → List Line × ℕ };
 
     /// Adds remarks about the trace that are not part of the answer.
@@ -119,8 +119,8 @@ fn running_status(writer: Writer) -> u8
     }
 }
 
-/// Returns the exit status that the LSB defines for `status`: `running_status` for an id with a child, 3 for an id without
-/// a child, and 4 for an id that the trace does not know.
+/// Returns the exit status that the LSB defines for `status`: `running_status` for an id with a child, 3 for an id
+/// without a child, and 4 for an id that the trace does not know.
 fn lsb_status(writer: Writer, row: &Row) -> u8
     ensures { result ≡ lsb_status writer row.now }
 {

@@ -111,8 +111,8 @@ note_if so parts note = if so then File (name_of (slice_get parts 0)) note ∷ [
 abbrev pub serves : List Entry → Bool
 serves table = option_map_or (λ level. list_any (λ e. starts_of e (Run level)) table) (default_level_of table) false
 
--- all messages, in order: the ignored lines that have an id; a message if lines have no id; the warnings; and a message if
--- no entry starts in the default level
+-- all messages, in order: the ignored lines that have an id; a message if lines have no id; the warnings; and a message
+-- if no entry starts in the default level
 abbrev pub lint_lines : List NamedText → List PartFault → List LineWarning → List Entry → List Line
 lint_lines parts faults warnings table =
     map (fault_line_of parts) (filter (λ fault. not (is_nameless parts fault)) faults)
@@ -131,8 +131,8 @@ abbrev pub lint_by : List NamedText → List PartFault → List LineWarning → 
 lint_by parts faults warnings table =
     (lint_lines parts faults warnings table, found_by faults warnings (serves table))
 
--- the messages and the result for these files: the faults that the reader found, the warnings that apply followed by the
--- given ones, and the default level of the table
+-- the messages and the result for these files: the faults that the reader found, the warnings that apply followed by
+-- the given ones, and the default level of the table
 abbrev pub lint_in : List NamedText → List LineWarning → List Line × Findings
 lint_in parts more =
     lint_by parts (faults_of_parts (texts_of parts)) (warnings_of (texts_of parts) ++ more)

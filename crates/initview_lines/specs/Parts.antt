@@ -1,5 +1,5 @@
--- The lines for a text that begins in the middle of a run. The message about each happening does not depend on the past,
--- and has the time of the clock in the text. No law is checked.
+-- The lines for a text that begins in the middle of a run. The message about each happening does not depend on the
+-- past, and has the time of the clock in the text. No law is checked.
 use Rattle.std.specs.Prelude.{◌≡◌, ℕ, Bool, true, false, List, [], ◌∷◌, ◌++◌, reverse, Option, Some, None}
 use Rattle.text_lines.specs.Lines.{newlines}
 use Rattle.initview_lines.specs.CommonWords.{Event, time_of, Reading, ViewEnd, ShownBy, StopsAt}
@@ -19,8 +19,8 @@ abbrev pub IsToldOf : List ℕ → Option ViewEnd → Option ℕ → List Line �
 IsToldOf text stop open_line past_lines =
     (trace : List Event) × ShownBy stop open_line trace text × (past_lines ≡ part_in (reverse trace))
 
--- a view of a text that arrives in pieces: the unread part and the number of lines read, the time, and the reason why the
--- view ended, if it did
+-- a view of a text that arrives in pieces: the unread part and the number of lines read, the time, and the reason why
+-- the view ended, if it did
 pub record PartState : Type 0 where
   pub reading : Reading
   pub time : ℕ

@@ -63,8 +63,8 @@ stopped_change _ = Stop
 abbrev pub kept_change : Bool → Change
 kept_change same = if same then Keep else NextStart
 
--- the change for a child: if it is excluded (`is_excluded`) by the table and the stage in force, it is stopped; otherwise
--- it keeps running, and the change depends on whether the two inittabs have the same process field
+-- the change for a child: if it is excluded (`is_excluded`) by the table and the stage in force, it is stopped;
+-- otherwise it keeps running, and the change depends on whether the two inittabs have the same process field
 abbrev pub child_change : List Entry → List Event → List ℕ → Child → Change
 child_change old past id child =
     if is_excluded past child then stopped_change (idle_change past id)

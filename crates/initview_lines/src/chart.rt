@@ -180,8 +180,8 @@ fn add_front(
 }
 
 /// Adds rows of a timeline as lines with this number of columns: its times; the state at the end; the time of every
-/// fourteenth column; a row for the stages, and one for each id; and the legend. The ids take nine columns, their states
-/// at the end and numbers of faults take thirteen, and the drawing takes the others, at least one.
+/// fourteenth column; a row for the stages, and one for each id; and the legend. The ids take nine columns, their
+/// states at the end and numbers of faults take thirteen, and the drawing takes the others, at least one.
 pub(crate) fn add_chart(
     text: &mut Vec<u8>,
     alloc: Global,

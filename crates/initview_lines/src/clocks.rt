@@ -27,8 +27,8 @@ fn instant(seconds: u64) -> Option<Timestamp> {
     Timestamp::from_second(i64::try_from(seconds).ok()?).ok()
 }
 
-/// Returns a zone's offset from UTC in seconds. It is 0 for times in 1970, which no real clock of init shows, and `None`
-/// after the last instant of jiff, 26 hours before the year 10000.
+/// Returns a zone's offset from UTC in seconds. It is 0 for times in 1970, which no real clock of init shows, and
+/// `None` after the last instant of jiff, 26 hours before the year 10000.
 fn ahead(zone: Zone, seconds: u64) -> Option<i32> {
     match zone {
         Zone::Local(zone) if seconds >= YEAR => Some(zone.to_offset(instant(seconds)?).seconds()),
@@ -95,8 +95,8 @@ pub(crate) fn add_day(text: &mut Vec<u8>, zone: Zone, seconds: u64) -> Result<()
     }
 }
 
-/// Adds the day and the time of day. For times in 1970, which no real clock of init shows, it adds only the time of day;
-/// for years with more than four digits, it adds the number of seconds.
+/// Adds the day and the time of day. For times in 1970, which no real clock of init shows, it adds only the time of
+/// day; for years with more than four digits, it adds the number of seconds.
 pub(crate) fn add_moment(text: &mut Vec<u8>, zone: Zone, seconds: u64) -> Result<(), AllocError> {
     let Some(reading) = shown(zone, seconds) else {
         return add_number(text, b"", seconds, b"");
@@ -129,8 +129,8 @@ fn add_offset(text: &mut Vec<u8>, ahead: i32) -> Result<(), AllocError> {
 }
 
 /// Adds a reading of the clock, in seconds since the beginning of 1970, in the format of RFC 3339:
-/// `2026-01-31T07:15:00Z`, or with the offset of a zone. For years with five digits, which the format lacks, it adds the
-/// number of seconds.
+/// `2026-01-31T07:15:00Z`, or with the offset of a zone. For years with five digits, which the format lacks, it adds
+/// the number of seconds.
 pub(crate) fn add_time_of_day(
     text: &mut Vec<u8>,
     zone: Zone,

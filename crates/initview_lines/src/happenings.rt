@@ -33,8 +33,8 @@ pub enum News {
     Handed(Handed),
 }
 
-/// Returns the message for a single happening, without its past. Returns `None` for one that an operator does not need to
-/// see: an order, a death, a look that found its child alive, `told`, a reading of the clock, a round.
+/// Returns the message for a single happening, without its past. Returns `None` for one that an operator does not need
+/// to see: an order, a death, a look that found its child alive, `told`, a reading of the clock, a round.
 pub(crate) fn news_alone(happening: &HappeningIn<Global>) -> Option<News>
     ensures { result ≡ news_of happening.now [] }
 {

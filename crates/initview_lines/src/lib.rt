@@ -1,7 +1,7 @@
-//! The lines of initview's answers. About a trace: the state of the entries, the reason why an entry is not started next,
-//! and the remaining children. About inittabs: the lines that init ignores, the changes that another inittab makes, also
-//! to the children that run at the end of a trace, and the entries that a level starts. The contents of the lines are
-//! proved; `tools/rows` tests their wording.
+//! The lines of initview's answers. About a trace: the state of the entries, the reason why an entry is not started
+//! next, and the remaining children. About inittabs: the lines that init ignores, the changes that another inittab
+//! makes, also to the children that run at the end of a trace, and the entries that a level starts. The contents of the
+//! lines are proved; `tools/rows` tests their wording.
 #![tactic(auto)]
 
 mod changes;

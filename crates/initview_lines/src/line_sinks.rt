@@ -13,8 +13,8 @@ pub enum SinkFault {
     Unwritten,
 }
 
-/// An output for lines. Contracts describe the lines written so far, if they are known, whether the reader of the output
-/// is gone, and whether times are local.
+/// An output for lines. Contracts describe the lines written so far, if they are known, whether the reader of the
+/// output is gone, and whether times are local.
 pub trait LineSink {
     ghost use Rattle.std.specs.Prelude.{◌≡◌, List, OnOk, OnErr};
     ghost use Rattle.initview_lines.specs.declared.lines.Line.{Line};

@@ -79,7 +79,8 @@ pub struct Reason {
     pub stage: Option<Stage>,
     /// The id whose child must end first and is being stopped; otherwise the same id.
     pub stopped: IdRow,
-    /// The name of the trace, and the number of its line that explains the reason, if any and if the reason still holds.
+    /// The name of the trace, and the number of its line that explains the reason, if any and if the reason still
+    /// holds.
     pub trace: Bytes,
     pub line: Option<u64>,
 }

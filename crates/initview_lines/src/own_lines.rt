@@ -142,9 +142,9 @@ fn lines_by(
     Ok(lines)
 }
 
-/// Reads an inittab(5) of several files, as `read_parts` does, and returns a message about each line that has the id: the
-/// reason why init ignores it, or the line itself if its entry is in the table. If no line has the id, the only message
-/// says so. Fails if there are more than 256 files, or more than 1,048,576 bytes in total.
+/// Reads an inittab(5) of several files, as `read_parts` does, and returns a message about each line that has the id:
+/// the reason why init ignores it, or the line itself if its entry is in the table. If no line has the id, the only
+/// message says so. Fails if there are more than 256 files, or more than 1,048,576 bytes in total.
 pub fn id_lines(alloc: Global, files: &[Part], id: &Id) -> Result<Vec<Line>, TableFault>
     ensures told { IfOk result (λ lines. lines.items ≡ id_lines id.now files.now) }
     ensures parts { IsErrOf result TableFault.Parts ↔ AreTooMany (texts_of files.now) }

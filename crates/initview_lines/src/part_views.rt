@@ -114,8 +114,8 @@ impl PartView {
         Ok(())
     }
 
-    /// Takes the next piece of the text, and adds the lines for all complete happenings. If memory runs out, the view must
-    /// not be used any more.
+    /// Takes the next piece of the text, and adds the lines for all complete happenings. If memory runs out, the view
+    /// must not be used any more.
     pub fn take(&mut self, piece: &[u8], lines: &mut Vec<Line>) -> Result<(), Memory>
         ensures { OnOk result ((past_lines : List Line) (text : List ℕ)
             → length (text ++ piece.now) < 2 ^ 64

@@ -126,9 +126,9 @@ fn add_critical_path(lines: &mut Vec<Line>, level: Level, path: &[Waited]) -> Re
     Ok(())
 }
 
-/// Returns the entries that init starts on its way to a level without any request: each stage, followed by its entries in
-/// the order of their starts, and whether init waits for each to end before it continues. Then comes the critical path:
-/// the entries that must end before the level is reached, each with the one that it waits for.
+/// Returns the entries that init starts on its way to a level without any request: each stage, followed by its entries
+/// in the order of their starts, and whether init waits for each to end before it continues. Then comes the critical
+/// path: the entries that must end before the level is reached, each with the one that it waits for.
 pub fn plan_lines(alloc: Global, level: Level, table: &Table) -> Result<Vec<Line>, AllocError>
     ensures { IfOk result (λ lines. lines.items ≡ plan_in level table.now) }
 {

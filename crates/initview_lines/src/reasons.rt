@@ -78,8 +78,8 @@ pub fn chain_of(view: &TraceView, lines: &LastLines, id: Id) -> Chain
     }
 }
 
-/// Returns the reason why an id is not started next, the reason for its root cause, and advice. The line numbers refer to
-/// the trace with this name.
+/// Returns the reason why an id is not started next, the reason for its root cause, and advice. The line numbers refer
+/// to the trace with this name.
 pub fn why_lines(
     alloc: Global,
     view: &TraceView,

@@ -258,8 +258,8 @@ fn drawn(which: WhichRows, rows: &[Row]) -> usize {
 
 /// Adds rows of a timeline as an SVG document: its times, the state at the end and the legend; an axis with the times
 /// of day above and below the rows; a row for the stages, and one for each id, with its state at the end and its number
-/// of faults. Faults are highlighted, and each shape has a tooltip that describes it. The document is 1,130 wide, and its
-/// rows are 22 high, or 12 if there are more than 60. It is self-contained, and has colors for light and dark
+/// of faults. Faults are highlighted, and each shape has a tooltip that describes it. The document is 1,130 wide, and
+/// its rows are 22 high, or 12 if there are more than 60. It is self-contained, and has colors for light and dark
 /// backgrounds.
 pub(crate) fn add_svg(
     text: &mut Vec<u8>,

@@ -64,8 +64,8 @@ last_after [] time what = []
 last_after (l ∷ []) time what = life_after l time what ∷ []
 last_after (l ∷ m ∷ ls) time what = l ∷ last_after (m ∷ ls) time what
 
--- The lives after a mark of their id: a birth begins a life, and any other mark changes the last life, because no id has
--- two unreaped children.
+-- The lives after a mark of their id: a birth begins a life, and any other mark changes the last life, because no id
+-- has two unreaped children.
 abbrev pub lives_after : List Life → ℕ → Shown → List Life
 lives_after ls time (Born id number) = ls ++ record { number = number; from = time; term = None; end = None } ∷ []
 lives_after ls time what = last_after ls time what

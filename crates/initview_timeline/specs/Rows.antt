@@ -156,8 +156,8 @@ is_up state.Runs = true
 is_up state.Stopping = true
 is_up _ = false
 
--- the state at the end: held if a hold is in force; due if the id is due (`waits`) and has no child; otherwise the state
--- after its marks
+-- the state at the end: held if a hold is in force; due if the id is due (`waits`) and has no child; otherwise the
+-- state after its marks
 abbrev pub state_by : Bool → Bool → State → State
 state_by held due s = if held then state.Held else if due && not (is_up s) then state.Due else s
 

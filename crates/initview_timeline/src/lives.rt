@@ -9,8 +9,8 @@ use init_words::{ChildNumber, Id, SignalKind};
 use std::alloc::{AllocError, Global};
 use trace_view::Ending;
 
-/// The lifetime of a child: its number, the time of its birth, the time of the first SIGTERM sent to it, if any, and the
-/// status and time of its end, if it has ended. Times are in seconds.
+/// The lifetime of a child: its number, the time of its birth, the time of the first SIGTERM sent to it, if any, and
+/// the status and time of its end, if it has ended. Times are in seconds.
 #[derive(Clone, Copy)]
 pub struct Life {
     pub number: ChildNumber,

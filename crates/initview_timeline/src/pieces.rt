@@ -185,8 +185,8 @@ impl Pieces {
         Ok(())
     }
 
-    /// Adds the pieces for a mark: a stage and its name, a settled stage, a hold, a SIGKILL, or a failed start. Bars end
-    /// at the time `next` at the latest.
+    /// Adds the pieces for a mark: a stage and its name, a settled stage, a hold, a SIGKILL, or a failed start. Bars
+    /// end at the time `next` at the latest.
     fn add_mark(&mut self, next: u64, mark: &TimelineMark) -> Result<(), AllocError>
         ensures bars { OnOk result (self.new.bars
             ≡ self.old.bars ++ mark_bars next mark.now.time mark.now.what) }

@@ -190,8 +190,8 @@ fn of_stage(marks: &[TimelineMark]) -> &[TimelineMark]
     found
 }
 
-/// Data shared by all rows: the ids that init waits for, those that start in the stage in force, those that were started
-/// in this stage, and the marks since the stage began.
+/// Data shared by all rows: the ids that init waits for, those that start in the stage in force, those that were
+/// started in this stage, and the marks since the stage began.
 #[derive(Drop)]
 struct Common<'a> {
     waited: Ids,
@@ -348,8 +348,8 @@ fn add_each(
     Ok(())
 }
 
-/// Adds the rows of ids, given the marks that affect them. It splits the ids into halves, each with the marks that affect it, so
-/// that no row has to search the marks of all other rows.
+/// Adds the rows of ids, given the marks that affect them. It splits the ids into halves, each with the marks that
+/// affect it, so that no row has to search the marks of all other rows.
 fn add_rows(
     rows: &mut Vec<Row>,
     alloc: Global,

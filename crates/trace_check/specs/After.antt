@@ -126,8 +126,8 @@ abbrev pub earliest : ℕ → Option ℕ → ℕ
 earliest time None = time
 earliest time (Some other) = min time other
 
--- the time at which init learned of the first TERM in the spell of the id's child; `child`, `is_sent` and `term` are the
--- values before the happening
+-- the time at which init learned of the first TERM in the spell of the id's child; `child`, `is_sent` and `term` are
+-- the values before the happening
 abbrev pub term_after : List Entry → Option Stage → ℕ → (List ℕ → Option UnreapedChild) → (List ℕ → Bool)
     → (List ℕ → Option ℕ) → Event → List ℕ → Option ℕ
 term_after table stage time child is_sent term (Birth i n) id = if same_id id i then None else term id

@@ -30,8 +30,8 @@ none_excluded_in table s = not (list_any (is_excluded_in table s) (keys_of s.chi
 abbrev pub NoneExcludedIfCalm : Bool → List Entry → JudgeState → Type 0
 NoneExcludedIfCalm calm table s = IsTrue calm → (id : List ℕ) → is_excluded_in table s id ≡ false
 
--- `calm` after a happening that breaks no law: it becomes true at a birth and a settled level, which are lawful only if no
--- child is excluded, and false at a new stage or table, which may exclude one
+-- `calm` after a happening that breaks no law: it becomes true at a birth and a settled level, which are lawful only if
+-- no child is excluded, and false at a new stage or table, which may exclude one
 abbrev pub calm_after : Event → Bool → Bool
 calm_after (Birth id number) calm = true
 calm_after (Settle level) calm = true

@@ -48,8 +48,8 @@ is_due_hold id past = is_limited_id id past && not (is_held id past) && is_full 
 abbrev pub may_term : List ℕ → List Event → Bool
 may_term id past = list_any (λ child. is_child_of id child && is_excluded past child) (unreaped_children past)
 
--- 7: at a Kill, the id has an excluded unreaped child that was sent a TERM, and init learned of it in the child's spell,
--- at least the grace period ago
+-- 7: at a Kill, the id has an excluded unreaped child that was sent a TERM, and init learned of it in the child's
+-- spell, at least the grace period ago
 abbrev pub may_kill : List ℕ → List Event → Bool
 may_kill id past =
     list_any

@@ -43,7 +43,8 @@ is_hand_over (handed.Cut bytes) = is_count bytes
 is_hand_over (handed.Older generation) = is_count generation
 is_hand_over _ = true
 
--- all values of the happening are in range: its id is valid, its table is valid, and its numbers are within their limits
+-- all values of the happening are in range: its id is valid, its table is valid, and its numbers are within their
+-- limits
 abbrev pub is_in_range : Event → Bool
 is_in_range (NewTable table) = is_table table
 is_in_range (Enter stage seconds) = is_seconds seconds

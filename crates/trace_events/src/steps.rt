@@ -1,7 +1,7 @@
 //! The steps that init takes, and its goal: the runlevel to reach. `specs/Due` defines which steps are due.
 //!
-//! The rows of `test_traces` and `test_core` test these steps. A new step also needs a text (`trace_text`), its laws, and
-//! a place in the core; the prover reports each of these that is missing.
+//! The rows of `test_traces` and `test_core` test these steps. A new step also needs a text (`trace_text`), its laws,
+//! and a place in the core; the prover reports each of these that is missing.
 
 ghost use Rattle.std.specs.Prelude.{◌≡◌};
 ghost use Rattle.trace_events.specs.Wishes.{in_run, is_level};

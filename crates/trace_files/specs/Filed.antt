@@ -8,8 +8,8 @@ use Rattle.trace_text.specs.Lines.{event_text, trace_text}
 use Rattle.trace_log.specs.Logs.{LogState}
 use Rattle.supervisor.specs.Crashes.{is_of_idle_look}
 
--- a log that writes to files: the files, the bytes that it still has to write, whether the last write failed, and whether
--- the log has failed
+-- a log that writes to files: the files, the bytes that it still has to write, whether the last write failed, and
+-- whether the log has failed
 pub record Filed (S : Type 0) : Type 0 where
   pub files : S
   pub unwritten : List ℕ

@@ -26,13 +26,13 @@ const WRITE_LENGTH: usize = 16_384;
 
 /// A log that writes a trace to files. The contents of the files, one after the other, are the trace.
 ///
-/// If the file is no longer at its path after init has re-executed, the trace continues in a new file at that path. If a
-/// size limit is given, a file that has reached it is put away at the end of a turn. The text of looks that found
+/// If the file is no longer at its path after init has re-executed, the trace continues in a new file at that path. If
+/// a size limit is given, a file that has reached it is put away at the end of a turn. The text of looks that found
 /// nothing is buffered, and written together with the next happening of another kind.
 ///
 /// If a write fails, the log reports this on standard error and keeps the text in memory until it can be written; it
-/// then reports that nothing is missing from the trace. If more than a mebibyte would have to be kept, the log fails and
-/// the trace ends. The trace is also incomplete if the file has not accepted all of the text when the log is ended.
+/// then reports that nothing is missing from the trace. If more than a mebibyte would have to be kept, the log fails
+/// and the trace ends. The trace is also incomplete if the file has not accepted all of the text when the log is ended.
 #[derive(Drop)]
 pub struct FileLog<'a, R, S> {
     rt: &'a R,
@@ -117,8 +117,8 @@ impl<'a, R: Eprint, S: TraceFiles> FileLog<'a, R, S> {
         Ok(())
     }
 
-    /// Returns whether the text of a happening may be buffered, because it belongs to a look that found nothing. The next
-    /// reading of the clock, or an earlier happening of another kind, causes it to be written.
+    /// Returns whether the text of a happening may be buffered, because it belongs to a look that found nothing. The
+    /// next reading of the clock, or an earlier happening of another kind, causes it to be written.
     fn can_wait<B: Allocator>(&self, happening: &HappeningIn<B>) -> bool
         ensures { IsTrue result → IsTrue (is_of_idle_look happening.now) }
     {

@@ -39,8 +39,8 @@ pub trait Traces {
     /// The bytes written to the files that were returned, in the order of their return.
     ghost told: { Self → List ℕ };
 
-    /// Returns the files of a trace, the first of which is `file`. Nothing has been written to them. If `most` is given,
-    /// at most that number of pieces is kept after a file is put away.
+    /// Returns the files of a trace, the first of which is `file`. Nothing has been written to them. If `most` is
+    /// given, at most that number of pieces is kept after a file is put away.
     fn open(&mut self, file: File, most: Option<u64>) -> Self::Files
         ensures nothing { Self.Files.contents result ≡ Some [] }
         ensures told { told self.new ≡ told self.old };

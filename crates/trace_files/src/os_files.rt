@@ -111,8 +111,8 @@ impl<R: Files<File = File>> OsFiles<'_, R> {
         self.length = 0;
     }
 
-    /// Truncates the file for a new run. If there is a list of pieces, a line is added before and after the truncation. A
-    /// program that reads the list in between recognizes the earlier run, because the file is not empty yet.
+    /// Truncates the file for a new run. If there is a list of pieces, a line is added before and after the truncation.
+    /// A program that reads the list in between recognizes the earlier run, because the file is not empty yet.
     fn begin_run(&mut self, path: &str) -> io::Result<()>
         ensures { self.new.taken.value ≡ self.old.taken.value }
     {
@@ -224,7 +224,8 @@ impl<R: Files<File = File>> OsFiles<'_, R> {
         }
     }
 
-    /// Returns the number of the piece that the current file was renamed to, or `None` if its name is not one of a piece.
+    /// Returns the number of the piece that the current file was renamed to, or `None` if its name is not one of a
+    /// piece.
     fn own_number(&self, path: &str) -> Option<u64> {
         let own = self.file.metadata().ok()?;
         number_of_file(self.rt, self.alloc, path, &own).ok()?
@@ -257,8 +258,8 @@ impl<R: Files<File = File>> OsFiles<'_, R> {
         Ok(file)
     }
 
-    /// Renames the trace's file to the next piece, if it is at the path, and the new file to the path. Returns the number
-    /// of the piece, or if the trace's file was renamed earlier, its number if it has one.
+    /// Renames the trace's file to the next piece, if it is at the path, and the new file to the path. Returns the
+    /// number of the piece, or if the trace's file was renamed earlier, its number if it has one.
     fn exchange(&self, path: &str, new: &str) -> io::Result<Option<u64>> {
         match metadata(self.rt, path) {
             Ok(found) if !found.is_file() => return Err(io::Error::other("not a regular file")),
@@ -274,8 +275,8 @@ impl<R: Files<File = File>> OsFiles<'_, R> {
         Ok(number)
     }
 
-    /// Renames the trace's file, which is at the path, to the next piece, and the new file to the path. If hard links are
-    /// available, the old file has both names until the new file replaces it; if that fails, it keeps its old name.
+    /// Renames the trace's file, which is at the path, to the next piece, and the new file to the path. If hard links
+    /// are available, the old file has both names until the new file replaces it; if that fails, it keeps its old name.
     fn exchange_piece(&self, path: &str, new: &str) -> io::Result<u64> {
         let number = self.next_number(path)?;
         let piece = piece_path(self.alloc, path, number)?;

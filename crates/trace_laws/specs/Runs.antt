@@ -11,8 +11,9 @@ use Rattle.trace_events.specs.declared.steps.Step.TheVariants.{Enter}
 abbrev pub is_awaited : List Event → Child → Bool
 is_awaited past child = option_map_or waited_of (entry_of child.id (table_of past)) false
 
--- The happening does not disturb the run. It is not a new table, a failed reading of inittab, a request, a re-execution, a call
--- of entries by a letter or a power event, or a failed start. If it is a death, init waits for the child that died.
+-- The happening does not disturb the run. It is not a new table, a failed reading of inittab, a request, a
+-- re-execution, a call of entries by a letter or a power event, or a failed start. If it is a death, init waits for the
+-- child that died.
 abbrev pub is_mild : Event → List Event → Bool
 is_mild (happened.NewTable table) past = false
 is_mild happened.NotRead past = false

@@ -14,7 +14,8 @@ ghost use Rattle.trace_events.specs.Lawful.{is_lawful};
 
 pub use plans::law_of_plans;
 
-/// States in its contract that a sound trace breaks no law, whatever the initial goal. The function itself does nothing.
+/// States in its contract that a sound trace breaks no law, whatever the initial goal. The function itself does
+/// nothing.
 pub fn law_of_sound_traces()
     ensures { (goal : Goal) (trace : List Event)
         → IsTrue (is_sound goal trace) → IsTrue (is_lawful trace) }

@@ -12,9 +12,9 @@ ghost use Rattle.trace_laws.specs.Runs.{BeginsWith, is_undisturbed, taken};
 
 /// States the law of plans in its contract. The function itself does nothing.
 ///
-/// The law is about undisturbed traces in which each step of init is the first due one. At any point, the stages entered
-/// and the starts ordered are a prefix of the plan; once the level is announced settled, they are the whole plan. When
-/// init starts an entry, all entries before it in the table that init waits for have ended.
+/// The law is about undisturbed traces in which each step of init is the first due one. At any point, the stages
+/// entered and the starts ordered are a prefix of the plan; once the level is announced settled, they are the whole
+/// plan. When init starts an entry, all entries before it in the table that init waits for have ended.
 pub fn law_of_plans()
     ensures beginning { (goal : Goal) (past : List Event) → IsTrue (is_orderly goal past)
         → IsTrue (is_undisturbed past) → BeginsWith (taken past) (plan_of goal (table_of past)) }

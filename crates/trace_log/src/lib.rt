@@ -1,5 +1,5 @@
-//! The trait of a log, which records the happenings of a run one at a time until it fails, and two logs: `ListLog` keeps
-//! the happenings in a list, and `StreamLog` writes their text.
+//! The trait of a log, which records the happenings of a run one at a time until it fails, and two logs: `ListLog`
+//! keeps the happenings in a list, and `StreamLog` writes their text.
 #![tactic(auto)]
 
 mod faults;

@@ -39,7 +39,8 @@ pub trait EndedLog: Log {
     /// The value that `end` returns, such as the list or the writer of the log.
     type Left;
 
-    /// Whether this value can remain of a log that took this trace, oldest first. The flag is true if it passed on everything.
+    /// Whether this value can remain of a log that took this trace, oldest first. The flag is true if it passed on
+    /// everything.
     ghost has_ended: { Self.Left → Bool → List Event → Type 0 };
 
     /// Ends the log. Returns what remains of it, and whether it passed on everything.

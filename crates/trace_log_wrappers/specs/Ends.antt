@@ -1,5 +1,5 @@
--- Facts for the report at the end of a run, derived from its trace, newest first: the last exit status of an id, and the
--- unreaped children.
+-- Facts for the report at the end of a run, derived from its trace, newest first: the last exit status of an id, and
+-- the unreaped children.
 use Rattle.std.specs.Prelude.{ℕ, if◌then◌else◌, List, [], ◌∷◌, Option, Some, None}
 use Rattle.init_words.specs.declared.children.Status.{Status}
 use Rattle.init_words.specs.Ids.{same_id}

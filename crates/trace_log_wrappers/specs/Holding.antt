@@ -47,9 +47,9 @@ ends_look (Asked id Look ∷ past) = not (in_look past)
 ends_look (Still i ∷ Asked j Look ∷ past) = same_id i j && not (in_look past)
 ends_look _ = false
 
--- No later happening can change the happenings written, newest first. The newest of them is not a round or a reading. If
--- no round or reading is held, `within` is true exactly if the newest belongs to a look, and they do not end with a look
--- that may still be omitted. A look is held only if it does not directly follow another look.
+-- No later happening can change the happenings written, newest first. The newest of them is not a round or a reading.
+-- If no round or reading is held, `within` is true exactly if the newest belongs to a look, and they do not end with a
+-- look that may still be omitted. A look is held only if it does not directly follow another look.
 pub record Settled (held : HeldBack) (written : List Event) : Type 0 where
   pub no_round : is_round_or_reading written ≡ false
   pub within : is_bare held ≡ true → held.within ≡ in_look written

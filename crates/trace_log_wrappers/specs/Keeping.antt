@@ -1,4 +1,5 @@
--- The happenings that a brief log has passed on and holds back, given the trace that it took, and its state after `end`.
+-- The happenings that a brief log has passed on and holds back, given the trace that it took, and its state after
+-- `end`.
 use Rattle.std.specs.Prelude.{◌≡◌, ◌≤◌, Bool, true, false, List, ◌++◌, length, reverse, None}
 use Rattle.trace_events.specs.Event.{Event}
 use Rattle.trace_log.specs.Logs.{LogState}

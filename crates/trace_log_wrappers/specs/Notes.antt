@@ -28,8 +28,8 @@ IsLast last wanted past = (id : List ℕ) → is_wanted id wanted ≡ true → l
 abbrev pub number_in : List ℕ → List (List ℕ × ℕ) → Option ℕ
 number_in id running = lookup (same_id id) running
 
--- the list has no id twice, and has for each id the number of its unreaped child in this trace, newest first, or none if
--- the id has no unreaped child
+-- the list has no id twice, and has for each id the number of its unreaped child in this trace, newest first, or none
+-- if the id has no unreaped child
 abbrev pub IsRunning : List (List ℕ × ℕ) → List Event → Type 0
 IsRunning running past =
     IsDistinct same_id (keys_of running) × ((id : List ℕ) → number_in id running ≡ number_of id past)

@@ -1,4 +1,5 @@
-//! The part of a brief trace that is held back, because it may still be changed or omitted when the next happening comes.
+//! The part of a brief trace that is held back, because it may still be changed or omitted when the next happening
+//! comes.
 
 ghost use Rattle.std.specs.Prelude.{◌≡◌, None, Some, false, if◌then◌else◌};
 ghost use Rattle.init_words.specs.Ids.{same_id};
@@ -51,8 +52,8 @@ impl HeldBack {
         !self.round && self.reading.is_none()
     }
 
-    /// Returns the state after this happening is held back, or `None` if it can't be: then all happenings held back must
-    /// be written now, followed by this one.
+    /// Returns the state after this happening is held back, or `None` if it can't be: then all happenings held back
+    /// must be written now, followed by this one.
     pub fn hold_back<A: Allocator>(&self, happening: &HappeningIn<A>) -> Option<HeldBack>
         ensures { result ≡ held_back happening.now self.now }
     {
@@ -115,8 +116,8 @@ impl HeldBack {
         HeldBack { look, ..*self }
     }
 
-    /// Returns the state after a happening for which `hold_back` returned `None`. The happening has been written, unless
-    /// it is a reading or a round: then it is the only one held back.
+    /// Returns the state after a happening for which `hold_back` returned `None`. The happening has been written,
+    /// unless it is a reading or a round: then it is the only one held back.
     pub fn behind<A: Allocator>(happening: &HappeningIn<A>) -> HeldBack
         ensures { result ≡ held_behind happening.now }
     {

@@ -2,8 +2,8 @@
 //! collects the report for the end of a run, and checks the laws during the run.
 //!
 //! The brief form of a trace omits idle rounds and looks that found nothing. The brief form of a sound trace is sound,
-//! so it can be judged in place of the trace. It cannot be replayed: the omitted looks were due, so in general not every
-//! step of a brief trace is the first due one.
+//! so it can be judged in place of the trace. It cannot be replayed: the omitted looks were due, so in general not
+//! every step of a brief trace is the first due one.
 #![tactic(auto)]
 
 mod brief_logs;

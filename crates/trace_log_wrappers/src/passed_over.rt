@@ -18,7 +18,8 @@ pub(crate) struct Asked {
 }
 
 impl Asked {
-    /// Notes a happening. Warns on standard error if it is a request for a level that changes nothing or replaces another.
+    /// Notes a happening. Warns on standard error if it is a request for a level that changes nothing or replaces
+    /// another.
     pub(crate) fn note<A: Allocator>(&mut self, rt: &impl Eprint, happening: &HappeningIn<A>) {
         match happening {
             Happening::Enter(Stage::Run(level), grace) => {

@@ -41,7 +41,8 @@ impl<A: Allocator> Model for RunNotes<A> {
 impl<A: Allocator + Copy> RunNotes<A> {
     ghost use Rattle.std.specs.Prelude.{IfSome, IsSome, ◌↔◌, true};
 
-    /// Creates empty notes, which will record the last exit status of the id `wanted`, if given. This does not allocate.
+    /// Creates empty notes, which will record the last exit status of the id `wanted`, if given. This does not
+    /// allocate.
     pub(crate) fn new(alloc: A, wanted: Option<Id>) -> RunNotes<A>
         ensures nothing { AreNotesOf result [] }
         ensures wanted { result.wanted ≡ wanted }

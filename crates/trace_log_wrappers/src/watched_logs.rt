@@ -47,8 +47,8 @@ impl<'a, R: Eprint, L: Log, A: Allocator + Copy> NotingLog<'a, R, L, A> {
     ghost use Rattle.trace_log_wrappers.specs.Judgements.{IsJudgementOf, found_first};
     ghost use Rattle.trace_log_wrappers.specs.Watching.{watched_state};
 
-    /// Creates a log that passes its happenings on to `log`, notes the last exit status of the id `wanted`, if given, and
-    /// judges the happenings if `is_judged` is set. This does not allocate.
+    /// Creates a log that passes its happenings on to `log`, notes the last exit status of the id `wanted`, if given,
+    /// and judges the happenings if `is_judged` is set. This does not allocate.
     pub fn new(
         rt: &'a R,
         alloc: A,

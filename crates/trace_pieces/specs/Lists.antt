@@ -45,9 +45,9 @@ abbrev pub line_at : List ℕ → Option ListLine
 line_at line =
     option_and_then (λ parts. option_and_then (λ number. line_after number parts.1) (read parts.0)) (cut 32 line)
 
--- The last run according to the list: the lowest number that its next piece can have, unless a user assigned a number by
--- renaming files; the pieces that still exist, oldest first; whether older ones were removed; and whether a later run
--- announced that it would truncate the trace's file.
+-- The last run according to the list: the lowest number that its next piece can have, unless a user assigned a number
+-- by renaming files; the pieces that still exist, oldest first; whether older ones were removed; and whether a later
+-- run announced that it would truncate the trace's file.
 pub record PieceList : Type 0 where
   pub next : Option ℕ
   pub pieces : List Piece
@@ -81,8 +81,8 @@ moved_up number piece =
 abbrev pub all_moved_up : ℕ → List Piece → List Piece
 all_moved_up number pieces = if has_number pieces number then map (moved_up number) pieces else pieces
 
--- The list before a piece with this number is added. If the number is below the next one, a user assigned it by renaming
--- files: later pieces have moved up by one, and the next number is no longer known.
+-- The list before a piece with this number is added. If the number is below the next one, a user assigned it by
+-- renaming files: later pieces have moved up by one, and the next number is no longer known.
 abbrev pub room_for : PieceList → ℕ → PieceList
 room_for list number =
     if rises_to list.next number
@@ -103,7 +103,8 @@ behind_oldest (piece ∷ pieces) = pieces
 abbrev pub without_oldest : PieceList → PieceList
 without_oldest list = record list { pieces = behind_oldest list.pieces; lacks_front = true }
 
--- the list after one more line; a file that was renamed to a name that no piece can have counts as a piece with number 0
+-- the list after one more line; a file that was renamed to a name that no piece can have counts as a piece with number
+-- 0
 abbrev pub with_line : PieceList → ListLine → PieceList
 with_line list (Begins first) = record list { is_ending = true }
 with_line list (Begun first) = record { next = Some first; pieces = []; lacks_front = false; is_ending = false }

@@ -130,7 +130,8 @@ fn moved_up(number: u64, piece: Piece) -> Piece
     }
 }
 
-/// Raises the numbers of all pieces from `number` on by one, because a number is only reused after renaming these pieces.
+/// Raises the numbers of all pieces from `number` on by one, because a number is only reused after renaming these
+/// pieces.
 fn all_moved_up(alloc: Global, number: u64, pieces: &[Piece]) -> Result<Vec<Piece>, AllocError>
     ensures { IfOk result (λ moved. moved.items ≡ map (moved_up number) pieces.now) }
 {

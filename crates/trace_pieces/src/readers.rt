@@ -170,8 +170,8 @@ impl<'a, R: Files<File = File>> TraceReader<'a, R> {
         }
     }
 
-    /// Returns the listed pieces after this file, newest first, or none if the file is not a piece. Fails if the file was
-    /// removed, because pieces after it may have been removed too.
+    /// Returns the listed pieces after this file, newest first, or none if the file is not a piece. Fails if the file
+    /// was removed, because pieces after it may have been removed too.
     fn pieces_after(&self, file: &Metadata) -> io::Result<Vec<Piece>> {
         let path = self.path.as_str();
         let mut later = Vec::new(self.alloc);
@@ -215,8 +215,8 @@ impl<'a, R: Files<File = File>> TraceReader<'a, R> {
         }
     }
 
-    /// Returns the file that follows the current one. Returns `None` if the current one is the file at the path, or if no
-    /// file is at the path yet.
+    /// Returns the file that follows the current one. Returns `None` if the current one is the file at the path, or if
+    /// no file is at the path yet.
     fn successor(&mut self) -> io::Result<Option<File>> {
         if let Some(piece) = self.later.pop() {
             return self.open_later(piece).map(Some);

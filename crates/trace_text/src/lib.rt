@@ -1,5 +1,5 @@
-//! Prints and reads the text of a trace: one line per happening; the line of a new table is followed by the lines of the
-//! table (init-trace(5)).
+//! Prints and reads the text of a trace: one line per happening; the line of a new table is followed by the lines of
+//! the table (init-trace(5)).
 #![tactic(auto)]
 
 mod printing;

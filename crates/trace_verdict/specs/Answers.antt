@@ -11,8 +11,8 @@ use Rattle.trace_verdict.specs.declared.findings.Finding.{Finding}
 use Rattle.trace_verdict.specs.declared.findings.Finding.TheVariants.{Lawful, Breach, Torn}
 use Rattle.trace_verdict.specs.Fronts.{IsFront, IsTorn}
 
--- a breach: the position of the happening in the trace, counted from 0; the lowest-numbered law that it breaks; its line
--- in the text, counted from 1; and its text
+-- a breach: the position of the happening in the trace, counted from 0; the lowest-numbered law that it breaks; its
+-- line in the text, counted from 1; and its text
 pub record Named : Type 0 where
   pub position : ℕ
   pub law : Law

@@ -58,8 +58,8 @@ abbrev pub JudgeGoesOn : Bool → TextState → TextState → List ℕ → Type 
 JudgeGoesOn true old new text = IsAt old text → IsAt new text
 JudgeGoesOn false old new text = IsAt old text → HasTaken new text
 
--- after a failed allocation, either the judge is unchanged, or it has taken the whole piece and is reading the text with
--- the piece appended
+-- after a failed allocation, either the judge is unchanged, or it has taken the whole piece and is reading the text
+-- with the piece appended
 abbrev pub Holds : TextState → TextState → List ℕ → Type 0
 Holds old new piece =
     (new ≡ old) ⊎ ((text : List ℕ) → length (text ++ piece) < 2 ^ 64 → IsAt old text → IsAt new (text ++ piece))

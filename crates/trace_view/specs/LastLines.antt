@@ -1,5 +1,5 @@
--- The line of a trace's text at which the last happening of each kind begins, and the line that explains why an entry is
--- not started. Lines are counted from 1. A happening has one line, but a table has one more for each entry.
+-- The line of a trace's text at which the last happening of each kind begins, and the line that explains why an entry
+-- is not started. Lines are counted from 1. A happening has one line, but a table has one more for each entry.
 use Rattle.std.specs.Prelude.{◌≡◌, ℕ, ◌+◌, Bool, true, false, not, max, if◌then◌else◌, List, [], ◌∷◌, reverse, Option}
 use Rattle.std.specs.Prelude.{Some, None}
 use Rattle.trace_view.specs.Words.{newlines, Entry, Stage, same_id, NewTable, Enter, Asked, Hold, Birth, NoBirth}
@@ -124,11 +124,11 @@ wish_line (wish.Level level) past = last_line is_goal past
 wish_line wish.News past = last_line is_news past
 
 -- The line that explains each reason, if there is one. For a missing entry or an action that is never started, it is
--- the line of the table in force; for an entry of another stage, of the stage in force, or of its birth before the first
--- level. For a child, it is the line of its birth, or of the last reaping of the id if that is later; for an open order,
--- of that order; for an entry that was not called, of the last stage or table; for an entry that was started, or too
--- often, of its last start. For an entry that init waits for, it is the line of the birth of its child, or of the stage
--- if that is later; for an excluded child, of its birth; for a request or a hold, of the request or hold.
+-- the line of the table in force; for an entry of another stage, of the stage in force, or of its birth before the
+-- first level. For a child, it is the line of its birth, or of the last reaping of the id if that is later; for an open
+-- order, of that order; for an entry that was not called, of the last stage or table; for an entry that was started, or
+-- too often, of its last start. For an entry that init waits for, it is the line of the birth of its child, or of the
+-- stage if that is later; for an excluded child, of its birth; for a request or a hold, of the request or hold.
 abbrev pub line_at_fault : List ℕ → Why → List Event → Option ℕ
 line_at_fault id why.NoEntry past = last_line is_table past
 line_at_fault id why.NeverStarts past = last_line is_table past

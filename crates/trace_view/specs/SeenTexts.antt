@@ -1,5 +1,5 @@
--- A view of a text that arrives in pieces, together with another observer of its happenings, and the text that both have
--- taken.
+-- A view of a text that arrives in pieces, together with another observer of its happenings, and the text that both
+-- have taken.
 use Rattle.std.specs.Prelude.{ℕ, Bool, true, false, List, reverse, Option}
 use Rattle.trace_view.specs.Words.{Event}
 use Rattle.trace_view.specs.Viewing.{ViewState, Viewed}

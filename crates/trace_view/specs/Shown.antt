@@ -1,5 +1,5 @@
--- The trace that a view shows of a text: the whole trace, or the part before the first happening that breaks a law or the
--- first line at which no happening begins. A view shows nothing of a text that begins in the middle of a run.
+-- The trace that a view shows of a text: the whole trace, or the part before the first happening that breaks a law or
+-- the first line at which no happening begins. A view shows nothing of a text that begins in the middle of a run.
 use Rattle.std.specs.Prelude.{◌≡◌, ℕ, ◌+◌, Bool, true, false, List, [], ◌∷◌, ◌++◌, reverse, Option, Some, None}
 use Rattle.trace_view.specs.Words.{newlines, Event, broken, are_in_range, Law, law_number, event_text, trace_text}
 use Rattle.trace_view.specs.Words.{IsFront, IsTorn}
@@ -7,8 +7,8 @@ use Rattle.trace_view.specs.LastLines.{is_table}
 use Rattle.trace_view.specs.declared.text_views.ViewEnd.{ViewEnd}
 use Rattle.trace_view.specs.declared.text_views.ViewEnd.TheVariants.{Breach, Torn, Within}
 
--- in the text, the trace is followed by a happening that breaks this law and no lower-numbered one; the happening begins
--- at the line with this number, counted from 1
+-- in the text, the trace is followed by a happening that breaks this law and no lower-numbered one; the happening
+-- begins at the line with this number, counted from 1
 pub record IsBefore (trace : List Event) (law : Law) (line : ℕ) (text : List ℕ) : Type 0 where
   pub happening : Event
   pub rest : List ℕ

@@ -78,14 +78,14 @@ by_awaited (Run level) awaited = OtherStage
 by_awaited _ (Some id) = StageOwed id
 by_awaited _ None = OtherStage
 
--- the reason for an entry of another stage: that stage is over, and the entry did or did not run in it; or that stage is
--- still to come
+-- the reason for an entry of another stage: that stage is over, and the entry did or did not run in it; or that stage
+-- is still to come
 abbrev pub elsewhere : Act → Stage → Standing → Why
 elsewhere action stage s =
     if is_past action s.booted stage then (if s.ran then RanBefore else StageOver) else by_awaited stage s.awaited
 
--- the reason for an entry that does not start in the stage in force: no stage has begun, its action is never started, it
--- has a child that may live, or it belongs to another stage
+-- the reason for an entry that does not start in the stage in force: no stage has begun, its action is never started,
+-- it has a child that may live, or it belongs to another stage
 abbrev pub not_here : Act → Option Stage → Standing → Why
 not_here action None s = NoStage
 not_here action (Some stage) s =

@@ -1,7 +1,7 @@
 //! The state of each entry at the end of a trace, and the reason why an entry is not started next.
 //!
-//! A view reads the happenings of a trace, whatever program wrote it, up to the first one that breaks a law. Its answers
-//! agree with the definitions of `trace_events`. A start is due exactly if there is no reason against it.
+//! A view reads the happenings of a trace, whatever program wrote it, up to the first one that breaks a law. Its
+//! answers agree with the definitions of `trace_events`. A start is due exactly if there is no reason against it.
 #![tactic(auto)]
 
 mod calls;

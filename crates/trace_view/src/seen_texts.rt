@@ -90,8 +90,8 @@ impl<S: TraceObserver<A> + Drop, A: Allocator + Copy> ObservedTrace<S, A> {
         }
     }
 
-    /// Takes the next piece of the text, and passes on all complete happenings. If memory allocation fails, some of them
-    /// may have been passed on, and the view must not be used any more.
+    /// Takes the next piece of the text, and passes on all complete happenings. If memory allocation fails, some of
+    /// them may have been passed on, and the view must not be used any more.
     pub fn take(&mut self, piece: &[u8]) -> Result<(), Memory>
         ensures { OnOk result ((text : List ℕ) → length (text ++ piece.now) < 2 ^ 64
             → HasSeenText S.has_seen self.old text
@@ -103,8 +103,8 @@ impl<S: TraceObserver<A> + Drop, A: Allocator + Copy> ObservedTrace<S, A> {
     }
 
     /// Passes the view a happening that is not in the text, such as a consequence of those seen. If it breaks a law,
-    /// returns the lowest-numbered one, and the view is unchanged. If memory allocation fails, the view must not be used
-    /// any more.
+    /// returns the lowest-numbered one, and the view is unchanged. If memory allocation fails, the view must not be
+    /// used any more.
     pub fn show<B: Allocator>(&mut self, happening: &HappeningIn<B>) -> Result<Option<Law>, Memory>
         ensures law { IfOk result (λ law. (past : List Event)
             → Viewed self.old.viewing.viewing past

@@ -140,8 +140,8 @@ impl<A: Allocator + Copy> TextView<A> {
         self.reader.lines()
     }
 
-    /// Passes the view a happening that is not in the text. If it breaks a law, returns the lowest-numbered one, and the
-    /// view is unchanged. If memory allocation fails, the view must not be used any more.
+    /// Passes the view a happening that is not in the text. If it breaks a law, returns the lowest-numbered one, and
+    /// the view is unchanged. If memory allocation fails, the view must not be used any more.
     pub(crate) fn show<B: Allocator>(
         &mut self,
         happening: &HappeningIn<B>,
@@ -171,8 +171,8 @@ impl<A: Allocator + Copy> TextView<A> {
         }
     }
 
-    /// Returns the view of the complete happenings; the reason why the view ended, if it did; and the number of the line,
-    /// counted from 1, at which an incomplete happening begins, if there is one.
+    /// Returns the view of the complete happenings; the reason why the view ended, if it did; and the number of the
+    /// line, counted from 1, at which an incomplete happening begins, if there is one.
     pub fn answer(&self) -> (&TraceView<A>, Option<ViewEnd>, Option<u64>)
         ensures { (trace : List Event) (text : List ℕ) → length text < 2 ^ 64
             → HasShown self.now trace text

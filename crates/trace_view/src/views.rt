@@ -146,8 +146,8 @@ impl<A: Allocator + Copy> TraceView<A> {
         }
     }
 
-    /// Takes the next happening. If it breaks a law, returns the lowest-numbered one, and the view is unchanged. If memory
-    /// allocation fails, the view may have been partly updated, and must not be used any more.
+    /// Takes the next happening. If it breaks a law, returns the lowest-numbered one, and the view is unchanged. If
+    /// memory allocation fails, the view may have been partly updated, and must not be used any more.
     pub fn take<B: Allocator>(&mut self, happening: &HappeningIn<B>) -> Result<Option<Law>, Memory>
         ensures law { IfOk result (λ law. (past : List Event) → Viewed self.old past
             → option_map law_number law ≡ broken happening.now past) }
@@ -242,8 +242,8 @@ impl<A: Allocator> TraceView<A> {
         }
     }
 
-    /// Returns the reason why an entry of the table in force is not started next. As a shortcut, an entry that starts in
-    /// the stage and has a child is not examined further.
+    /// Returns the reason why an entry of the table in force is not started next. As a shortcut, an entry that starts
+    /// in the stage and has a child is not examined further.
     fn why_of(&self, entry: &Entry) -> Why
         ensures { (past : List Event) → Viewed self.now past
             → entry_of entry.now.id (table_of past) ≡ Some entry.now
@@ -362,8 +362,8 @@ impl<A: Allocator> TraceView<A> {
         self.wishes.asked(self.judge.stage())
     }
 
-    /// Returns the stage that init enters next because another level was requested, with the seconds between SIGTERM and
-    /// SIGKILL.
+    /// Returns the stage that init enters next because another level was requested, with the seconds between SIGTERM
+    /// and SIGKILL.
     pub fn next_stage(&self) -> Option<(Stage, u16)>
         ensures { (past : List Event) → Viewed self.now past → result ≡ next_stage past }
     {
@@ -377,8 +377,8 @@ impl<A: Allocator> TraceView<A> {
         self.wishes.announced
     }
 
-    /// Returns whether the stage in force is a runlevel that could be announced settled at this moment, even if init has
-    /// already announced that.
+    /// Returns whether the stage in force is a runlevel that could be announced settled at this moment, even if init
+    /// has already announced that.
     pub fn is_complete(&self) -> bool
         ensures { (past : List Event) → Viewed self.now past → result ≡ is_complete_now past }
     {
