@@ -36,7 +36,7 @@ program_of line =
     let text = skip_blanks line in
     if is_ignored text then [] else program_at (fields_of text)
 
--- the warning is that the program does not exist, which depends on the file system
+-- the warning is that the program was not found, which depends on the file system
 abbrev pub is_missing_program : Warning → Bool
 is_missing_program warning.Missing = true
 is_missing_program _ = false

@@ -48,7 +48,7 @@ pub enum Warning {
     Early,
     /// The line begins with a byte order mark.
     Marked,
-    /// The program of the process does not exist.
+    /// The program of the process is in none of the folders that were searched.
     Missing,
 }
 

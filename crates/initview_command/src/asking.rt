@@ -32,7 +32,7 @@ pub enum TraceQuery {
 pub enum TableQuestion {
     /// The faults and warnings of an inittab.
     Lint,
-    /// The faults and warnings of an inittab, and its programs that do not exist.
+    /// The faults and warnings of an inittab, and its programs that are in none of the given folders.
     Programs,
     /// The changes to the entries in a level when the second inittab replaces the first.
     Diff(Option<Level>),

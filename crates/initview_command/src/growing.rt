@@ -70,7 +70,7 @@ pub trait LiveTraces {
         ensures { OnOk result ((more : List NamedText)
             × (parts.new.items ≡ parts.old.items ++ more)) };
 
-    /// Reports whether a program exists: in one of the folders, which are separated by colons, or at its path if the
+    /// Reports whether a program was found: in one of the folders, which are separated by colons, or at its path if the
     /// path begins with `/`. Any other path depends on the working directory of init, and is assumed to exist.
     fn has_program(&self, alloc: Global, folders: &str, program: &str) -> Result<bool, AllocError>;
 }

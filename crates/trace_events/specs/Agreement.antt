@@ -7,14 +7,14 @@ use Rattle.trace_events.specs.declared.happenings.Happening.TheVariants.{Birth, 
 use Rattle.trace_events.specs.Event.{Event}
 use Rattle.trace_events.specs.Past.{is_child, unreaped_children, known_children}
 
--- init has not yet learned of a birth of this id and number
+-- there was a birth of this id and number that init has not learned of yet
 abbrev pub has_untold_birth : List ℕ → ℕ → List Event → Bool
 has_untold_birth id n [] = false
 has_untold_birth id n (Birth i m ∷ past) = same_id id i && n == m || has_untold_birth id n past
 has_untold_birth id n (Told i ∷ past) = not (same_id id i) && has_untold_birth id n past
 has_untold_birth id n (_ ∷ past) = has_untold_birth id n past
 
--- init has not yet learned that a child of this id and number was reaped
+-- a child of this id and number was reaped, and init has not learned of it yet
 abbrev pub has_untold_end : List ℕ → ℕ → List Event → Bool
 has_untold_end id n [] = false
 has_untold_end id n (Reaped i m status ∷ past) = same_id id i && n == m || has_untold_end id n past

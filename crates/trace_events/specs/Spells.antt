@@ -13,7 +13,7 @@ pub record Signal : Type 0 where
   pub order : Option OrderKind
   pub time : ℕ
 
--- the orders answered by the Hits of the id since its last birth of which init has not learned
+-- the orders for which signals were sent since the last birth of the id, if init has not learned of the signals yet
 abbrev pub untold_hits : List ℕ → List Event → List (Option OrderKind)
 untold_hits id [] = []
 untold_hits id (Birth i n ∷ past) = if same_id id i then [] else untold_hits id past
@@ -21,7 +21,7 @@ untold_hits id (Told i ∷ past) = if same_id id i then [] else untold_hits id p
 untold_hits id (Hit i ∷ past) = if same_id id i then open_of id past ∷ untold_hits id past else untold_hits id past
 untold_hits id (_ ∷ past) = untold_hits id past
 
--- init has not learned of a Miss of the id since its last birth
+-- since the last birth of the id, there was a Miss of the id that init has not learned of yet
 abbrev pub has_untold_miss : List ℕ → List Event → Bool
 has_untold_miss id [] = false
 has_untold_miss id (Birth i n ∷ past) = not (same_id id i) && has_untold_miss id past

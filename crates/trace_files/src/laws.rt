@@ -11,8 +11,8 @@ ghost use Rattle.trace_files.specs.Left.{LeavesFiles};
 /// States in its contract what the trace files contain if init is killed during a call of the host. The function itself
 /// does nothing.
 ///
-/// If the files are not empty and no write to them failed, the trace in the files has the properties (`LeavesFiles`)
-/// that hold for the trace that the log had taken.
+/// If the log had taken a trace that agrees with the state after the kill (`LeftByCrash`), the trace in the files
+/// agrees with this state too (`LeavesFiles`), provided that no write to the files failed and they are not empty.
 pub fn law_of_the_files()
     ensures { (call : HostCall) (goal : Goal) (world trace : List Event) (bytes unwritten : List ℕ)
         → HasText false trace bytes unwritten → bytes ≢ []

@@ -12,8 +12,8 @@ use trace_events::HappeningIn;
 /// A log, which records the happenings of a run, oldest first, until it fails. It keeps what it recorded before the
 /// failure.
 ///
-/// Contracts state whether a log has failed. They state which happenings it has taken only if each of them can occur in
-/// a trace: its seconds are at most 3,600. A log may also keep this to itself.
+/// Contracts state whether a log has failed and, provided that each happening can occur in a trace (its seconds are at
+/// most 3,600), which happenings it has taken. An implementation may leave the happenings unspecified.
 pub trait Log {
     /// The happenings taken, oldest first; whether the log has failed; and the id whose exit statuses it notes, if any.
     ghost state: { Self → LogState };
