@@ -24,7 +24,7 @@ abbrev pub births : List TimelineMark → List (ℕ × ℕ)
 births [] = []
 births (mark ∷ marks) = birth_at mark.time mark.what ++ births marks
 
--- the number of the child and the time at which the bar begins, if the bar is that of a life
+-- the number of the child and the time at which the bar begins, if the bar shows a life
 abbrev pub life_from : ℕ → Drawn → List (ℕ × ℕ)
 life_from from (Waited l) = (l.number, from) ∷ []
 life_from from (Lives l) = (l.number, from) ∷ []

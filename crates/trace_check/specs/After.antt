@@ -78,7 +78,7 @@ called_after table stage (Call letter) id before = is_named_at table stage (Call
 called_after table stage (Asked i Start) id before = (stays_called_in table id || not (same_id id i)) && before
 called_after table stage _ id before = before
 
--- a TERM was sent for the id of which init has not learned; `open_order` is the open order of each id before
+-- a TERM was sent for the id, and init has not learned of it; `open_order` is the open order of each id before
 abbrev pub sent_after : (List ℕ → Option OrderKind) → Event → List ℕ → Bool → Bool
 sent_after open_order (Birth i n) id before = not (same_id id i) && before
 sent_after open_order (Told i) id before = not (same_id id i) && before

@@ -56,11 +56,11 @@ is_wanted_in s e =
 abbrev pub is_owed_in : JudgeState → Entry → Bool
 is_owed_in s e = waited_of e && (among e.id s.kept || is_starting s e.id || is_wanted_in s e)
 
--- the first owed entry before that of the id
+-- the first owed entry before the entry of the id
 abbrev pub first_owed_in : List Entry → JudgeState → List ℕ → Option Entry
 first_owed_in table s id = find (is_owed_in s) (entries_before id table)
 
--- no entry before that of the id is owed
+-- no entry before the entry of the id is owed
 abbrev pub is_in_turn_in : List Entry → JudgeState → List ℕ → Bool
 is_in_turn_in table s id = is_none (first_owed_in table s id)
 

@@ -15,7 +15,7 @@ use Rattle.trace_check.specs.After.{earliest}
 abbrev pub calls_of : List ℕ → List Event → Bool
 calls_of id past = option_map_or (λ e. is_called e past) (entry_of id (table_of past)) false
 
--- a TERM was sent for the id of which init has not learned
+-- a TERM was sent for the id, and init has not learned of it
 abbrev pub has_sent : List ℕ → List Event → Bool
 has_sent id past = list_any (is_order Term) (untold_hits id past)
 

@@ -23,7 +23,7 @@ abbrev pub times_at : List ℕ → List (List ℕ × List ℕ) → List ℕ
 times_at id starts = times_or_none (at id starts)
 
 -- the stage, the seconds between SIGTERM and SIGKILL, and the time; the open orders; the ids that have a kept child,
--- were asked, have a called entry, and were sent a TERM of which init has not learned; for each id, its last starts,
+-- were asked, have a called entry, and were sent a TERM that init has not learned of; for each id, its last starts,
 -- its last hold, its unreaped child, and the time at which init learned of the first TERM in the child's spell
 pub record JudgeState : Type 0 where
   pub stage : Option Stage

@@ -143,7 +143,7 @@ impl<A: Allocator> Judge<A> {
         waited(entry) && (self.kept.contains(id) || self.is_starting(id) || self.is_wanted(entry))
     }
 
-    /// Returns whether no entry before that of the id is owed.
+    /// Returns whether no entry before the entry of the id is owed.
     fn is_in_turn(&self, table: &Table<A>, unowed: usize, id: &Id) -> bool
         requires { IsUnowedPrefix unowed table.now self.now }
         ensures { result ≡ is_in_turn_in table.now self.now id.now }
@@ -151,7 +151,7 @@ impl<A: Allocator> Judge<A> {
         self.first_owed(table, unowed, id).is_none()
     }
 
-    /// Returns the first owed entry before that of the id. The first `unowed` entries are known not to be owed.
+    /// Returns the first owed entry before the entry of the id. The first `unowed` entries are known not to be owed.
     pub(crate) fn first_owed<'a>(
         &self,
         table: &'a Table<A>,
@@ -170,7 +170,7 @@ impl<A: Allocator> Judge<A> {
         self.find_owed(table, id)
     }
 
-    /// Returns the first owed entry before that of the id, searching from the first entry of the table.
+    /// Returns the first owed entry before the entry of the id, searching from the first entry of the table.
     fn find_owed<'a>(&self, table: &'a Table<A>, id: &Id) -> Option<&'a Entry>
         ensures { option_copied result ≡ first_owed_in table.now self.now id.now }
     {

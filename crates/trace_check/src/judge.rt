@@ -18,7 +18,7 @@ use trace_events::HappeningIn;
 /// The state of the checker between two happenings: everything that the laws depend on, except the table.
 ///
 /// `kept`, `asked` and `called` are the ids that have a kept child, were asked, and have a called entry. `sent` are the
-/// ids that were sent a TERM of which init has not learned. `termed` has, for each id, the time at which init learned
+/// ids that were sent a TERM that init has not learned of. `termed` has, for each id, the time at which init learned
 /// of the first TERM in the spell of the id's child.
 #[derive(Drop)]
 pub(crate) struct Judge<A: Allocator> {

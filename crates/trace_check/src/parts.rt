@@ -185,7 +185,7 @@ fn add_named<A: Allocator, B: Allocator>(
     Ok(())
 }
 
-/// Updates the ids that were sent a TERM of which init has not learned. The set must have room for one more.
+/// Updates the ids that were sent a TERM that init has not learned of. The set must have room for one more.
 pub(crate) fn take_sent<A: Allocator, B: Allocator>(
     sent: &mut Ids<A>,
     orders: &ById<OrderKind, A>,

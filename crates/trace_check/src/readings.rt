@@ -60,7 +60,7 @@ impl<A: Allocator> TraceJudge<A> {
         self.judge.is_wanted(entry)
     }
 
-    /// Returns the first owed entry before that of the id.
+    /// Returns the first owed entry before the entry of the id.
     pub fn first_owed(&self, id: &Id) -> Option<&Entry>
         ensures { (past : List Event) → Judged self.now past → option_copied result
             ≡ find (λ e. is_owed e past) (entries_before id.now (table_of past)) }

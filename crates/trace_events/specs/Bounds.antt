@@ -38,7 +38,7 @@ hits_ordered_child (Hit id) past =
     (targets id past)
 hits_ordered_child _ past = true
 
--- the KILLs sent to the child of which init learned in its spell
+-- the KILLs sent to the child that init learned of in its spell
 abbrev pub spell_kills : Child → List Event → List Signal
 spell_kills child past = filter (λ (signal : Signal). is_order Kill signal.order) (spell_hits child past)
 

@@ -95,7 +95,7 @@ abbrev pub stop_step : List ℕ → Option OrderKind → List Step
 stop_step id None = []
 stop_step id (Some ask) = Order id ask ∷ []
 
--- the signals that are due to those of these children that belong to the id
+-- the signals that are due to the children of the id in this list
 abbrev pub stops_of : List ℕ → List Child → List Event → List Step
 stops_of id [] past = []
 stops_of id (child ∷ children) past =

@@ -20,7 +20,7 @@ has_no_unreaped_child id past = not (has_child id (unreaped_children past))
 abbrev pub has_startable_entry : List ℕ → List Event → Bool
 has_startable_entry id past = option_map_or (λ (e : Entry). starts_now e past) (entry_of id (table_of past)) false
 
--- 3: at a Birth, no entry before that of the id is owed
+-- 3: at a Birth, no entry before the entry of the id is owed
 abbrev pub is_in_turn : List ℕ → List Event → Bool
 is_in_turn id past = not (is_owed_before id past)
 

@@ -118,7 +118,7 @@ undone_of id (Asked i ask ∷ past) = if same_id id i then Some ask else undone_
 undone_of id (Told i ∷ past) = if same_id id i then None else undone_of id past
 undone_of id (happening ∷ past) = undone_by id (act_in happening) (undone_of id past)
 
--- after this act, there is an act of the system for the id of which init has not learned
+-- after this act, there is an act of the system for the id that init has not learned of
 abbrev pub untold_by : List ℕ → Option SystemAct → Bool → Bool
 untold_by id None before = before
 untold_by id (Some act) before = same_id id act.id || before

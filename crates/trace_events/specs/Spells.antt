@@ -29,11 +29,11 @@ has_untold_miss id (Told i ∷ past) = not (same_id id i) && has_untold_miss id 
 has_untold_miss id (Miss i ∷ past) = same_id id i || has_untold_miss id past
 has_untold_miss id (_ ∷ past) = has_untold_miss id past
 
--- a Hit that answered this order, of which init learned at this time
+-- a Hit that answered this order, and that init learned of at this time
 abbrev pub told_at : ℕ → Option OrderKind → Signal
 told_at time order = record { order = order; time = time }
 
--- the Hits of the child of which init learns with this happening
+-- the Hits of the child that init learns of with this happening
 abbrev pub tells_hits : Child → Event → List Event → List Signal
 tells_hits child (Told i) past =
     if same_id child.id i then map (told_at (time_of past)) (untold_hits child.id past) else []
@@ -48,7 +48,7 @@ is_birth_of id _ = false
 abbrev pub in_spell : Child → Event → List Event → Bool
 in_spell child happening past = is_excluded (happening ∷ past) child && not (is_birth_of child.id happening)
 
--- the Hits of the child of which init learned in its spell, newest first
+-- the Hits of the child that init learned of in its spell, newest first
 abbrev pub spell_hits : Child → List Event → List Signal
 spell_hits child [] = []
 spell_hits child (happening ∷ past) =

@@ -70,7 +70,7 @@ abbrev pub entries_before : List ℕ → List Entry → List Entry
 entries_before id [] = []
 entries_before id (e ∷ es) = if same_id id e.id then [] else e ∷ entries_before id es
 
--- an entry before that of the id is owed
+-- an entry before the entry of the id is owed
 abbrev pub is_owed_before : List ℕ → List Event → Bool
 is_owed_before id past = list_any (λ e. is_owed e past) (entries_before id (table_of past))
 

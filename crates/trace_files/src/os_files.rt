@@ -195,7 +195,7 @@ impl<R: Files<File = File>> OsFiles<'_, R> {
         Ok(())
     }
 
-    /// Returns the number after that of the newest piece.
+    /// Returns the number that follows the number of the newest piece.
     fn next_number(&self, path: &str) -> io::Result<u64> {
         match newest_piece(self.rt, self.alloc, path)?.checked_add(1) {
             Some(number) => Ok(number),

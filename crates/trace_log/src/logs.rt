@@ -36,14 +36,14 @@ pub trait Log {
 /// A log that the caller ends after the run. It then passes on any happenings that it still holds back, and accepts no
 /// more.
 pub trait EndedLog: Log {
-    /// The value that `end` returns, such as the list or the writer of the log.
+    /// The result of `end`, such as the list or the writer of the log.
     type Left;
 
     /// Whether this value can remain of a log that took this trace, oldest first. The flag is true if it passed on
     /// everything.
     ghost has_ended: { Self.Left → Bool → List Event → Type 0 };
 
-    /// Ends the log. Returns what remains of it, and whether it passed on everything.
+    /// Ends the log. Returns its result, and whether the log passed on everything.
     fn end(self) -> (Self::Left, bool)
         ensures failed { (Self.state self).failed ≡ true → result.1 ≡ false }
         ensures ended { (trace : List Event)

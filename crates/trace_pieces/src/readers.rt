@@ -314,7 +314,7 @@ fn pieced_path<R: Files>(rt: &R, alloc: Global, path: &str) -> io::Result<String
     Ok(copy)
 }
 
-/// Returns whether the folder of a trace has pieces of it, or a list of pieces.
+/// Returns whether the folder of a trace has pieces of the trace, or a list of pieces.
 fn has_pieces<R: Files>(rt: &R, alloc: Global, path: &str) -> io::Result<bool> {
     let list = list_path(alloc, path)?;
     Ok(fs::metadata(rt, list.as_str()).is_ok() || newest_piece(rt, alloc, path)? > 0)
