@@ -101,7 +101,7 @@ has_nameless parts faults = list_any (is_nameless parts) faults
 
 -- the line for a warning
 abbrev pub warning_line : List NamedText → LineWarning → Line
-warning_line parts found = File (name_of (slice_get parts found.part)) (told.WasTermedBefore found.line found.kind)
+warning_line parts found = File (name_of (slice_get parts found.part)) (told.Warning found.line found.kind)
 
 -- a message about the whole inittab, which names its first file, if the condition holds
 abbrev pub note_if : Bool → List NamedText → FileLine → List Line

@@ -92,7 +92,7 @@ pub enum FileLine {
     /// meant.
     LeftOut(u32, LineKind, Bytes, Option<Act>),
     /// The line does not do what it seems to do.
-    WasTermedBefore(usize, Warning),
+    Warning(usize, Warning),
     /// The line itself, whose entry is in the table.
     Kept(usize, Bytes),
     /// Some lines have no id.

@@ -261,7 +261,7 @@ fn fault_lines(
 fn warning_line(alloc: Global, parts: &[Part], found: &LineWarning) -> Result<Line, AllocError>
     ensures { IfOk result (λ line. line ≡ warning_line parts.now found.now) }
 {
-    let warned = FileLine::WasTermedBefore(found.line, found.kind);
+    let warned = FileLine::Warning(found.line, found.kind);
     file_line(alloc, part_at(parts, found.part), warned)
 }
 

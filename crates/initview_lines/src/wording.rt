@@ -77,7 +77,7 @@ fn add_file_line(text: &mut Vec<u8>, alloc: Global, told: &FileLine) -> Result<(
             fill(text, b":@: @", &[position, Value::Text(reason.as_bytes())])?;
             add_hint(text, kind, field.as_slice(), *meant)
         }
-        FileLine::WasTermedBefore(line, kind) => fill(
+        FileLine::Warning(line, kind) => fill(
             text,
             b":@: warning: @",
             &[Value::Number(*line as u64), Value::Text(kind.words())],
