@@ -1,4 +1,4 @@
--- The records after another table was read (init(8)).
+-- How the records change when init reads a new table (init(8)).
 use Rattle.std.specs.Prelude.{Bool, false, ◌&&◌, if◌then◌else◌, ◌++◌, List, map, filter, Option, Some, None, is_some}
 use Rattle.std.specs.Prelude.{is_none}
 use Rattle.init_words.specs.declared.entries.Entry.{Entry}
@@ -7,9 +7,8 @@ use Rattle.inittab_text.specs.Tables.{entry_of}
 use Rattle.child_table.specs.State.{SlotState, new_record, is_act}
 use Rattle.child_table.specs.Lists.{record_by_id}
 
--- the record of an entry of the new table: the child stays with its id, and so do its open order, its stop, and how the
--- last child ended; whether it was asked stays if the id had the same action before; calls, starts and holds are
--- dropped
+-- the record of an entry of the new table: it keeps the child of its id, the open order, the stop, and the wait status
+-- of the last child; it keeps `asked` if the id had the same action before; it loses calls, starts and holds
 abbrev pub adopted : Entry → Option SlotState → SlotState
 adopted e None = new_record e
 adopted e (Some slot) = record slot {
@@ -20,15 +19,15 @@ adopted e (Some slot) = record slot {
   limiter = unused;
 }
 
--- the record of an id that is not in the new table: it keeps its child, and how the last child ended
+-- the record of an id that is not in the new table: it keeps its child, and the wait status of the last child
 abbrev pub left_over : SlotState → SlotState
 left_over slot = record slot { table_act = None; asked = false; called = false; limiter = unused }
 
--- a record stays without an entry if it has a child
+-- the new table has no entry for the record, which is kept because it has a child
 abbrev pub is_left_over : List Entry → SlotState → Bool
 is_left_over table slot = is_some slot.child && is_none (entry_of slot.id table)
 
--- the record that stays of this one, if any
+-- the record without its entry, if it is kept
 abbrev pub left_one : List Entry → Option SlotState → Option SlotState
 left_one table None = None
 left_one table (Some slot) = if is_left_over table slot then Some (left_over slot) else None
@@ -37,10 +36,10 @@ left_one table (Some slot) = if is_left_over table slot then Some (left_over slo
 abbrev pub entry_records : List Entry → List SlotState → List SlotState
 entry_records table slots = map (λ (e : Entry). adopted e (record_by_id e.id slots)) table
 
--- the records that stay without an entry, in their earlier order
+-- the records that are kept without an entry, in their previous order
 abbrev pub left_records : List Entry → List SlotState → List SlotState
 left_records table slots = map left_over (filter (is_left_over table) slots)
 
--- the records after the table was adopted: those of its entries, then those that stay without an entry
+-- the records after init adopts the table: those of its entries, then those kept without an entry
 abbrev pub after_adopt : List Entry → List SlotState → List SlotState
 after_adopt table slots = entry_records table slots ++ left_records table slots

@@ -1,4 +1,4 @@
--- How an order, a hold, a call, a stage, a round and an answer change a record (init(8)).
+-- How each event changes a record: an order, a hold, a call, a new stage, a new round, an answer (init(8)).
 use Rattle.std.specs.Prelude.{ℕ, Bool, true, false, not, ◌&&◌, ◌||◌, if◌then◌else◌, Option, Some, None, is_some}
 use Rattle.std.specs.Prelude.{is_none}
 use Rattle.init_words.specs.declared.orders.OrderKind.{OrderKind}
@@ -18,16 +18,16 @@ abbrev pub allows : May → Bool
 allows Yes = true
 allows (HoldUntil end) = false
 
--- an order may be given now: no order is open; a start needs an entry without a child, which the respawn limit must
--- allow if it applies; any other order needs a child
+-- init may give this order now: no order is open; a start needs an entry without a child, and the respawn limit, if it
+-- applies, must allow the start; any other order needs a child
 abbrev pub can_be_asked : OrderKind → ℕ → SlotState → Bool
 can_be_asked Start now slot =
     is_none slot.order && is_some slot.table_act && is_none slot.child
     && (not (is_limited_record slot) || allows (may_of slot.limiter now))
 can_be_asked ask now slot = is_none slot.order && is_some slot.child
 
--- after an order: a start counts as asked, ends a call unless the action stays called, and is counted by the respawn
--- limit if it applies; a look is no longer to be made
+-- the record after an order: a start sets `asked`, ends a call unless the action stays called, and counts toward the
+-- respawn limit if that applies; a look clears `look`
 abbrev pub after_order : OrderKind → ℕ → SlotState → SlotState
 after_order Start now slot = record slot {
   order = Some Start;
@@ -38,29 +38,29 @@ after_order Start now slot = record slot {
 after_order Look now slot = record slot { order = Some Look; look = false }
 after_order ask now slot = record slot { order = Some ask }
 
--- after a hold
+-- the record after a hold begins
 abbrev pub after_hold : ℕ → SlotState → SlotState
 after_hold now slot = record slot { limiter = with_hold slot.limiter now }
 
--- after a call of the entry by a letter or a power event
+-- the record after a letter or a power event calls its entry
 abbrev pub after_call : SlotState → SlotState
 after_call slot = record slot { called = true }
 
--- after a stage was entered: nothing was asked, called, counted or held in it yet
+-- the record after init enters a stage: no start was ordered or counted yet, and the entry is neither called nor held
 abbrev pub after_enter : SlotState → SlotState
 after_enter slot = record slot { asked = false; called = false; limiter = unused }
 
--- after a round began: a child is to be looked at, and a signal that missed it may be sent again
+-- the record after a round begins: init may look at its child, and may repeat a signal that missed the child
 abbrev pub after_nudge : SlotState → SlotState
 after_nudge slot = record slot { look = is_some slot.child || slot.look; missed = false }
 
--- the stop after a signal was sent at this time, by the order that was open
+-- the stop after the signal of the open order is sent at this time
 abbrev pub after_hit : Option OrderKind → ℕ → Option Stop → Option Stop
 after_hit (Some Term) now stop = Some (Termed now)
 after_hit (Some Kill) now stop = Some (Killed now)
 after_hit _ now stop = stop
 
--- after an answer: the order is no longer open
+-- the record after an answer: the order is no longer open
 abbrev pub after_answer : Answer → ℕ → SlotState → SlotState
 after_answer (Born number) now slot = record slot {
   order = None;

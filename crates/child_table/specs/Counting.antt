@@ -1,5 +1,5 @@
--- The number of records with an open order, with an open start or signal, with a child that is to be stopped, with such
--- a child and no signal sent, and with a child that the last signal missed.
+-- How many records have an open order, an open start or signal, a child to stop, a child to stop that was sent no
+-- signal yet, and a child that the last signal missed.
 use Rattle.std.specs.Prelude.{◌≤◌, ◌<◌, ◌+◌, ◌-◌, ◌^◌, List, is_some}
 use Rattle.std.specs.List.{count_by}
 use Rattle.child_table.specs.declared.counts.Counts.{Counts}

@@ -1,4 +1,4 @@
--- The records in record order, one per id: how one is found and changed, and how an answer changes them.
+-- The list of records, one per id, in record order: how to find or change one, and how an answer changes the list.
 use Rattle.std.specs.Prelude.{ℕ, Bool, true, false, not, ◌&&◌, ◌==◌, if◌then◌else◌, List, [], ◌∷◌, map, filter, find}
 use Rattle.std.specs.Prelude.{Option, Some, None, is_some, Result, Ok, Err}
 use Rattle.std.specs.List.{list_any}
@@ -18,7 +18,7 @@ use Rattle.child_table.specs.Changes.{can_be_asked, after_answer, is_over}
 abbrev pub ids_of_records : List SlotState → List (List ℕ)
 ids_of_records slots = map (λ (slot : SlotState). slot.id) slots
 
--- the record is that of the id
+-- the record has this id
 abbrev pub is_record_of : List ℕ → SlotState → Bool
 is_record_of id slot = same_id id slot.id
 
@@ -35,12 +35,12 @@ record_by_id id slots = find (is_record_of id) slots
 abbrev pub has_record_of : List ℕ → List SlotState → Bool
 has_record_of id slots = is_some (record_by_id id slots)
 
--- there is a record, and this order may be given for it now
+-- there is a record, and init may give this order for it now
 abbrev pub can_ask_of : OrderKind → ℕ → Option SlotState → Bool
 can_ask_of ask now None = false
 can_ask_of ask now (Some slot) = can_be_asked ask now slot
 
--- this order may be given for the id now
+-- init may give this order for the id now
 abbrev pub can_ask : List ℕ → OrderKind → ℕ → List SlotState → Bool
 can_ask id ask now slots = can_ask_of ask now (record_by_id id slots)
 
@@ -68,23 +68,23 @@ abbrev pub is_busy : Option OrderKind → Bool
 is_busy None = false
 is_busy (Some ask) = not (same_ask Look ask)
 
--- a quiet point: no such order is open
+-- a quiet point: no start and no signal is open
 abbrev pub is_quiet : List SlotState → Bool
 is_quiet slots = not (list_any (λ (slot : SlotState). is_busy slot.order) slots)
 
--- the record, changed if it is that of the id
+-- the record, changed if it has this id
 abbrev pub changed : List ℕ → (SlotState → SlotState) → SlotState → SlotState
 changed id change slot = if is_record_of id slot then change slot else slot
 
--- the records, with that of the id changed
+-- the records, after a change to the record of the id
 abbrev pub with_changed : List ℕ → (SlotState → SlotState) → List SlotState → List SlotState
 with_changed id change slots = map (changed id change) slots
 
--- the records without that of the id
+-- the records, except the record of the id
 abbrev pub without : List ℕ → List SlotState → List SlotState
 without id slots = filter (λ (slot : SlotState). not (is_record_of id slot)) slots
 
--- whether an answer is accepted: it is not if no order is open, or if the order is of another kind
+-- whether an answer is accepted, given the open order: there must be one, and the answer must be for its kind
 abbrev pub refusal_of : Option OrderKind → Answer → Result (Unit {0}) Refusal
 refusal_of None answer = Err NotAsked
 refusal_of (Some ask) answer = if answers answer ask then Ok tt else Err WrongAnswer
@@ -98,7 +98,7 @@ ends_record answer (Some slot) = is_over answer slot
 abbrev pub is_over_in : List ℕ → Answer → List SlotState → Bool
 is_over_in id answer slots = ends_record answer (record_by_id id slots)
 
--- the records after an answer for an id at this time: a record that it ends is removed, any other is changed
+-- the records after an answer for an id at this time: the answer removes the record if it ends it, or else changes it
 abbrev pub after_answer_to : List ℕ → Answer → ℕ → List SlotState → List SlotState
 after_answer_to id answer now slots =
     if is_over_in id answer slots then without id slots else with_changed id (after_answer answer now) slots

@@ -10,10 +10,10 @@ use Rattle.respawn_limit.specs.State.{LimiterState, unused}
 use Rattle.child_table.specs.declared.children.KnownChild.{KnownChild}
 use Rattle.child_table.specs.declared.children.Stop.{Stop}
 
--- the id, and the table's action for it, if the table has it; the child, the order that is not answered yet, and how
--- far the stopping of the child has come; whether a start was ordered since the stage was entered or a table brought
--- the entry, whether the entry is called, whether the child is to be looked at, and whether a signal missed it; the
--- last starts and the last hold; and how the last child ended
+-- the id, and its action if the table has the id; the child, the unanswered order, and the progress of stopping the
+-- child; whether a start was ordered since the stage was entered or the entry was read, whether the entry is called,
+-- whether a look at the child is due, and whether a signal missed the child; the last starts and the last hold; and the
+-- wait status of the last child
 pub record SlotState : Type 0 where
   pub id : List ℕ
   pub table_act : Option Act
@@ -27,7 +27,7 @@ pub record SlotState : Type 0 where
   pub limiter : LimiterState
   pub last : Option Status
 
--- the record of an entry for which nothing was ordered yet
+-- the record of an entry before any order
 abbrev pub new_record : Entry → SlotState
 new_record e = record {
   id = e.id;

@@ -1,11 +1,11 @@
--- How far the stopping of children has come: which of them were sent no signal yet, and which a SIGTERM, and when.
+-- The progress of stopping children: which were sent no signal yet, which were sent SIGTERM, and when.
 use Rattle.std.specs.Prelude.{◌≡◌, ℕ, Bool, true, false, ◌==◌, List, nat_lt, Option, Some, None}
 use Rattle.std.specs.List.{list_any}
 use Rattle.child_table.specs.declared.children.Stop.{Stop}
 use Rattle.child_table.specs.declared.children.Stop.TheVariants.{Due, Termed}
 use Rattle.child_table.specs.State.{SlotState}
 
--- the child is to be stopped, and no signal was sent to it yet
+-- the child must be stopped, and no signal was sent to it yet
 abbrev pub is_stop_due : Option Stop → Bool
 is_stop_due (Some Due) = true
 is_stop_due _ = false

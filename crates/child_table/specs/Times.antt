@@ -1,4 +1,4 @@
--- The times in a record, in seconds: those of the last starts, and that of the last signal to its child.
+-- The times in a record, in seconds: when its entry was last started, and when its child was last sent a signal.
 use Rattle.std.specs.Prelude.{ℕ, Bool, true, ◌&&◌, List, nat_le, Option, Some}
 use Rattle.std.specs.List.{list_all}
 use Rattle.child_table.specs.declared.children.Stop.{Stop}
@@ -11,7 +11,7 @@ is_stop_timely now (Some (Termed time)) = nat_le time now
 is_stop_timely now (Some (Killed time)) = nat_le time now
 is_stop_timely now _ = true
 
--- no start and no signal in the record is later than now; the end of a hold may be
+-- no start and no signal in the record is later than now, but the end of a hold may be later
 abbrev pub is_timely : ℕ → SlotState → Bool
 is_timely now slot = list_all (λ start. nat_le start now) slot.limiter.starts && is_stop_timely now slot.stop
 

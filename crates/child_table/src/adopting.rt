@@ -1,4 +1,4 @@
-//! Records under another table: an entry has the record of its id, and records that lost their entry may stay.
+//! Adopts a new table: each entry gets the record of its id, and a record without an entry is kept if it has a child.
 
 ghost use Rattle.std.specs.Prelude.{◌≡◌, ◌<◌, ◌++◌, Some, None, map, length, slice_get, option_map, true, IfSome, IfOk, OnOk, OnErr};
 ghost use Rattle.std.specs.Option.{option_to_list};
@@ -18,7 +18,7 @@ impl<A: Allocator + Copy> Slots<A> {
     ghost use Rattle.child_table.specs.State.{new_record};
     ghost use Rattle.inittab_text.specs.Tables.{is_distinct};
 
-    /// Creates the records of a table for which nothing was ordered yet. A table has no id twice.
+    /// Creates the records of a table before any order. No id occurs twice in a table.
     pub fn new(alloc: A, table: &Table<A>) -> Result<Slots<A>, Memory>
         ensures records { IfOk result (λ slots. slots ≡ map new_record table.now) }
         ensures distinct { is_distinct table.now ≡ true }
@@ -28,8 +28,8 @@ impl<A: Allocator + Copy> Slots<A> {
         Ok(slots)
     }
 
-    /// Adopts another table: its entries now have the records of their ids, and the records of other ids stay if they
-    /// have a child. If memory allocation fails, nothing changes. A table has no id twice.
+    /// Adopts another table: its entries get the records of their ids, and records of other ids are kept if they have a
+    /// child. If memory allocation fails, nothing changes. No id occurs twice in a table.
     pub fn adopt(&mut self, table: &Table<A>) -> Result<(), Memory>
         ensures adopted { OnOk result (self.new ≡ after_adopt table.now self.old) }
         ensures unchanged { OnErr result (self.new ≡ self.old) }
@@ -91,7 +91,7 @@ fn adopted_record<A: Allocator>(table: &Table<A>, position: usize, before: &Slot
     Slot::adopted(entry, before.by_id(&entry.id))
 }
 
-/// Returns the record at a position as it stays without an entry, if it stays.
+/// Returns the record at a position, without its entry, if the new table has no entry for it and it has a child.
 fn left_record<A: Allocator>(table: &Table<A>, before: &Slots<A>, position: usize) -> Option<Slot>
     ensures value { result ≡ left_one table.now (slice_get before.now position) }
     ensures timely { IfSome result (λ s. is_timely CLOCK_LIMIT s ≡ true) }

@@ -1,4 +1,4 @@
-//! A child as its record knows it, and how far its stopping has come.
+//! A child as its record describes it, and the progress of stopping it.
 
 use init_words::{Act, ChildNumber};
 
@@ -10,7 +10,7 @@ pub struct KnownChild {
     pub act: Option<Act>,
 }
 
-/// How far the stopping of an excluded child has come (init(8)): SIGTERM comes first, then SIGKILL.
+/// The progress of stopping an excluded child (init(8)): SIGTERM comes first, then SIGKILL.
 #[derive(Clone, Copy, PartialEq, Eq)]
 pub enum Stop {
     /// No signal was sent yet.

@@ -1,4 +1,4 @@
-//! Counts of records, which are kept so that no step has to count them again.
+//! Running counts of records, so that no step has to count them again.
 
 ghost use Rattle.std.specs.Prelude.{◌≡◌, [], ◌∷◌, is_some};
 ghost use Rattle.std.specs.List.{count_by};
@@ -8,18 +8,18 @@ ghost use Rattle.child_table.specs.Stopping.{is_stop_due};
 
 use crate::slot::Slot;
 
-/// The numbers of records of several kinds.
+/// Counts of the records with an open order, a child to stop, and so on.
 #[derive(Clone, Copy)]
 pub(crate) struct Counts {
     /// Records with an open order.
     pub(crate) orders: usize,
     /// Records whose open order is a start or a signal.
     pub(crate) busy: usize,
-    /// Records whose child is to be stopped.
+    /// Records whose child must be stopped.
     pub(crate) excluded: usize,
-    /// Records whose child is to be stopped, and to which no signal was sent yet.
+    /// Records whose child must be stopped and was sent no signal yet.
     pub(crate) due: usize,
-    /// Records whose child was missed by the last signal.
+    /// Records whose child the last signal missed.
     pub(crate) missed: usize,
 }
 
@@ -73,21 +73,21 @@ impl Counts {
     }
 }
 
-/// Returns the number of children that are to be stopped.
+/// Returns the number of children that must be stopped.
 pub(crate) fn count_excluded(slots: &[Slot]) -> usize
     ensures { result ≡ count_by (λ (slot : SlotState). is_some slot.stop) slots.now }
 {
     slots.iter().filter(|slot| slot.stop().is_some()).count()
 }
 
-/// Returns the number of children that were missed by the last signal.
+/// Returns the number of children that the last signal missed.
 pub(crate) fn count_missed(slots: &[Slot]) -> usize
     ensures { result ≡ count_by (λ (slot : SlotState). slot.missed) slots.now }
 {
     slots.iter().filter(|slot| slot.missed()).count()
 }
 
-/// Returns the number of children that are to be stopped and to which no signal was sent yet.
+/// Returns the number of children that must be stopped and were sent no signal yet.
 pub(crate) fn count_due(slots: &[Slot]) -> usize
     ensures { result ≡ count_by (λ (slot : SlotState). is_stop_due slot.stop) slots.now }
 {

@@ -19,7 +19,7 @@ pub(crate) struct Keyed {
     pub(crate) id: Id,
 }
 
-/// Returns the item of the record's child, whose key is its number, if the record has a child.
+/// Returns the index item of the record's child, if it has one. The key is the child's number.
 pub(crate) fn child_of(slot: &Slot) -> Option<Keyed>
     ensures { result ≡ child_of slot.now }
 {
@@ -30,7 +30,7 @@ pub(crate) fn child_of(slot: &Slot) -> Option<Keyed>
     })
 }
 
-/// Returns the item of the SIGTERM to the record's child, whose key is its time, if that was the last signal.
+/// Returns the index item of the SIGTERM sent to the record's child, if that was the last signal. The key is its time.
 pub(crate) fn termed_of(slot: &Slot) -> Option<Keyed>
     ensures { result ≡ termed_of slot.now }
 {
@@ -43,21 +43,21 @@ pub(crate) fn termed_of(slot: &Slot) -> Option<Keyed>
     }
 }
 
-/// Returns whether the id may have another child after the answer, or none.
+/// Returns whether the answer can change which child the id has.
 pub(crate) fn changes_child(answer: &Answer) -> bool
     ensures { result ≡ changes_child answer.now }
 {
     matches!(answer, Answer::Born(_) | Answer::Ended(_))
 }
 
-/// Returns whether the stop of the id's child may change with the answer.
+/// Returns whether the answer can change the stop of the id's child.
 pub(crate) fn changes_stop(answer: &Answer) -> bool
     ensures { result ≡ changes_stop answer.now }
 {
     matches!(answer, Answer::Born(_) | Answer::Ended(_) | Answer::Hit)
 }
 
-/// The records with a key.
+/// The result of a search for a key: no record has it, one record (with this id) has it, or several may have it.
 pub(crate) enum Found {
     None,
     One(Id),
@@ -98,7 +98,7 @@ pub(crate) fn with_key(items: &[Keyed], key: u64) -> Found
     Found::One(items[first].id)
 }
 
-/// Returns the smallest key, which is that of the first item.
+/// Returns the smallest key, which is the key of the first item.
 pub(crate) fn first_key(items: &[Keyed]) -> Option<u64>
     ensures { result ≡ first_key items.now }
 {
@@ -106,7 +106,7 @@ pub(crate) fn first_key(items: &[Keyed]) -> Option<u64>
     Some(item.key)
 }
 
-/// Makes room for the items of this number of records.
+/// Reserves room for the items of this many records.
 pub(crate) fn make_room<A: Allocator>(
     items: &mut Vec<Keyed, A>,
     records: usize,
@@ -120,7 +120,7 @@ pub(crate) fn make_room<A: Allocator>(
     Ok(())
 }
 
-/// Returns whether the item at the position is that of the id.
+/// Returns whether the item at the position has this id.
 fn is_for(items: &[Keyed], position: usize, id: &Id) -> bool
     ensures { result ≡ is_for id.now (slice_get items.now position) }
 {
@@ -130,7 +130,7 @@ fn is_for(items: &[Keyed], position: usize, id: &Id) -> bool
     }
 }
 
-/// Removes the item of an id, which is `item` if it has one.
+/// Removes the item of an id. `item` is that item, or `None` if the id has no item.
 pub(crate) fn forget<A: Allocator>(items: &mut Vec<Keyed, A>, id: &Id, item: Option<Keyed>)
     requires sorted { are_sorted items.old.items ≡ true }
     requires one { count_for id.now items.old.items ≡ passes (λ _. true) item }
@@ -169,7 +169,7 @@ pub(crate) fn put<A: Allocator>(items: &mut Vec<Keyed, A>, item: Option<Keyed>)
     }
 }
 
-/// Updates the index after an answer about an id: if the answer moves the id's item, `item` replaces `before`.
+/// Updates the index after an answer for an id: if the answer changes the id's item, `item` replaces `before`.
 pub(crate) fn note<A: Allocator>(
     items: &mut Vec<Keyed, A>,
     id: &Id,
@@ -194,8 +194,7 @@ pub(crate) fn note<A: Allocator>(
     }
 }
 
-/// Builds the index of the times of SIGTERMs again. There must be room for one item per record, so this allocates no
-/// memory.
+/// Rebuilds the index of SIGTERM times. There must be room for one item per record, so this allocates no memory.
 pub(crate) fn index_termed<A: Allocator>(items: &mut Vec<Keyed, A>, slots: &[Slot])
     requires { length slots.now ≤ vec_capacity items.old }
     ensures { IsIndex termed_of slots.now items.new }

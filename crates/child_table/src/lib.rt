@@ -1,11 +1,11 @@
-//! Init's records, one per id of inittab(5): the child that init knows of, the order that is not answered yet, and what
-//! was asked, missed and counted since.
+//! Init's records, one per id of inittab(5): the child that init knows of, the unanswered order, and the starts and
+//! signals since the stage was entered.
 //!
 //! A `Slots` keeps them by id, in record order: first those of the table's entries, then those of ids that left the
 //! table and still have a child. It makes no decisions: its caller reports what was ordered, answered and entered.
 //!
-//! The crate is tested by `test_core`. Record order is proved, and all crates of the core rely on it. The indexes and
-//! the counts may be implemented differently, as long as the invariant of `Slots` covers them.
+//! `test_core` tests this crate. All crates of the core rely on record order, which is proved. You may implement the
+//! indexes and the counts differently if the invariant of `Slots` still covers them.
 #![tactic(auto)]
 
 mod adopting;

@@ -1,4 +1,4 @@
-//! Creates records again from their values.
+//! Rebuilds the records from a list of their values.
 
 ghost use Rattle.std.specs.Prelude.{◌≡◌, true, if◌then◌else◌, IfOk, Some, None};
 ghost use Rattle.respawn_limit.specs.declared.TheConstants.{CLOCK_LIMIT};
@@ -11,8 +11,8 @@ use init_words::Memory;
 use std::alloc::Allocator;
 
 impl<A: Allocator + Copy> Slots<A> {
-    /// Creates the records from a list in their order, or returns `None` if an id has two. No start or signal in them
-    /// may be later than the clock's limit.
+    /// Creates the records from a list, in the same order, or returns `None` if an id occurs twice. No start or signal
+    /// in the list may be later than `CLOCK_LIMIT`.
     pub fn rebuilt(alloc: A, given: Vec<Slot, A>) -> Result<Option<Slots<A>>, Memory>
         requires { are_timely CLOCK_LIMIT given.items ≡ true }
         ensures { IfOk result (λ slots.

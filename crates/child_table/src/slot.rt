@@ -137,42 +137,42 @@ impl Slot {
         self.child?.act
     }
 
-    /// Returns the order that is not answered yet.
+    /// Returns the order that init has not received an answer to.
     pub fn order(&self) -> Option<OrderKind>
         ensures { result ≡ self.now.order }
     {
         self.order
     }
 
-    /// Returns how far the stopping of the child has come, or `None` if the child is not to be stopped.
+    /// Returns the progress of stopping the child, or `None` if the child need not be stopped.
     pub fn stop(&self) -> Option<Stop>
         ensures { result ≡ self.now.stop }
     {
         self.stop
     }
 
-    /// Returns whether a start was ordered since the stage was entered or a table brought the entry.
+    /// Returns whether a start was ordered since the stage was entered or the entry was read.
     pub fn asked(&self) -> bool
         ensures { result ≡ self.now.asked }
     {
         self.asked
     }
 
-    /// Returns whether a letter or a power event called the entry, and no start has ended the call.
+    /// Returns whether a letter or a power event has called the entry, and no start has ended that call.
     pub fn called(&self) -> bool
         ensures { result ≡ self.now.called }
     {
         self.called
     }
 
-    /// Returns whether a round began since the child was born or last looked at.
+    /// Returns whether a round has begun since the child was born or since the last look at it.
     pub fn look(&self) -> bool
         ensures { result ≡ self.now.look }
     {
         self.look
     }
 
-    /// Returns whether a signal could not be sent to the child, and no round has begun since.
+    /// Returns whether a signal could not be sent to the child and no round has begun since then.
     pub fn missed(&self) -> bool
         ensures { result ≡ self.now.missed }
     {
@@ -195,7 +195,7 @@ impl Slot {
         self.limiter.held_until()
     }
 
-    /// Returns how the last child of the record ended, or `None` if none did.
+    /// Returns the wait status of the last child of the record, or `None` if no child has ended.
     pub fn last(&self) -> Option<Status>
         ensures { result ≡ self.now.last }
     {
@@ -249,7 +249,7 @@ impl Slot {
     ghost use Rattle.child_table.specs.Stopping.{is_stop_due};
     ghost use Rattle.child_table.specs.Adopting.{adopted, left_over, is_left_over};
 
-    /// Creates the record of an entry for which nothing was ordered yet.
+    /// Creates the record of an entry before any order.
     pub(crate) fn new(entry: &Entry) -> Slot
         ensures { result ≡ new_record entry.now }
     {
@@ -268,7 +268,7 @@ impl Slot {
         }
     }
 
-    /// Returns whether the order may be given for the record now.
+    /// Returns whether init may give the order for the record now.
     pub(crate) fn can_be_asked(&self, ask: OrderKind, now: u64) -> bool
         requires { now ≤ CLOCK_LIMIT }
         ensures { result ≡ can_be_asked ask now self.now }
@@ -378,7 +378,7 @@ impl Slot {
         }
     }
 
-    /// Returns whether the child is to be stopped and no signal was sent to it yet.
+    /// Returns whether the child must be stopped and no signal was sent to it yet.
     pub(crate) fn is_due(&self) -> bool
         ensures { result ≡ is_stop_due self.now.stop }
     {
@@ -409,7 +409,7 @@ impl Slot {
         }
     }
 
-    /// Creates the record of an entry of another table, from the record that its id had before.
+    /// Creates the record of an entry of a new table from the previous record of its id, if there is one.
     pub(crate) fn adopted(entry: &Entry, before: Option<&Slot>) -> Slot
         ensures { result ≡ adopted entry.now (option_copied before.entry) }
     {
@@ -431,7 +431,7 @@ impl Slot {
         }
     }
 
-    /// Returns whether the record stays without an entry in another table, because it has a child.
+    /// Returns whether the new table has no entry for the record, which is kept because it has a child.
     pub(crate) fn is_left_over<A: Allocator>(&self, table: &Table<A>) -> bool
         ensures { result ≡ is_left_over table.now self.now }
     {
@@ -458,7 +458,7 @@ impl Slot {
     }
 }
 
-/// Returns the stop of a child after a signal was sent, given the order that was open.
+/// Returns the stop of a child after the signal of the open order was sent.
 fn after_hit(order: Option<OrderKind>, now: u64, stop: Option<Stop>) -> Option<Stop>
     ensures { result ≡ after_hit order now stop }
 {
@@ -469,8 +469,8 @@ fn after_hit(order: Option<OrderKind>, now: u64, stop: Option<Stop>) -> Option<S
     }
 }
 
-/// Returns whether a child that was born with this action is to be stopped: its id has no entry, or one with another
-/// action, or one whose child may not live in the stage.
+/// Returns whether a child born with this action must be stopped: its id has no entry, or the entry has another action
+/// or does not let its child live in the stage.
 pub fn is_excluded(born: Option<Act>, found: Option<&Entry>, stage: Stage) -> bool
     ensures { result ≡ is_excluded stage born (option_copied found.entry) }
 {

@@ -20,16 +20,16 @@ use std::alloc::{Allocator, Global};
 use std::hash::{BuildHasherDefault, FoldHasher};
 use std::marker::Model;
 
-/// Init's records, one per id, in record order: those of the table's entries, then those of ids that left the table and
-/// still have a child. Contracts see them as a list.
+/// Init's records, one per id, in record order: first the ids in the table, then ids that have left the table but still
+/// have a child. Contracts see them as a list.
 ///
 /// All times passed to the methods are readings of one clock, in seconds, at most `CLOCK_LIMIT`.
 #[derive(Drop)]
 pub struct Slots<A: Allocator = Global> {
     records: IndexMap<Id, Slot, BuildHasherDefault<FoldHasher>, A>,
     counts: Counts,
-    // The children by number, and the times of the SIGTERMs that were the last signal. Both are sorted and have room
-    // for one item per record.
+    // The index of children by number, and the index of the children last sent SIGTERM, by its time. Both are sorted
+    // and have room for one item per record.
     children: Vec<Keyed, A>,
     termed: Vec<Keyed, A>,
 }
@@ -95,7 +95,7 @@ impl<A: Allocator> Slots<A> {
     ghost use Rattle.child_table.specs.Judging.{after_judge};
     ghost use Rattle.child_table.specs.Stopping.{is_stop_due, IsFirstTermed};
 
-    /// Returns the number of records. No id has two, and no start or signal in them is later than the clock's limit.
+    /// Returns the number of records. No id has two records, and no start or signal in them is later than `CLOCK_LIMIT`.
     pub fn len(&self) -> usize
         ensures value { result ≡ length self.now }
         ensures distinct { are_distinct self.now ≡ true }
@@ -113,7 +113,7 @@ impl<A: Allocator> Slots<A> {
         Some(slot)
     }
 
-    /// Returns the records in their order. No id has two.
+    /// Returns the records in record order. No id has two records.
     pub fn as_slice(&self) -> &[Slot]
         ensures value { result.now ≡ self.now }
         ensures distinct { are_distinct self.now ≡ true }
@@ -147,7 +147,7 @@ impl<A: Allocator> Slots<A> {
         match with_key(self.children.as_slice(), u64::from(number.0)) {
             Found::None => None,
             Found::One(id) => Some(id),
-            // The system has used the number again, and init was not told yet that the earlier child with it has ended.
+            // The system has reused the number, and init does not know yet that the earlier child with it has ended.
             Found::Several => self.first_with(number),
         }
     }
@@ -162,7 +162,7 @@ impl<A: Allocator> Slots<A> {
         Some(slot.id())
     }
 
-    /// Returns whether no start and no signal is unanswered. Looks may be.
+    /// Returns whether no start and no signal is unanswered. A look may be.
     pub fn quiet(&self) -> bool
         ensures { result ≡ is_quiet self.now }
     {
@@ -176,14 +176,14 @@ impl<A: Allocator> Slots<A> {
         self.counts.orders == 0
     }
 
-    /// Returns whether some child is to be stopped.
+    /// Returns whether some child must be stopped.
     pub fn has_excluded(&self) -> bool
         ensures { result ≡ list_any (λ (slot : SlotState). is_some slot.stop) self.now }
     {
         self.counts.excluded != 0
     }
 
-    /// Returns whether some child is to be stopped and no signal was sent to it yet.
+    /// Returns whether some child must be stopped and no signal was sent to it yet.
     pub fn has_due(&self) -> bool
         ensures { result ≡ list_any (λ (slot : SlotState). is_stop_due slot.stop) self.now }
     {
@@ -197,8 +197,8 @@ impl<A: Allocator> Slots<A> {
         first_key(self.termed.as_slice())
     }
 
-    /// Returns whether the order may be given for the id now. No order may be open. A start needs an entry without a
-    /// child, which the respawn limit must allow now if it applies; any other order needs a child.
+    /// Returns whether init may give the order for the id now. No order may be open. A start needs an entry without a
+    /// child, and the respawn limit, if it applies, must allow the start; any other order needs a child.
     pub fn can_ask(&self, id: &Id, ask: OrderKind, now: u64) -> bool
         requires { now ≤ CLOCK_LIMIT }
         ensures { result ≡ can_ask id.now ask now self.now }
@@ -227,8 +227,8 @@ impl<A: Allocator> Slots<A> {
         self.counts.add(Counts::of(slot));
     }
 
-    /// Records an answer for an id, which came at this time. If the child ended and the table does not have the id, its
-    /// record is removed.
+    /// Records an answer for an id, received at this time. If the child ended and the id is not in the table, this
+    /// removes the record.
     ///
     /// Fails with `NotAsked` if no order is open for the id, and with `WrongAnswer` if its order is of another kind. If
     /// it fails, nothing changes.
@@ -255,7 +255,7 @@ impl<A: Allocator> Slots<A> {
         }
     }
 
-    /// Returns why an answer for the id is rejected, if it is.
+    /// Returns the reason for which an answer for the id is rejected, or `Ok` if it is accepted.
     fn refusal(&self, id: &Id, answer: &Answer) -> Result<(), Refusal>
         ensures { result ≡ refusal_of (order_in id.now self.now) answer.now }
     {
@@ -328,7 +328,7 @@ impl<A: Allocator> Slots<A> {
         }
     }
 
-    /// Begins a hold of an entry that respawns too fast, which must have a record (init(8)).
+    /// Begins a hold of an entry that respawns too fast (init(8)). The id must have a record.
     pub fn hold(&mut self, id: Id, now: u64)
         requires known { has_record_of id self.old ≡ true }
         requires limit { now ≤ CLOCK_LIMIT }
@@ -340,7 +340,7 @@ impl<A: Allocator> Slots<A> {
         slot.note_hold(now);
     }
 
-    /// Records that a letter or a power event called an entry, which must have a record.
+    /// Records that a letter or a power event called an entry. The id must have a record.
     pub fn called(&mut self, id: Id)
         requires known { has_record_of id self.old ≡ true }
         ensures { self.new ≡ with_changed id after_call self.old }
@@ -351,7 +351,7 @@ impl<A: Allocator> Slots<A> {
         slot.note_call();
     }
 
-    /// Records that a stage was entered: nothing was asked, called, counted or held in it yet.
+    /// Records that init entered a stage: this clears the starts, calls and holds of all records.
     pub fn entered(&mut self)
         ensures { self.new ≡ map after_enter self.old }
     {
@@ -367,12 +367,12 @@ impl<A: Allocator> Slots<A> {
         );
     }
 
-    /// Records that a round began: each child is to be looked at, and a signal that missed one may be sent again.
+    /// Records that a round began: init may look at each child, and may repeat a signal that missed a child.
     pub fn nudge(&mut self)
         ensures { self.new ≡ map after_nudge self.old }
     {
-        // If no signal missed a child, a round concerns only the records with a child. They are found by the index if
-        // they are few; otherwise all records are visited in order, which costs less per record.
+        // If no signal missed a child, a round concerns only the records with a child. If they are few, the index finds
+        // them; otherwise this visits all records in order, which costs less per record.
         if self.counts.missed == 0 && self.children.len() < self.records.len() / 8 {
             nudge_of(&mut self.records, self.children.as_slice());
             return;
@@ -388,7 +388,7 @@ impl<A: Allocator> Slots<A> {
         self.counts.missed = 0;
     }
 
-    /// Judges the children by the table and the stage: those that are excluded are to be stopped, and no others.
+    /// Judges the children by the table and the stage: marks the excluded ones for stopping, and no others.
     pub fn judge(&mut self, table: &Table<A>, stage: Stage)
         ensures { self.new ≡ map (after_judge table.now stage) self.old }
     {
@@ -433,7 +433,7 @@ impl<A: Allocator> Slots<A> {
     }
 }
 
-/// Begins a round for the records of these items.
+/// Begins a round for the records to which these index items refer.
 fn nudge_of<A: Allocator>(
     records: &mut IndexMap<Id, Slot, BuildHasherDefault<FoldHasher>, A>,
     items: &[Keyed],

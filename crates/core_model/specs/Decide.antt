@@ -28,7 +28,7 @@ level_step booted (Some wish) =
     let first_way = not (same_level wish.level S) && not booted in
     Some (Enter (if first_way then stage.Boot else stage.Run wish.level) wish.grace)
 
--- call the entries for the first pending power event or letter; only in a runlevel
+-- in a runlevel, call the entries for the first pending power event or letter
 abbrev pub news_step : Stage → CoreState → Option Step
 news_step stage c = if in_run (Some stage) then first_pending_step c.fields.pending else None
 
@@ -38,7 +38,7 @@ wished_step stage c =
     if c.fields.reexec then Some Reexec else if c.fields.reread then Some Reread
     else or_else (level_step c.fields.booted c.fields.level_wish) (news_step stage c)
 
--- the same, at a point where no start and no signal is open
+-- the step for the first pending request, if no start and no signal is open
 abbrev pub wish_step : Stage → CoreState → Option Step
 wish_step stage c = if is_quiet c.slots then wished_step stage c else None
 
@@ -50,13 +50,13 @@ counts_news stage c = in_run (Some stage) && has_news c.fields.pending
 abbrev pub stands : Stage → CoreState → Bool
 stands stage c = c.fields.reexec || c.fields.reread || is_some c.fields.level_wish || counts_news stage c
 
--- the signal that is due to an excluded child, by how far its stopping has come: TERM, then KILL after the grace period
+-- the signal due to an excluded child, given the progress of stopping it: TERM, then KILL after the grace period
 abbrev pub signal_step : ℕ → ℕ → List ℕ → Option Stop → Option Step
 signal_step grace now id (Some Due) = Some (Order id Term)
 signal_step grace now id (Some (Termed time)) = if nat_le (time + grace) now then Some (Order id Kill) else None
 signal_step grace now id _ = None
 
--- the signal that is due to the record's child, if no order is open and no signal has missed it
+-- the signal due to the record's child, if no order is open and the last signal did not miss the child
 abbrev pub stop_step : ℕ → ℕ → SlotState → Option Step
 stop_step grace now slot =
     if is_some slot.child && is_none slot.order && not slot.missed then signal_step grace now slot.id slot.stop
@@ -67,22 +67,22 @@ abbrev pub stop_among : ℕ → ℕ → List SlotState → Option Step
 stop_among grace now [] = None
 stop_among grace now (slot ∷ slots) = or_else (stop_step grace now slot) (stop_among grace now slots)
 
--- some child is excluded: its record says that it is to be stopped
+-- some child is excluded, so its record marks it for stopping
 abbrev pub has_excluded : List SlotState → Bool
 has_excluded slots = list_any (λ (slot : SlotState). is_some slot.stop) slots
 
--- the entry with this record is wanted in the stage
+-- the entry with this record is wanted in the stage: init starts it as soon as it can
 abbrev pub is_wanted_record : Stage → Entry → SlotState → Bool
 is_wanted_record stage e slot =
     starts_of e stage
     && wanted_by e.act (is_none slot.child && not (is_order Start slot.order)) (not slot.asked) slot.called
 
--- the entry with this record is owed: init waits for it, and it has a child, an open start, or is wanted
+-- the entry with this record is owed: init waits for it, and it is wanted, being started, or running
 abbrev pub is_owed_record : Stage → Entry → SlotState → Bool
 is_owed_record stage e slot =
     waited_of e && (is_some slot.child || is_order Start slot.order || is_wanted_record stage e slot)
 
--- start the entry; if the respawn limit applies to it, it is skipped while it is held, and held if the limiter does not
+-- start the entry; if the respawn limit applies to it, skip it while it is held, and hold it if the limiter does not
 -- allow a start
 abbrev pub limited_step : ℕ → Entry → SlotState → Option Step
 limited_step now e slot =
@@ -158,7 +158,7 @@ settle_step (stage.Run level) announced now table slots =
     if not announced && is_idle slots && all_served level now table slots then Some (Settle level) else None
 settle_step _ announced now table slots = None
 
--- the child of the record is to be looked at, and no order is open
+-- a look at the child of the record is due, and no order is open
 abbrev pub can_look_record : SlotState → Bool
 can_look_record slot = is_some slot.child && is_none slot.order && slot.look
 
@@ -174,7 +174,7 @@ calm_step stage c =
     (or_else (stage_step stage c.fields.goal c.table c.slots)
     (settle_step stage c.fields.announced c.fields.time c.table c.slots))
 
--- if no request is pending: a signal, or one of those steps
+-- if no request is pending: a signal, or, if no child is excluded, the step above
 abbrev pub work_step : Stage → CoreState → Option Step
 work_step stage c =
     if stands stage c then None

@@ -1,4 +1,4 @@
--- When a core fits a trace: its state is what the definitions read off the trace.
+-- When a core fits a trace: its state is the one that the definitions compute from the trace.
 use Rattle.std.specs.Prelude.{◌≡◌, ℕ, Bool, true, false, ◌&&◌, ◌+◌, IsTrue, if◌then◌else◌, List, [], ◌∷◌, map, find}
 use Rattle.std.specs.Prelude.{reverse, Option, Some, None}
 use Rattle.std.specs.List.{list_any}
@@ -26,15 +26,15 @@ use Rattle.core_model.specs.State.{CoreState}
 abbrev pub child_known : List ℕ → List Event → Option Child
 child_known id past = find (is_child_of id) (known_children past)
 
--- a child in the form in which a record has it
+-- a child of the trace, in the form used in a record
 abbrev pub living : Child → KnownChild
 living child = record { number = child.number; act = child.act }
 
--- the known child of an id in this form
+-- the known child of an id, in the form used in a record
 abbrev pub known_child : List ℕ → List Event → Option KnownChild
 known_child id past = option_map living (child_known id past)
 
--- how far the stopping of an excluded child has come, by the signals told in its spell, the newest first
+-- the progress of stopping an excluded child, given the signals told since it became excluded, newest first
 abbrev pub stop_after : List Signal → Stop
 stop_after [] = Due
 stop_after (signal ∷ earlier) = if is_order Kill signal.order then Killed signal.time else Termed signal.time
@@ -52,20 +52,20 @@ stop_known past (Some child) = stop_of_child past child
 abbrev pub stop_of : List ℕ → List Event → Option Stop
 stop_of id past = stop_known past (child_known id past)
 
--- the id has a known child, which is to be looked at because no look was ordered since a round began
+-- the id has a known child, and a look at it is due, because none was ordered since a round began
 abbrev pub is_to_look : List ℕ → List Event → Bool
 is_to_look id past = has_child id (known_children past) && wants_look id past
 
--- a signal missed the known child of the id in its spell, and no round has begun since
+-- a signal missed the known child of the id since it became excluded, and no round has begun since that signal
 abbrev pub was_missed : List ℕ → List Event → Bool
 was_missed id past = option_map_or (λ child. is_missed child past) (child_known id past) false
 
--- the end of the last of these holds, the newest first
+-- the end of the latest of these holds, given newest first
 abbrev pub last_hold_end : List ℕ → Option ℕ
 last_hold_end [] = None
 last_hold_end (began ∷ earlier) = Some (began + HOLD)
 
--- the limiter of an entry, by the times of its starts and holds, the newest first; unused if the respawn limit does not
+-- the limiter of an entry, from the times of its starts and holds, newest first; unused if the respawn limit does not
 -- apply
 abbrev pub limiter_by : Bool → List ℕ → List ℕ → LimiterState
 limiter_by true starts holds = record { starts = last_starts (reverse starts); held = last_hold_end holds }
@@ -75,11 +75,11 @@ limiter_by false starts holds = unused
 abbrev pub limiter_of : Entry → List Event → LimiterState
 limiter_of e past = limiter_by (is_limited e.act) (start_times e.id past) (hold_times e.id past)
 
--- the id has an entry in the table, which was asked
+-- the id has an entry in the table, and init ordered its start
 abbrev pub asked_of : List ℕ → List Event → Bool
 asked_of id past = option_map_or (λ (e : Entry). is_asked e.id past) (entry_of id (table_of past)) false
 
--- the id has an entry in the table, which is called
+-- the id has an entry in the table, and it is called
 abbrev pub called_of : List ℕ → List Event → Bool
 called_of id past = option_map_or (λ e. is_called e past) (entry_of id (table_of past)) false
 
@@ -91,12 +91,12 @@ limits_of id past = option_map_or (λ e. limiter_of e past) (entry_of id (table_
 abbrev pub LastStatuses : Type 0
 LastStatuses = List ℕ → Option Status
 
--- an end that is told is the last status of its id
+-- the last status of an id after an answer, if the answer is for it: an end sets it
 abbrev pub last_status_after : Option Answer → Option Status → Option Status
 last_status_after (Some (Ended status)) before = Some status
 last_status_after _ before = before
 
--- the last statuses after a happening: a Told may bring one, and a new table keeps those of the ids that had a record
+-- the last statuses after a happening: a Told may set one, and a new table keeps those of ids that had a record
 abbrev pub last_statuses_after : Event → List Event → LastStatuses → LastStatuses
 last_statuses_after (happened.NewTable table) past lasts =
     λ id. if list_any (same_id id) (record_ids past) then lasts id else None
@@ -104,12 +104,12 @@ last_statuses_after (happened.Told i) past lasts =
     λ id. if same_id id i then last_status_after (answered_of id past) (lasts id) else lasts id
 last_statuses_after _ past lasts = lasts
 
--- how the last child of each id ended, by the answers that were told
+-- how the last child of each id ended, according to the answers told to init
 abbrev pub last_statuses_of : List Event → LastStatuses
 last_statuses_of [] = λ id. None
 last_statuses_of (happening ∷ past) = last_statuses_after happening past (last_statuses_of past)
 
--- the record of an id as the past gives it, with this last status
+-- the record of an id computed from the trace, with this last status
 abbrev pub record_of : LastStatuses → List Event → List ℕ → SlotState
 record_of lasts past id = record {
   id = id;
@@ -125,11 +125,11 @@ record_of lasts past id = record {
   last = lasts id;
 }
 
--- all records as the past gives them, in record order
+-- all records computed from the trace, in record order
 abbrev pub records_of : LastStatuses → List Event → List SlotState
 records_of lasts past = map (record_of lasts past) (record_ids past)
 
--- the fields of init as the past gives them, with this goal and this generation
+-- the fields of init computed from the trace, with this goal and this generation
 abbrev pub fields_of : List Event → Goal → ℕ → CoreFields
 fields_of past goal generation = record {
   generation = generation;
@@ -145,7 +145,7 @@ fields_of past goal generation = record {
   pending = pending_calls past;
 }
 
--- the state of init as the past gives it, with these last statuses, this goal and this generation
+-- the state of init computed from the trace, with these last statuses, this goal and this generation
 abbrev pub core_read : LastStatuses → List Event → Goal → ℕ → CoreState
 core_read lasts past goal generation = record {
   table = table_of past;
@@ -153,8 +153,8 @@ core_read lasts past goal generation = record {
   fields = fields_of past goal generation;
 }
 
--- the core fits the initial goal and the trace: with some last statuses, its state is what the past gives; and as long
--- as the stage is not a runlevel, its goal is that of the past
+-- the core fits the initial goal and the trace: its state is the one computed from the trace with some last statuses;
+-- and until a runlevel is entered, its goal is the goal computed from the trace
 pub record Fits (core : CoreState) (opening : Goal) (past : List Event) : Type 0 where
   pub lasts : LastStatuses
   pub kept : core ≡ core_read lasts past core.fields.goal core.fields.generation
@@ -165,17 +165,17 @@ abbrev pub with_last_statuses : LastStatuses → CoreState → CoreState
 with_last_statuses lasts core =
     record core { slots = map (λ (slot : SlotState). record slot { last = lasts slot.id }) core.slots }
 
--- the last statuses of the core's records are those of the past
+-- the last statuses in the core's records are the ones computed from the trace
 abbrev pub HasLastStatuses : CoreState → List Event → Type 0
 HasLastStatuses core past =
     map (λ (slot : SlotState). slot.last) core.slots ≡ map (last_statuses_of past) (record_ids past)
 
--- the core fits the trace, and its last statuses are those of the past
+-- the core fits the trace, and so do its last statuses
 abbrev pub FitsWithLastStatuses : CoreState → Goal → List Event → Type 0
 FitsWithLastStatuses core opening past = Fits core opening past × HasLastStatuses core past
 
--- the new core fits the longer trace; and if the old one had the last statuses of its past, the new one has those of
--- the longer past
+-- the new core fits the longer trace; and if the last statuses of the old core fit the old trace, those of the new core
+-- fit the longer one
 abbrev pub FitsExtendedTrace : CoreState → CoreState → Goal → List Event → List Event → Type 0
 FitsExtendedTrace old new goal past next = Fits new goal next × (HasLastStatuses old past → HasLastStatuses new next)
 

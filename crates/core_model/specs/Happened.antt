@@ -1,4 +1,4 @@
--- The laws of births and of announced levels in terms of happenings alone: what came before, and since when.
+-- The laws of births and of announced levels, stated only in terms of the happenings of a trace.
 -- A trace is a list of happenings, newest first: `since ++ happening ∷ before` is a trace that contains the happening.
 use Rattle.std.specs.Prelude.{◌≡◌, ◌<◌, ◌+◌, ◌⊎◌, ⊤, ℕ, Bool, true, false, not, ◌&&◌, IsTrue, List, [], ◌∷◌, ◌++◌, Some}
 use Rattle.std.specs.List.{list_any}
@@ -25,7 +25,7 @@ AllMayLive past =
     → past ≡ since ++ Birth id number ∷ before → list_any (is_reaping_of id number) since ≡ false
     → MayLive id before past
 
--- in this stretch, no stage was entered, and no table brought the id's entry
+-- this stretch of the trace enters no stage and has no table that brings in the id's entry
 abbrev pub leaves_entry_unchanged : List ℕ → List Event → List Event → Bool
 leaves_entry_unchanged id [] before = true
 leaves_entry_unchanged id (Enter stage grace ∷ stretch) before = false
@@ -33,12 +33,12 @@ leaves_entry_unchanged id (NewTable table ∷ stretch) before =
     not (adds_or_changes id table (table_of (stretch ++ before))) && leaves_entry_unchanged id stretch before
 leaves_entry_unchanged id (_ ∷ stretch) before = leaves_entry_unchanged id stretch before
 
--- the happening is a Told of the id
+-- the happening is a Told for the id
 abbrev pub is_told_of : List ℕ → Event → Bool
 is_told_of id (Told i) = same_id id i
 is_told_of id _ = false
 
--- a Start of the id was ordered since the stage was entered and since the entry was brought, and its outcome was told
+-- a Start of the id was ordered since the stage was entered and the entry was read, and init was told the outcome
 pub record WasStarted (id : List ℕ) (past : List Event) : Type 0 where
   pub since : List Event
   pub before : List Event
@@ -46,7 +46,7 @@ pub record WasStarted (id : List ℕ) (past : List Event) : Type 0 where
   pub kept : IsTrue (leaves_entry_unchanged id since (Asked id Start ∷ before))
   pub told : IsTrue (list_any (is_told_of id) since)
 
--- the child was reaped, and init was told of its id after that
+-- the child was reaped, and a Told for its id followed
 pub record WasEnded (id : List ℕ) (number : ℕ) (since : List Event) : Type 0 where
   pub later : List Event
   pub between : List Event
@@ -60,8 +60,8 @@ starts_at_entry act.Bootwait = true
 starts_at_entry act.Wait = true
 starts_at_entry _ = false
 
--- the entry is through: each of its children has ended, and if its action starts when a stage is entered, and it starts
--- in the stage in force, it was started
+-- the entry is through: each of its children has ended; and if its action starts on entering a stage and the entry
+-- starts in the stage in force, it was started
 pub record IsEntryDone (e : Entry) (past : List Event) : Type 0 where
   pub ended : (number : ℕ) (since before : List Event)
       → past ≡ since ++ Birth e.id number ∷ before → WasEnded e.id number since
@@ -75,7 +75,7 @@ AllEarlierDone id past =
     → table_of past ≡ front ++ e ∷ rest → list_any (has_id id) front ≡ false → same_id id e.id ≡ false
     → IsTrue (waited_of e) → IsEntryDone e past
 
--- a child of the id was born and not reaped since
+-- a child of the id was born and has not been reaped
 pub record HasChild (id : List ℕ) (past : List Event) : Type 0 where
   pub number : ℕ
   pub since : List Event
@@ -83,7 +83,7 @@ pub record HasChild (id : List ℕ) (past : List Event) : Type 0 where
   pub born : past ≡ since ++ Birth id number ∷ before
   pub unreaped : list_any (is_reaping_of id number) since ≡ false
 
--- the id was held less than five minutes ago, with no new stage and no table since
+-- the id was held less than five minutes ago, and no stage was entered and no table read since then
 pub record WasHeld (id : List ℕ) (past : List Event) : Type 0 where
   pub since : List Event
   pub before : List Event
@@ -91,16 +91,16 @@ pub record WasHeld (id : List ℕ) (past : List Event) : Type 0 where
   pub steady : IsTrue (is_steady since)
   pub lately : time_of past < time_of before + HOLD
 
--- what an entry of a reached level needs: a wait or once entry was started, a respawn entry has a child or was held,
--- and any other entry needs nothing
+-- the condition on an entry of a reached level: a wait or once entry was started, a respawn entry has a child or was
+-- held; there is no condition for other actions
 abbrev pub IsServed : Act → List ℕ → List Event → Type 0
 IsServed act.Wait id past = WasStarted id past
 IsServed act.Once id past = WasStarted id past
 IsServed act.Respawn id past = HasChild id past ⊎ WasHeld id past
 IsServed _ id past = ⊤
 
--- the level is reached: it is the stage in force, each child may live, each waited entry is through, and each entry
--- that starts in the level has what it needs
+-- the level is reached: it is the stage in force, each child may live in it, each waited entry is through, and each
+-- entry that starts in the level meets the condition for its action
 pub record IsReached (level : Level) (past : List Event) : Type 0 where
   pub entered : stage_of past ≡ Some (Run level)
   pub living : AllMayLive past

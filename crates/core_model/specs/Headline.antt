@@ -1,4 +1,4 @@
--- The system's children are those of the core's records, corrected by the answers under way.
+-- The system's children are the children in the core's records, corrected for the answers not yet told to init.
 use Rattle.std.specs.Prelude.{ℕ, Bool, not, ◌&&◌, ◌||◌, List}
 use Rattle.std.specs.List.{list_any}
 use Rattle.core_model.specs.Words.{Entry, has_id, Event, Child, has_untold_birth, has_untold_end, SlotState}
@@ -9,8 +9,8 @@ use Rattle.core_model.specs.State.{CoreState}
 abbrev pub has_record : List ℕ → ℕ → CoreState → Bool
 has_record id n core = list_any (λ (slot : SlotState). is_record_of id slot && is_numbered n slot.child) core.slots
 
--- the children of the records, without those whose reaping was not told yet, and with those whose birth was not told
--- yet
+-- the child exists according to the records: they have it, and init has not missed its reaping, or init has not been
+-- told of its birth yet
 abbrev pub is_recorded : List ℕ → ℕ → CoreState → List Event → Bool
 is_recorded id n core past = has_record id n core && not (has_untold_end id n past) || has_untold_birth id n past
 

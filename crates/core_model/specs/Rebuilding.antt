@@ -1,4 +1,4 @@
--- A core that is rebuilt from the state of an earlier one (telinit(8), `u`).
+-- Rebuilding a core from the saved state of an earlier one (telinit(8), `u`).
 use Rattle.std.specs.Prelude.{ℕ, Bool, true, false, ◌&&◌, if◌then◌else◌, List, [], ◌∷◌, map, Option, Some, None}
 use Rattle.std.specs.List.{list_all}
 use Rattle.std.specs.Option.{option_map}
@@ -13,7 +13,7 @@ abbrev pub living_of : Option ℕ → Option Act → Option KnownChild
 living_of None act = None
 living_of (Some number) act = Some (record { number = number; act = act })
 
--- the record with these plain values, for whose id the table has this action
+-- the record with these plain values; the action is the table's action for its id
 abbrev pub record_from : Option Act → PlainSlot → SlotState
 record_from act r = record {
   id = r.id;
@@ -29,7 +29,7 @@ record_from act r = record {
   last = r.last;
 }
 
--- the records of these plain values, of which the first are those of the table's entries
+-- the records with these plain values; the first ones belong to the entries of the table
 abbrev pub records_along : List Entry → List PlainSlot → List SlotState
 records_along [] records = map (record_from None) records
 records_along (e ∷ table) [] = []
@@ -41,22 +41,22 @@ are_paired None None = true
 are_paired (Some number) (Some act) = true
 are_paired _ _ = false
 
--- the plain record is whole: its number and action belong together, and its starts do not decrease
+-- the plain record is whole: it has both a child's number and its action or neither, and its starts do not decrease
 abbrev pub is_whole : PlainSlot → Bool
 is_whole r = are_paired r.child r.act && is_non_decreasing r.starts.items
 
--- the record is that of the entry, if there is one
+-- the record has the id of the entry, if there is an entry
 abbrev pub is_for : Option Entry → PlainSlot → Bool
 is_for None r = true
 is_for (Some e) r = same_id r.id e.id
 
--- all records are whole, and the first are those of the table's entries
+-- all records are whole, and the first ones belong to the entries of the table
 abbrev pub are_whole : List Entry → List PlainSlot → Bool
 are_whole [] records = list_all is_whole records
 are_whole (e ∷ table) [] = false
 are_whole (e ∷ table) (r ∷ records) = is_for (Some e) r && is_whole r && are_whole table records
 
--- the record with these plain values, if it is whole and that of the entry
+-- the record with these plain values, if it is whole and has the id of the entry
 abbrev pub record_read : Option Entry → PlainSlot → Option SlotState
 record_read found r =
     if is_for found r && is_whole r then Some (record_from (option_map (λ (e : Entry). e.act) found) r) else None

@@ -16,16 +16,16 @@ use Rattle.core_model.specs.declared.parts.CoreFields.{CoreFields}
 use Rattle.core_model.specs.Decide.{has_excluded, is_owed_record}
 use Rattle.core_model.specs.State.{CoreState}
 
--- the record is that of an entry, or has a child
+-- the record belongs to an entry, or has a child
 abbrev pub has_cause : SlotState → Bool
 has_cause slot = is_some slot.table_act || is_some slot.child
 
--- if there is a child, the action with which it was born is known
+-- if there is a child, the record has the action with which it was born
 abbrev pub is_birth_known : Option KnownChild → Bool
 is_birth_known None = true
 is_birth_known (Some child) = is_some child.act
 
--- the signal may be open when the stopping of the child has come this far: TERM if none was sent, KILL after TERM
+-- the signal may be open at this point of stopping the child: TERM if no signal was sent, KILL after TERM
 abbrev pub may_follow : OrderKind → Option Stop → Bool
 may_follow Term (Some Due) = true
 may_follow Kill (Some (Termed time)) = true
@@ -47,7 +47,7 @@ is_order_allowed slot = allows_order slot.order slot
 abbrev pub is_started : SlotState → Bool
 is_started slot = is_order Start slot.order
 
--- if a start of the entry is open, it was asked, and the entry starts in the stage
+-- if a start of the entry is open, `asked` is set, and the entry starts in the stage
 abbrev pub is_start_allowed : Stage → Entry → SlotState → Bool
 is_start_allowed stage e slot = not (is_started slot) || (slot.asked && starts_of e stage)
 
@@ -62,7 +62,7 @@ are_starts_along stage (p ∷ ps) = is_start_allowed stage p.0 p.1
 abbrev pub are_unstarted : List SlotState → Bool
 are_unstarted slots = not (list_any is_started slots)
 
--- the same in the stage in force; before the first stage no start is open
+-- the starts are allowed in the stage in force; before the first stage no start is open
 abbrev pub are_starts_in : Option Stage → List Entry → List SlotState → Bool
 are_starts_in None table slots = are_unstarted slots
 are_starts_in (Some stage) table slots = are_starts_along stage (zip table slots)
@@ -81,7 +81,7 @@ abbrev pub is_child_excluded : Option Stage → List Entry → SlotState → Opt
 is_child_excluded stage table slot None = false
 is_child_excluded stage table slot (Some child) = is_excluded_in stage child.act (entry_of slot.id table)
 
--- the child of the record is to be stopped exactly if it is excluded
+-- the record marks its child for stopping exactly if the child is excluded
 abbrev pub is_stop_judged : Option Stage → List Entry → SlotState → Bool
 is_stop_judged stage table slot =
     if is_child_excluded stage table slot slot.child then is_some slot.stop else is_none slot.stop
@@ -92,14 +92,14 @@ is_callable None = false
 is_callable (Some act) = is_called_by power.Fail act || is_called_by power.FailNow act || is_called_by power.Ok act
     || is_ondemand act
 
--- the child may still be sent a signal: it is to be stopped, and was not sent SIGKILL
+-- init may still send the child a signal: the child must be stopped, and was not sent SIGKILL
 abbrev pub may_be_signalled : Option Stop → Bool
 may_be_signalled (Some Due) = true
 may_be_signalled (Some (Termed time)) = true
 may_be_signalled _ = false
 
--- the flags of a record are justified: only a child is to be looked at, a signal can only have missed a child that may
--- still be sent one, and only an entry that can be called is called
+-- the flags of a record are justified: `look` needs a child, `missed` needs a child that may still be sent a signal, and
+-- `called` needs an entry that can be called
 abbrev pub are_marks_consistent : SlotState → Bool
 are_marks_consistent slot = (not slot.look || is_some slot.child) && (not slot.missed || may_be_signalled slot.stop)
     && (not slot.called || is_callable slot.table_act)
@@ -114,7 +114,7 @@ abbrev pub is_hold_of : ℕ → LimiterState → Option ℕ → Bool
 is_hold_of now limiter None = true
 is_hold_of now limiter (Some end) = (length limiter.starts == STARTS) && nat_le end (now + HOLD)
 
--- the limiter has at most ten starts, whose times do not decrease, and a hold only as above
+-- the limiter has at most ten starts, whose times do not decrease, and its hold, if any, follows the rule above
 abbrev pub is_limit_kept : ℕ → LimiterState → Bool
 is_limit_kept now limiter = nat_le (length limiter.starts) STARTS && is_non_decreasing limiter.starts
     && is_hold_of now limiter limiter.held
@@ -128,7 +128,7 @@ abbrev pub is_limiter_consistent : ℕ → SlotState → Bool
 is_limiter_consistent now slot =
     if is_limited_record slot then is_limit_kept now slot.limiter else is_unused slot.limiter
 
--- a request for another level is pending only in a runlevel, and is for another one
+-- a request for a level is pending only in a runlevel, and only for a different level
 abbrev pub is_level_wish_valid : Option Stage → Option Goal → Bool
 is_level_wish_valid stage None = true
 is_level_wish_valid (Some (stage.Run level)) (Some wish) = not (same_level wish.level level)
@@ -140,8 +140,8 @@ is_goal_reached (Some (stage.Run level)) goal booted = same_level goal.level lev
 is_goal_reached (Some stage.Boot) goal booted = booted
 is_goal_reached _ goal booted = not booted
 
--- the rules for the fields: the time is within the clock's limit, the pending level is another one, only a runlevel is
--- announced settled, and the goal is right for the stage
+-- the rules for the fields: the time is at most CLOCK_LIMIT, a pending request is for a different level, only a runlevel
+-- is announced settled, and the goal is right for the stage
 abbrev pub do_fields_obey : CoreFields → Bool
 do_fields_obey fields = nat_le fields.time CLOCK_LIMIT && is_level_wish_valid fields.stage fields.level_wish
     && (not fields.announced || in_run fields.stage) && is_goal_reached fields.stage fields.goal fields.booted
@@ -153,13 +153,13 @@ does_record_obey stage table now slot = has_cause slot && is_birth_known slot.ch
     && is_stop_judged stage table slot && are_marks_consistent slot && is_limiter_consistent now slot
     && is_timely now slot
 
--- the rules for all records: no id has two, open starts are allowed and never follow an owed entry, none is open while
--- a child is excluded, and each record obeys its own rules
+-- the rules for all records: no id has two, open starts are allowed and never follow an owed entry, no start is open
+-- while a child is excluded, and each record obeys the rules for one record
 abbrev pub do_records_obey : Option Stage → List Entry → ℕ → List SlotState → Bool
 do_records_obey stage table now slots = are_distinct slots && are_starts_in stage table slots
     && are_starts_free slots && list_all (does_record_obey stage table now) slots
 
--- all rules
+-- the fields and the records obey all rules
 abbrev pub is_kept : CoreFields → List Entry → List SlotState → Bool
 is_kept fields table slots = do_fields_obey fields && do_records_obey fields.stage table fields.time slots
 

@@ -1,4 +1,4 @@
--- The state of init, and how it begins (init(8)).
+-- The state of init, and its initial value (init(8)).
 use Rattle.std.specs.Prelude.{false, List, map, Option, Some, None}
 use Rattle.core_model.specs.Words.{Entry, Level, S, default_level_of, Goal, SlotState, new_record}
 use Rattle.init_words.specs.declared.limits.TheConstants.{GRACE}

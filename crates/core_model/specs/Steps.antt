@@ -1,4 +1,4 @@
--- The state of init after each of its steps, and after everything that reaches it (init(8), telinit(8)).
+-- The state of init after each of its steps, and after each answer, request or clock reading (init(8), telinit(8)).
 use Rattle.std.specs.Prelude.{ℕ, Bool, true, false, ◌&&◌, ◌||◌, ◌+◌, if◌then◌else◌, List, map, max, min, Option, Some}
 use Rattle.std.specs.Prelude.{None}
 use Rattle.std.specs.List.{list_any}
@@ -19,7 +19,7 @@ abbrev pub is_boot : Stage → Bool
 is_boot stage.Boot = true
 is_boot _ = false
 
--- the goal after a stage was entered: the level that was requested, if any, becomes the goal
+-- the goal after init enters a stage: the requested level, if there is one, becomes the goal
 abbrev pub wished : Option Goal → Goal → Goal
 wished None goal = goal
 wished (Some wish) goal = wish
@@ -30,21 +30,20 @@ is_named (Power kind) stage e = is_called_by kind e.act && starts_in e stage
 is_named (Call letter) stage e = is_ondemand e.act && names (OnCall letter) e.levels.items && starts_in e stage
 is_named _ stage e = false
 
--- the record, called if the condition holds
+-- the record, marked as called if the condition holds
 abbrev pub called_if : Bool → SlotState → SlotState
 called_if true slot = after_call slot
 called_if false slot = slot
 
--- the records, in which those of the named entries are called
+-- the records after the entries that pass the test are called
 abbrev pub with_called : (Entry → Bool) → List Entry → List SlotState → List SlotState
 with_called named table slots =
     map (λ (slot : SlotState). called_if (list_any (λ e. has_id slot.id e && named e) table) slot) slots
 
 -- The state after a step.
--- Entering a stage clears what was asked, called, counted and held, judges the children by the stage, and makes the
--- pending request for a level the goal. A call marks the entries that it names, and is no longer pending. An order and
--- a hold change the record of their id. Reading inittab, a re-execution and Idle change nothing until they are
--- answered.
+-- Entering a stage clears the starts, calls and holds, judges the children by the stage, and makes a pending request for
+-- a level the goal. A call marks the entries that it names, and is no longer pending. An order or a hold changes the
+-- record of its id. Reading inittab and re-execution change nothing until their results arrive; Idle changes nothing.
 abbrev pub after_step : Step → CoreState → CoreState
 after_step (Enter stage grace) c = record c {
   slots = map (after_judge c.table stage) (map after_enter c.slots);
@@ -70,20 +69,20 @@ after_step (Hold id) c = record c { slots = lists.with_changed id (after_hold c.
 after_step (Settle level) c = record c { fields = record c.fields { announced = true } }
 after_step _ c = c
 
--- the state after a clock reading, which is cut to the limit; a clock that was set back changes nothing
+-- the state after a clock reading, which is capped at CLOCK_LIMIT; an earlier reading than the last changes nothing
 abbrev pub after_clock : ℕ → CoreState → CoreState
 after_clock reading c = record c { fields = record c.fields { time = max (min reading CLOCK_LIMIT) c.fields.time } }
 
--- the state after a round began
+-- the state after a round begins
 abbrev pub after_round : CoreState → CoreState
 after_round c = record c { slots = map after_nudge c.slots }
 
--- the state after an answer was told
+-- the state after init receives an answer
 abbrev pub after_answer_to : List ℕ → Answer → CoreState → CoreState
 after_answer_to id answer c = record c { slots = lists.after_answer_to id answer c.fields.time c.slots }
 
--- the fields after a request for a level: in that runlevel, a pending request for another one is dropped; in another
--- runlevel, it becomes the pending one; in any other stage, it becomes the goal
+-- the fields after a request for a level: in that runlevel, it drops a pending request for another level; in another
+-- runlevel, it becomes the pending request; in any other stage, it becomes the goal
 abbrev pub fields_after_level : Option Stage → Goal → CoreFields → CoreFields
 fields_after_level (Some (stage.Run now)) wish fields =
     if same_level wish.level now then record fields { level_wish = None }
@@ -104,12 +103,12 @@ fields_after_request (got.Nothing cause) fields = fields
 abbrev pub after_got : HeardRequest → CoreState → CoreState
 after_got request c = record c { fields = fields_after_request request c.fields }
 
--- the records, judged by the stage if there is one
+-- the records after their children are judged by the stage, if there is one
 abbrev pub judged_in : Option Stage → List Entry → List SlotState → List SlotState
 judged_in None table slots = slots
 judged_in (Some stage) table slots = map (after_judge table stage) slots
 
--- the state after another table was adopted
+-- the state after init adopts another table
 abbrev pub after_adopt : List Entry → CoreState → CoreState
 after_adopt table c = record c {
   table = table;
@@ -117,14 +116,14 @@ after_adopt table c = record c {
   fields = record c.fields { announced = false; reread = false };
 }
 
--- the state after inittab could not be read
+-- the state after init fails to read inittab
 abbrev pub after_not_read : CoreState → CoreState
 after_not_read c = record c { fields = record c.fields { reread = false } }
 
--- the state after a hand-over that did not lead to a new init
+-- the state after a hand-over fails and the old init continues
 abbrev pub after_handed : CoreState → CoreState
 after_handed c = record c { fields = record c.fields { reexec = false } }
 
--- the state that is handed on to the next init
+-- the state that init hands over to the next init
 abbrev pub after_handed_on : CoreState → CoreState
 after_handed_on c = record c { fields = record c.fields { reexec = false; generation = c.fields.generation + 1 } }

@@ -1,5 +1,5 @@
 -- A bound on the number of steps that init can still take before something else happens: each step decreases it, so
--- init comes to rest.
+-- init always comes to rest.
 use Rattle.std.specs.Prelude.{ℕ, Bool, not, ◌+◌, ◌*◌, if◌then◌else◌, length, filter, Option, Some, None, is_some}
 use Rattle.std.specs.Prelude.{is_none}
 use Rattle.core_model.specs.Words.{Stage, Sysinit, Boot, Run, is_held, SlotState}

@@ -1,5 +1,4 @@
-//! The headline theorem: the laws that every run of init obeys, and that init's records agree with the system's
-//! children.
+//! The headline theorem: every run of init obeys the laws, and init's records agree with the system's children.
 
 ghost use Rattle.std.specs.Prelude.{◌≡◌, ◌≤◌, ◌+◌, ℕ, IsTrue, false, ◌&&◌, List, ◌∷◌, ◌++◌, filter, length};
 ghost use Rattle.std.specs.List.{list_any, list_all};
@@ -20,8 +19,8 @@ ghost use Rattle.core_model.specs.Headline.{is_recorded, is_without_entry};
 ///
 /// No id has two children. No child is born outside its stage, before an earlier waited entry has ended, or while a
 /// child that the stage excludes is unreaped. Whenever a level is announced settled, every living child belongs to an
-/// entry of it. The children in init's records, corrected by the answers under way, are the children that the system
-/// has. The respawn limit holds at each start, and the signals that stop a child are sent in their order and not too
+/// entry of it. The children in init's records, corrected for the answers not yet told to init, are the children of the
+/// system. The respawn limit holds at each start, and the signals that stop a child are sent in their order and not too
 /// early.
 pub fn law_agreement()
     // no happening of a sound trace breaks one of the seven laws
@@ -34,40 +33,41 @@ pub fn law_agreement()
     ensures reaped_between { BetweenBirths (λ id m between.
         IsTrue (list_any (is_reaping_of id m) between)) }
     // at each birth, each waited entry before that of the id is through: each of its children was reaped, and init was
-    // told of it; and if its action is sysinit, bootwait or wait and it starts in the stage, a Start of it was ordered
-    // and answered
+    // told of the end; and if its action is sysinit, bootwait or wait and it starts in the stage, a Start of it was
+    // ordered and answered
     ensures through { AtEachBirth AllEarlierDone }
-    // at each birth, each child that was born and not reaped since may live in the stage
+    // at each birth, each unreaped child may live in the stage
     ensures living { AtEachBirth (λ id past. AllMayLive past) }
-    // when a level is announced settled, it is reached: the same holds for each child and for each waited entry, each
-    // wait and once entry of the level was started, and each respawn entry of it has a child or is held
+    // when a level is announced settled, it is reached: each unreaped child may live in it, each waited entry is through,
+    // each wait and once entry of the level was started, and each respawn entry of the level has a child or is held
     ensures reached { AtEachSettle IsReached }
     // and each unreaped child belongs to an entry of the level
     ensures of_level { AtEachSettle (λ level past.
         IsTrue (list_all (belongs level past) (unreaped_children past))) }
-    // when a KILL is ordered, a TERM that was sent to the child was told in its spell, at least the grace period ago
+    // when a KILL is ordered, init was told at least a grace period ago that a TERM was sent to the child since it became
+    // excluded
     ensures warned { AtEachOrder Kill WasTermedBefore }
-    // at each moment, the unreaped children, as pairs of id and number, are the known children, without those whose end
-    // was not told yet, and with those whose birth was not told yet
+    // at each moment, the unreaped children, as pairs of id and number, are the known children, minus those whose end init
+    // was not told yet, plus those whose birth init was not told yet
     ensures agreement { AtEachMoment (λ past. (id : List ℕ) (n : ℕ) → Agrees id n past) }
     // for each core that fits the trace, the unreaped children, as pairs of id and number, are those in the core's
-    // records, without those whose reaping was not told yet, and with those whose birth was not told yet; and no id has
-    // two
+    // records, minus those whose reaping init was not told yet, plus those whose birth init was not told yet; and no id
+    // has two
     ensures records { (core : CoreState)
         → ForAllFittedTraces core (λ goal past. (id : List ℕ) (n : ℕ)
         → is_unreaped id n past ≡ is_recorded id n core past) }
     ensures one_record { (core : CoreState) → ForAllFittedTraces core (λ goal past.
         (id : List ℕ) (m n : ℕ)
         → IsTrue (is_recorded id m core past) → IsTrue (is_recorded id n core past) → m ≡ n) }
-    // the core has at most as many records as there are entries and known children of ids without an entry, together
+    // the number of records is at most the number of entries plus the number of known children without an entry
     ensures bounded { (core : CoreState) → ForAllFittedTraces core (λ goal past.
         length core.slots ≤ length (table_of past)
         + length (filter (is_without_entry (table_of past)) (known_children past))) }
-    // of eleven starts of an entry to which the respawn limit applies, with no new stage and no table in between, the
-    // last comes at least two minutes after the first, and a start comes at least five minutes after a hold
+    // if the respawn limit applies to an entry, then, while no stage is entered and no table is read, its eleventh start is
+    // at least two minutes after its first, and a start after a hold is at least five minutes after it
     ensures paced { AtEachOrder Start
         (λ id past. IsTrue (obeys_respawn_limit (Asked id Start) past)) }
-    // the same for two happenings: two starts with at least nine others in between, and a hold and a later start
+    // the same law for pairs of happenings: two starts with at least nine others in between, or a hold and a later start
     ensures apart { BetweenStarts (λ id between past.
         STARTS ≤ count_starts id between + 1 → IsTrue (is_limited_id id past)
         → time_of past + WINDOW ≤ time_of (between ++ Asked id Start ∷ past)) }
@@ -76,11 +76,11 @@ pub fn law_agreement()
     // a signal that is sent reaches the child that was known when the signal was ordered, which is still unreaped and
     // excluded
     ensures on_target { AtEachHit (λ id past. IsTrue (hits_ordered_child (Hit id) past)) }
-    // the same for two happenings: an order, and a later Hit with no other order for the id in between
+    // the same law for pairs of happenings: an order, and a later Hit with no other order for the id in between
     ensures on_order { FromOrderToHit (λ id ask between past.
         list_any (is_order_of id) between ≡ false → IsTrue (has_child id (known_children past))
         × IsTrue (list_all (is_stoppable id (between ++ Asked id ask ∷ past))
         (filter (is_child_of id) (known_children past)))) }
-    // for each unreaped child, at most one KILL that was sent is told in its spell
+    // for each unreaped child, init is told of at most one sent KILL after the child became excluded
     ensures killed_once { AtEachMoment (λ past. IsTrue (at_most_one_kill past)) }
 {}

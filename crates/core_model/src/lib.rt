@@ -2,8 +2,8 @@
 //! happening changes the state (init(8)). The laws in this crate relate the model to the trace of a run. The
 //! implementation is in `level_core`.
 //!
-//! A core fits a trace if its state is the one that the trace gives. Then the step that it decides on is the first due
-//! step, and its children, corrected by the answers under way, are the children that the system has.
+//! A core fits a trace if its state is the one computed from the trace. Then the step that it decides on is the first
+//! due step, and its children, corrected for the answers not yet told to init, are the children of the system.
 #![tactic(auto)]
 
 mod headline;

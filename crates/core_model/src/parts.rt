@@ -1,4 +1,4 @@
-//! The state of a core as plain values, which are written as text and from which a core is rebuilt.
+//! The state of a core as plain values: they are saved as text, and a core can be rebuilt from them.
 
 ghost use Rattle.std.specs.Prelude.{◌≡◌};
 ghost use Rattle.core_model.specs.Parts.{record_of};
@@ -20,7 +20,7 @@ pub struct CoreFields {
     pub generation: u64,
     /// The time, in seconds.
     pub time: u64,
-    /// The stage in force; none before the first is entered.
+    /// The stage in force, or `None` before the first stage.
     pub stage: Option<Stage>,
     /// The seconds between SIGTERM and SIGKILL.
     pub grace: u16,
@@ -29,9 +29,9 @@ pub struct CoreFields {
     pub booted: bool,
     /// Whether the runlevel was announced settled.
     pub announced: bool,
-    /// Whether inittab is to be read again.
+    /// Whether init has yet to read inittab again.
     pub reread: bool,
-    /// Whether init is to be re-executed.
+    /// Whether init has yet to re-execute itself.
     pub reexec: bool,
     /// The pending request for another runlevel.
     pub level_wish: Option<Goal>,
@@ -68,9 +68,9 @@ pub struct PlainSlot {
     pub child: Option<ChildNumber>,
     /// The action that the table had for the id when the child was born.
     pub act: Option<Act>,
-    /// The order that is not answered yet.
+    /// The order that init has not received an answer to.
     pub order: Option<OrderKind>,
-    /// How far the stopping of the child has come.
+    /// The progress of stopping the child.
     pub stop: Option<Stop>,
     pub asked: bool,
     pub called: bool,
@@ -80,7 +80,7 @@ pub struct PlainSlot {
     pub held_until: Option<u64>,
     /// The times of the last starts, in seconds.
     pub starts: ArrayVec<u64, STARTS>,
-    /// How the last child of the id ended, as far as init was told.
+    /// How the last child of the id ended, if init was told of an end.
     pub last: Option<Status>,
 }
 
@@ -110,7 +110,7 @@ impl PlainSlot {
     }
 }
 
-/// The state of init as plain values, from which its state text is written and from which a core is rebuilt.
+/// The state of init as plain values: they are saved as text, and a core can be rebuilt from them.
 #[derive(Drop)]
 pub struct Parts<A: Allocator = Global> {
     pub fields: CoreFields,

@@ -1,4 +1,4 @@
--- The events in the life of a limiter, newest first, and the laws of whole runs.
+-- The history of a limiter as a list of events, newest first, and the laws that hold for every such history.
 use Rattle.std.specs.Prelude.{◌≡◌, ℕ, ◌+◌, ◌≤◌, Bool, true, false, ◌&&◌, IsTrue, List, [], ◌∷◌, ◌++◌, length, nat_le}
 use Rattle.std.specs.Prelude.{Option, Some, None}
 use Rattle.std.specs.List.{list_all}
@@ -9,7 +9,7 @@ use Rattle.respawn_limit.specs.declared.May.TheVariants.{Yes, HoldUntil}
 use Rattle.respawn_limit.specs.State.{LimiterState}
 use Rattle.respawn_limit.specs.Window.{answer, last_starts}
 
--- a start was noted or a hold was made, at a time in seconds, or the limiter was cleared
+-- a start was noted or a hold began, at a time in seconds, or the limiter was cleared
 pub data Event : Type 0 where
   Noted : ℕ → Event
   HeldAt : ℕ → Event
@@ -22,7 +22,7 @@ times_noted (Noted time ∷ past) = times_noted past ++ time ∷ []
 times_noted (HeldAt time ∷ past) = times_noted past
 times_noted (Cleared ∷ past) = []
 
--- the end of the last hold since the last clear: five minutes after the hold was made
+-- the end of the last hold since the last clear: five minutes after the hold began
 abbrev pub hold_end : List Event → Option ℕ
 hold_end [] = None
 hold_end (Noted time ∷ past) = hold_end past

@@ -1,7 +1,7 @@
--- The state of a limiter as contracts see it.
+-- The state of a respawn limiter, as contracts see it.
 use Rattle.std.specs.Prelude.{ℕ, List, [], Option, None}
 
--- the starts that it keeps, oldest first, and the end of its last hold, in seconds
+-- the times of the last starts, oldest first, and the end of the last hold, in seconds
 pub record LimiterState : Type 0 where
   pub starts : List ℕ
   pub held : Option ℕ

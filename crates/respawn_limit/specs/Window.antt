@@ -15,16 +15,16 @@ is_recent now start = nat_lt (now - start) WINDOW
 abbrev pub is_full : List ℕ → ℕ → Bool
 is_full noted now = nat_le STARTS (count_by (is_recent now) noted)
 
--- a hold with this end lasts now
+-- a hold that ends at this time is still in force
 abbrev pub is_held : Option ℕ → ℕ → Bool
 is_held None now = false
 is_held (Some end) now = nat_lt now end
 
--- the answer when no hold lasts: yes, or five minutes from now if the window is full
+-- the answer when no hold is in force: Yes, or a hold until five minutes from now if the window is full
 abbrev pub window_answer : List ℕ → ℕ → May
 window_answer noted now = if is_full noted now then HoldUntil (now + HOLD) else Yes
 
--- the answer after these starts and this last hold: the end of the hold while it lasts, otherwise that of the window
+-- the answer after these starts and this last hold: the end of the hold while it lasts, otherwise the window's answer
 abbrev pub answer : List ℕ → Option ℕ → ℕ → May
 answer noted None now = window_answer noted now
 answer noted (Some end) now = if nat_lt now end then HoldUntil end else window_answer noted now
@@ -45,7 +45,7 @@ with_start limiter now = record limiter { starts = last_starts (limiter.starts +
 abbrev pub with_hold : LimiterState → ℕ → LimiterState
 with_hold limiter now = record limiter { held = Some (now + HOLD) }
 
--- the starts are the last ten of all these times, which were noted in order, however many and however old
+-- the starts are the last ten of all the times noted, which do not decrease
 pub record KeepsLastStarts (starts noted : List ℕ) : Type 0 where
   pub last : starts ≡ last_starts noted
   pub ordered : IsNonDecreasing noted

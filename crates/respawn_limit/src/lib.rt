@@ -23,22 +23,22 @@ pub const STARTS: usize = 10;
 /// The length of a hold in seconds: five minutes.
 pub const HOLD: u64 = 300;
 
-/// The greatest clock reading that counts, in seconds.
+/// The greatest clock reading that a limiter accepts, in seconds.
 pub const CLOCK_LIMIT: u64 = 1_000_000_000_000;
 
-/// The answer of a limiter to the question whether an entry may be started.
+/// The answer of a limiter when asked whether an entry may be started.
 #[derive(Clone, Copy, PartialEq, Eq)]
 pub enum May {
-    /// A start may be made now, and noted.
+    /// The entry may be started now.
     Yes,
-    /// No start may be made before this time, in seconds.
+    /// The entry may not be started before this time, in seconds.
     HoldUntil(u64),
 }
 
 /// The last starts of an entry and its last hold.
 ///
-/// The window slides: a start counts for 120 seconds, and while ten starts count no further one is allowed. A hold made
-/// then lasts for 300 seconds. A limiter keeps at most ten starts and never allocates memory. Contracts see it as a
+/// The window slides: a start counts for 120 seconds, and while ten starts count, no other start is allowed. A hold
+/// lasts 300 seconds. A limiter keeps at most ten starts and never allocates memory. Contracts see it as a
 /// record of `starts`, oldest first, and `held`, the end of the last hold.
 #[derive(Drop, PartialEq, Eq)]
 pub struct Limiter {
@@ -75,8 +75,7 @@ impl Limiter {
 
     /// Creates a limiter with these starts, oldest first, and this end of the last hold, both in seconds.
     ///
-    /// A limiter created from the results of `starts` and `held_until` gives the same answers as the original from then
-    /// on.
+    /// A limiter created from the results of `starts` and `held_until` behaves exactly like the original.
     pub fn of(starts: &[u64], held_until: Option<u64>) -> Self
         requires few { length starts.now ≤ STARTS }
         requires ordered { IsNonDecreasing starts.now }
@@ -95,15 +94,15 @@ impl Limiter {
         }
     }
 
-    /// Returns whether the entry may be started now, and if not, until when it must wait.
+    /// Returns whether the entry may be started now, and if not, when the wait ends.
     ///
-    /// This is the end of the hold while a hold lasts; otherwise 300 seconds from now if ten starts are less than 120
-    /// seconds old; otherwise `Yes`. A start later than `now` counts as 0 seconds old.
+    /// While a hold lasts, the wait ends with the hold. Otherwise, if ten starts are less than 120 seconds old, the wait
+    /// ends 300 seconds from now. Otherwise, the answer is `Yes`. A start later than `now` counts as 0 seconds old.
     pub fn may(&self, now: u64) -> May
         requires { now ≤ CLOCK_LIMIT }
 
-        // The answer depends on the starts that are kept, and equals the answer by all starts noted since the last
-        // clear.
+        // The answer is computed from the starts kept, and is the same as if all starts since the last clear had been
+        // kept.
         ensures state { result ≡ may_of self.now now }
         ensures noted { (noted : List ℕ) → KeepsLastStarts self.now.starts noted
             → result ≡ answer noted self.now.held now }
@@ -133,8 +132,8 @@ impl Limiter {
         matches!(self.held, Some(end) if now < end)
     }
 
-    /// Notes a start made now, which `may` must allow and which must not be earlier than the starts kept. The oldest of
-    /// eleven starts is dropped.
+    /// Notes a start made now. `may` must allow it, and the time must not be before the starts kept. If this is the
+    /// eleventh start, the oldest is dropped.
     pub fn note(&mut self, now: u64)
         requires late { All (λ start. start ≤ now) self.old.starts }
         requires allowed { may_of self.old now ≡ May.Yes }
@@ -152,7 +151,7 @@ impl Limiter {
         self.starts.push(now);
     }
 
-    /// Begins a hold of 300 seconds from now, which replaces the last one.
+    /// Begins a hold of 300 seconds from now, which replaces any earlier hold.
     pub fn hold(&mut self, now: u64)
         requires { now ≤ CLOCK_LIMIT }
         ensures state { self.new ≡ with_hold self.old now }
@@ -170,7 +169,7 @@ impl Limiter {
         *self = Limiter::new();
     }
 
-    /// Returns the times of the last starts since the last clear, in seconds, oldest first: at most ten, however old.
+    /// Returns the times of the last ten starts since the last clear, in seconds, oldest first, whatever their age.
     pub fn starts(&self) -> &[u64]
         ensures state { result.now ≡ self.now.starts }
         ensures few { length result.now ≤ STARTS }
@@ -209,8 +208,9 @@ impl Default for Limiter {
     }
 }
 
-/// States the laws of whole runs, for all clock readings: of any eleven starts that `may` allowed without a clear in
-/// between, the last comes at least 120 seconds after the first, and no start comes within 300 seconds after a hold.
+/// States the laws of whole runs, for all clock readings: among any eleven starts that `may` allowed without a clear in
+/// between, the last is at least 120 seconds after the first; and no start follows a hold within 300 seconds unless the
+/// limiter was cleared in between.
 ///
 /// The function does nothing: its contract is the law.
 pub fn law_of_runs()

@@ -8,7 +8,7 @@ use Rattle.std.specs.Option.{option_map}
 abbrev pub has_byte : ℕ → List ℕ → Bool
 has_byte byte text = list_any (λ b. b == byte) text
 
--- puts a byte before the first component of a pair
+-- prepends a byte to the first component of a pair
 abbrev pub onto_first : ℕ → List ℕ × List ℕ → List ℕ × List ℕ
 onto_first b parts = (b ∷ parts.0, parts.1)
 
@@ -17,12 +17,12 @@ abbrev pub cut : ℕ → List ℕ → Option (List ℕ × List ℕ)
 cut mark [] = None
 cut mark (b ∷ text) = if b == mark then Some ([], text) else option_map (onto_first b) (cut mark text)
 
--- puts a byte before the first line, or makes it a line if there is none
+-- prepends a byte to the first line, or makes it the only line if there is none
 abbrev pub onto_first_line : ℕ → List (List ℕ) → List (List ℕ)
 onto_first_line b [] = (b ∷ []) ∷ []
 onto_first_line b (line ∷ lines) = (b ∷ line) ∷ lines
 
--- the lines of a text: each ends at a newline, and a last line without one counts if it is not empty
+-- the lines of a text: each ends at a newline; a last line without a newline counts if it is not empty
 abbrev pub lines_of : List ℕ → List (List ℕ)
 lines_of [] = []
 lines_of (b ∷ text) = if b == 10 then [] ∷ lines_of text else onto_first_line b (lines_of text)
@@ -68,7 +68,7 @@ abbrev pub word_length : List ℕ → ℕ
 word_length [] = 0
 word_length (b ∷ text) = if is_blank b then 0 else suc (word_length text)
 
--- a word ends before this text: it is empty or begins with a blank or a tab
+-- the text cannot continue a word: it is empty or begins with a blank or a tab
 abbrev pub ends_word : List ℕ → Bool
 ends_word [] = true
 ends_word (b ∷ text) = is_blank b

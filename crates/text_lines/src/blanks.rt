@@ -11,7 +11,7 @@ pub fn is_blank(byte: u8) -> bool
     byte == b' ' || byte == b'\t'
 }
 
-/// Returns whether a text consists of blanks and tabs only. The empty text does.
+/// Returns whether a text consists only of blanks and tabs, or is empty.
 pub fn is_all_blank(text: &[u8]) -> bool
     ensures { result ≡ list_all is_blank text.now }
 {

@@ -17,7 +17,7 @@ pub fn cut(mark: u8, text: &[u8]) -> Option<(&[u8], &[u8])>
     Some((&text[..at], &text[at + 1..]))
 }
 
-/// Returns the first line of a text that is not empty, without its newline, and the text after it.
+/// Returns the first line of a nonempty text, without its newline, and the text after it.
 pub fn first_line(text: &[u8]) -> (&[u8], &[u8])
     requires { 0 < length text.now }
     ensures lines { lines_of text.now ≡ result.0.now ∷ lines_of result.1.now }
@@ -30,8 +30,8 @@ pub fn first_line(text: &[u8]) -> (&[u8], &[u8])
     }
 }
 
-/// Returns the first line of a text, without its newline, and the text after it, or `None` if the text is empty. A last
-/// line without a newline counts.
+/// Returns the first line of a text, without its newline, and the text after it, or `None` if the text is empty. The
+/// last line may lack its newline.
 pub fn next_line(text: &[u8]) -> Option<(&[u8], &[u8])>
     ensures lines { IfSome result (λ parts.
         lines_of text.now ≡ parts.0.now ∷ lines_of parts.1.now) }
