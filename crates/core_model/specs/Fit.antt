@@ -91,7 +91,7 @@ limits_of id past = option_map_or (λ e. limiter_of e past) (entry_of id (table_
 abbrev pub LastStatuses : Type 0
 LastStatuses = List ℕ → Option Status
 
--- the last status of an id after an answer, if the answer is for it: an end sets it
+-- the last status of an id after an answer for it, if there is one: the end of a child sets the status
 abbrev pub last_status_after : Option Answer → Option Status → Option Status
 last_status_after (Some (Ended status)) before = Some status
 last_status_after _ before = before

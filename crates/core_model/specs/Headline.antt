@@ -9,8 +9,8 @@ use Rattle.core_model.specs.State.{CoreState}
 abbrev pub has_record : List ℕ → ℕ → CoreState → Bool
 has_record id n core = list_any (λ (slot : SlotState). is_record_of id slot && is_numbered n slot.child) core.slots
 
--- the child exists according to the records: they have it, and init has not missed its reaping, or init has not been
--- told of its birth yet
+-- the child exists according to the records, corrected for the answers not yet told to init: it has a record and its
+-- reaping is not among these answers, or its birth is
 abbrev pub is_recorded : List ℕ → ℕ → CoreState → List Event → Bool
 is_recorded id n core past = has_record id n core && not (has_untold_end id n past) || has_untold_birth id n past
 

@@ -98,8 +98,8 @@ may_be_signalled (Some Due) = true
 may_be_signalled (Some (Termed time)) = true
 may_be_signalled _ = false
 
--- the flags of a record are justified: `look` needs a child, `missed` needs a child that may still be sent a signal, and
--- `called` needs an entry that can be called
+-- the flags of a record are justified: `look` needs a child, `missed` needs a child that may still be sent a signal,
+-- and `called` needs an entry that can be called
 abbrev pub are_marks_consistent : SlotState → Bool
 are_marks_consistent slot = (not slot.look || is_some slot.child) && (not slot.missed || may_be_signalled slot.stop)
     && (not slot.called || is_callable slot.table_act)
@@ -140,8 +140,8 @@ is_goal_reached (Some (stage.Run level)) goal booted = same_level goal.level lev
 is_goal_reached (Some stage.Boot) goal booted = booted
 is_goal_reached _ goal booted = not booted
 
--- the rules for the fields: the time is at most CLOCK_LIMIT, a pending request is for a different level, only a runlevel
--- is announced settled, and the goal is right for the stage
+-- the rules for the fields: the time is at most CLOCK_LIMIT, a pending request is for a different level, only a
+-- runlevel is announced settled, and the goal is right for the stage
 abbrev pub do_fields_obey : CoreFields → Bool
 do_fields_obey fields = nat_le fields.time CLOCK_LIMIT && is_level_wish_valid fields.stage fields.level_wish
     && (not fields.announced || in_run fields.stage) && is_goal_reached fields.stage fields.goal fields.booted

@@ -41,8 +41,8 @@ with_called named table slots =
     map (λ (slot : SlotState). called_if (list_any (λ e. has_id slot.id e && named e) table) slot) slots
 
 -- The state after a step.
--- Entering a stage clears the starts, calls and holds, judges the children by the stage, and makes a pending request for
--- a level the goal. A call marks the entries that it names, and is no longer pending. An order or a hold changes the
+-- Entering a stage clears the starts, calls and holds, judges the children by the stage, and makes a pending request
+-- for a level the goal. A call marks the entries that it names, and is no longer pending. An order or a hold changes the
 -- record of its id. Reading inittab and re-execution change nothing until their results arrive; Idle changes nothing.
 abbrev pub after_step : Step → CoreState → CoreState
 after_step (Enter stage grace) c = record c {
@@ -69,7 +69,7 @@ after_step (Hold id) c = record c { slots = lists.with_changed id (after_hold c.
 after_step (Settle level) c = record c { fields = record c.fields { announced = true } }
 after_step _ c = c
 
--- the state after a clock reading, which is capped at CLOCK_LIMIT; an earlier reading than the last changes nothing
+-- the state after a clock reading, which is capped at CLOCK_LIMIT; a reading before the current time changes nothing
 abbrev pub after_clock : ℕ → CoreState → CoreState
 after_clock reading c = record c { fields = record c.fields { time = max (min reading CLOCK_LIMIT) c.fields.time } }
 

@@ -12,40 +12,40 @@ use Rattle.initctl_frame.specs.declared.requests.HeardRequest.TheVariants as got
 use Rattle.core_waiting.specs.Rest.{AtRest, is_awaited, awaited_children, is_empty, is_gone, count_wanted_waits}
 use Rattle.core_waiting.specs.Rest.{after_rounds}
 
--- of the two signals that stop an excluded child, the number that were not told to have been sent to it; 0 for any
--- other child
+-- how many of the two signals that stop an excluded child init was not yet told to have been sent; 0 for a child that is
+-- not excluded
 abbrev pub signals_to_come : List Event → Child → ℕ
 signals_to_come past child = if is_excluded past child then 2 - length (spell_hits child past) else 0
 
--- the child was sent exactly one of the two signals, so that the KILL is still to come
+-- the child was sent exactly one of the two signals, so the KILL is still to come
 abbrev pub has_kill_to_come : List Event → Child → Bool
 has_kill_to_come past child = signals_to_come past child == 1
 
--- init waits for the child, and if it is excluded, it was sent its KILL
+-- init waits for the child, and if the child is excluded, it was sent a KILL
 abbrev pub has_to_end : List Event → Child → Bool
 has_to_end past child = is_awaited past child && signals_to_come past child == 0
 
--- a look at the id's child finds it ended
+-- the happening is a look that finds the id's child ended
 abbrev pub is_end_seen : List ℕ → Event → Bool
 is_end_seen id (Reaped i n status) = same_id id i
 is_end_seen id _ = false
 
--- a look at the id's child is in vain: it finds the child alive, or fails
+-- the happening is a failed look at the id's child, or one that finds the child still running
 abbrev pub is_vain_look : List ℕ → Event → Bool
 is_vain_look id (Still i) = same_id id i
 is_vain_look id (NoLook i) = same_id id i
 is_vain_look id _ = false
 
--- in the round a look at the id's child finds it ended, or no look at it is in vain
+-- in the round a look finds the id's child ended, or no look at it fails or finds it still running
 abbrev pub is_found_ended : List ℕ → List Event → Bool
 is_found_ended id round = list_any (is_end_seen id) round || not (list_any (is_vain_look id) round)
 
--- a round begins
+-- the happening begins a round
 abbrev pub is_nudge : Event → Bool
 is_nudge Nudge = true
 is_nudge _ = false
 
--- no request and no table comes in the stretch; a `got nothing` does not count as a request
+-- the stretch has no request and no new table; a `got nothing` does not count as a request
 abbrev pub has_no_request : List Event → Bool
 has_no_request [] = true
 has_no_request (Got (got.Nothing cause) ∷ stretch) = has_no_request stretch
@@ -53,30 +53,30 @@ has_no_request (Got request ∷ stretch) = false
 has_no_request (NewTable table ∷ stretch) = false
 has_no_request (happening ∷ stretch) = has_no_request stretch
 
--- in the round the clock advances by the grace, or each child that had the KILL still to come is gone
+-- in the round the clock advances by the grace period, or each child whose KILL was still to come is gone
 abbrev pub makes_kills_due : List Event → List Event → Bool
 makes_kills_due round past =
     nat_le (time_of past + grace_of past) (time_of (round ++ past))
     || list_all (is_gone round past) (filter (has_kill_to_come past) (kept_children past))
 
--- The round, which follows a rest, is undisturbed. No request and no table comes, and a round begins. The clock
--- advances by the grace, unless each child that had the KILL still to come is gone. Each child that had to end is found
--- ended. At the end, no signal to a child has failed since the last `nudge`.
+-- The round, which follows a rest, is undisturbed. It has no request and no new table, and it has a `nudge`. The clock
+-- advances by the grace period, unless each child whose KILL was still to come is gone. A look finds each child that had
+-- to end ended. At the end, no signal to a child has failed since the last `nudge`.
 abbrev pub is_undisturbed : List Event → List Event → Bool
 is_undisturbed round past = has_no_request round && list_any is_nudge round
     && makes_kills_due round past
     && list_all (λ child. is_found_ended child.id round) (filter (has_to_end past) (kept_children past))
     && list_all (λ child. not (is_missed child (round ++ past))) (kept_children (round ++ past))
 
--- a list of rounds, newest first, from a rest with no order open: each leads to another such rest, and no request and
--- no table comes in it; otherwise anything may happen in it
+-- a list of rounds, newest first, that begins at a rest with no order open: each round leads to another such rest, and
+-- has no request and no new table; anything else may happen in it
 abbrev pub AreRoundsWithoutRequests : Goal → List (List Event) → List Event → Type 0
 AreRoundsWithoutRequests goal [] past = AtRest goal past × IsTrue (is_idle past)
 AreRoundsWithoutRequests goal (round ∷ earlier) past =
     AreRoundsWithoutRequests goal earlier past × IsTrue (has_no_request round)
     × AtRest goal (round ++ after_rounds earlier past) × IsTrue (is_idle (round ++ after_rounds earlier past))
 
--- the number of undisturbed rounds among them
+-- the number of undisturbed rounds in the list
 abbrev pub undisturbed_among : List (List Event) → List Event → ℕ
 undisturbed_among [] past = 0
 undisturbed_among (round ∷ earlier) past =
@@ -94,17 +94,17 @@ stages_ahead level (Some stage.Sysinit) =
 stages_ahead level (Some stage.Boot) = stage.Run level ∷ []
 stages_ahead level _ = []
 
--- the level that init comes to: the one in force, or else the goal's
+-- the level at which init arrives: the level in force, or else the level of the goal
 abbrev pub destination : Level → Option Stage → Level
 destination level (Some (stage.Run now)) = now
 destination level _ = level
 
--- init will wait for the entry when the stage begins; `news` says whether a power event or letter is pending, which may
--- call it then
+-- init will wait for the entry when the stage begins; `news` is true if a power event or letter is pending, which may
+-- then call the entry
 abbrev pub is_ahead : Bool → Stage → Entry → Bool
 is_ahead news stage e = waited_of e && (starts_of e stage && wanted_by e.act true true news)
 
--- the number of such entries over these stages
+-- the number of entries that init will wait for in these stages
 abbrev pub waits_ahead : Bool → List Entry → List Stage → ℕ
 waits_ahead news table [] = 0
 waits_ahead news table (stage ∷ stages) = length (filter (is_ahead news stage) table) + waits_ahead news table stages
@@ -116,7 +116,7 @@ waits_to_come goal past =
     + count_wanted_waits past
 
 -- The number of undisturbed rounds after which the level is settled: one for each of these entries, one if init waits
--- for a child, and one for each signal that is still to come to the child that lacks most.
+-- for a child, and one for each signal still to come to the child with the most signals to come.
 abbrev pub rounds_to_come : Goal → List Event → ℕ
 rounds_to_come goal past =
     waits_to_come goal past + (if is_empty (awaited_children past) then 0 else 1)

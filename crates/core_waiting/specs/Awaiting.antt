@@ -1,5 +1,5 @@
--- The children that init waits for, in record order, each with its number and the reason: as read off the trace, and as
--- read off init's state.
+-- The children that init waits for, in record order, each with its number and the reason, computed in two ways: from
+-- the trace, and from init's state.
 use Rattle.std.specs.Prelude.{Bool, false, if◌then◌else◌, List, filter, filter_map, find, Option, Some, None, is_some}
 use Rattle.std.specs.Prelude.{option_and_then}
 use Rattle.std.specs.Option.{option_map}
@@ -12,12 +12,12 @@ use Rattle.core_waiting.specs.declared.rests.WhyAwaited.{WhyAwaited}
 use Rattle.core_waiting.specs.declared.rests.WhyAwaited.TheVariants.{Excluded, WaitedFor, InTheWay}
 use Rattle.core_waiting.specs.Rest.{is_awaited, why_awaited}
 
--- a child and the reason why init waits for it, if it does
+-- a child with the reason why init waits for it; none if init does not
 abbrev pub with_why : List Event → Child → Option Awaited
 with_why past child =
     option_map (λ why. record { id = child.id; number = child.number; why = why }) (why_awaited past child)
 
--- those of the children that init waits for, in record order
+-- the children in this list that init waits for, in record order
 abbrev pub in_record_order : List Child → List Event → List Awaited
 in_record_order children past =
     filter_map (λ id. option_and_then (with_why past) (find (is_child_of id) children)) (record_ids past)
@@ -31,13 +31,13 @@ abbrev pub is_wanted_in : Option Stage → Entry → SlotState → Bool
 is_wanted_in None e slot = false
 is_wanted_in (Some stage) e slot = is_wanted_record stage e slot
 
--- the reason in the entry of a record's child: init waits for the entry, or the entry is wanted again
+-- the reason that the entry gives to wait for the record's child: init waits for the entry, or the entry is wanted again
 abbrev pub why_by_entry : Option Stage → Option Entry → SlotState → Option WhyAwaited
 why_by_entry stage None slot = None
 why_by_entry stage (Some e) slot =
     if waited_of e then Some WaitedFor else if is_wanted_in stage e slot then Some InTheWay else None
 
--- the reason why init waits for a record's child, if it does: the child is to be stopped, or its entry gives the reason
+-- the reason why init waits for a record's child, if it does: the child must be stopped, or its entry gives a reason
 abbrev pub why_of_record : Option Stage → List Entry → SlotState → Option WhyAwaited
 why_of_record stage table slot =
     if is_some slot.stop then Some Excluded else why_by_entry stage (entry_of slot.id table) slot

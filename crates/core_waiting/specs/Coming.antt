@@ -3,8 +3,8 @@ use Rattle.std.specs.Prelude.{ℕ, zero, suc, if◌then◌else◌, List}
 use Rattle.core_waiting.specs.Words.{Goal, Event, due, first, is_rest, CoreState, decide, with_step}
 use Rattle.core_model.specs.Steps.{after_step}
 
--- the trace after at most this many steps of init, each the first that is due; it takes no more when nothing is due,
--- inittab is to be read, or init is to be re-executed
+-- the trace after at most this many steps of init, each the first that is due; init stops early when nothing is due, or
+-- the next step is to read inittab or to re-execute init
 abbrev pub with_own_steps : Goal → ℕ → List Event → List Event
 with_own_steps goal zero past = past
 with_own_steps goal (suc n) past =

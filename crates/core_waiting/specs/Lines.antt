@@ -1,4 +1,4 @@
--- The messages that say what init waits for while no level is announced settled, one per line.
+-- The messages about what init waits for while no level is announced settled, one per line.
 use Rattle.std.specs.Prelude.{ℕ, ◌-◌, if◌then◌else◌, List, [], ◌∷◌, ◌++◌, codes, decimal, Option, Some, None, is_some}
 use Rattle.std.specs.Prelude.{option_and_then}
 use Rattle.core_waiting.specs.Words.{Level, Stage, Sysinit, Boot, Run, level_code, SlotState, CoreState}
@@ -33,7 +33,7 @@ abbrev pub answers_text : Option Stage → List SlotState → List ℕ
 answers_text stage [] = []
 answers_text stage (slot ∷ slots) = answer_line stage slot ++ answers_text stage slots
 
--- how far the stopping of the id's child has come
+-- the progress of stopping the id's child
 abbrev pub stop_in : List ℕ → List SlotState → Option Stop
 stop_in id slots = option_and_then (λ (slot : SlotState). slot.stop) (record_by_id id slots)
 
@@ -41,12 +41,12 @@ stop_in id slots = option_and_then (λ (slot : SlotState). slot.stop) (record_by
 abbrev pub seconds_words : List ℕ → ℕ → List ℕ
 seconds_words what seconds = what ++ (decimal seconds ++ codes " s")
 
--- a child that was sent TERM: the seconds until it is sent KILL
+-- the message about a child that was sent TERM, with the seconds until it is sent KILL
 abbrev pub termed_words : ℕ → ℕ → ℕ → List ℕ
 termed_words grace now time =
     seconds_words (codes "it is being stopped; TERM was sent, KILL follows in ") (grace - (now - time))
 
--- how far the stopping of a child has come
+-- the message about the progress of stopping a child
 abbrev pub stop_words : ℕ → ℕ → Option Stop → List ℕ
 stop_words grace now (Some (Termed time)) = termed_words grace now time
 stop_words grace now (Some (Killed time)) = codes "it is being stopped; KILL was sent"
@@ -77,8 +77,7 @@ abbrev pub ends_text : CoreState → List Awaited → List ℕ
 ends_text core [] = []
 ends_text core (awaited ∷ others) = end_line core awaited ++ ends_text core others
 
--- the lines for the answers that init waits for, and then those for the children; no lines if a runlevel is announced
--- settled
+-- a line for each answer that init waits for, then a line for each child; no lines if a runlevel is announced settled
 abbrev pub waiting_text : CoreState → List ℕ
 waiting_text core =
     if core.fields.announced then [] else answers_text core.fields.stage core.slots ++ ends_text core (awaited_by core)

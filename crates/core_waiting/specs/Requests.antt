@@ -1,4 +1,4 @@
--- Requests for a level, and what follows them.
+-- Definitions for the law that init carries out each request for a level.
 use Rattle.std.specs.Prelude.{Bool, true, false, not, List, [], ◌∷◌, Option, Some}
 use Rattle.core_waiting.specs.Words.{Level, Stage, Run, same_level, Enter, Got, Event}
 use Rattle.initctl_frame.specs.declared.requests.HeardRequest.TheVariants as got

@@ -1,4 +1,4 @@
--- When init is at rest, which children it waits for then, and why.
+-- When init is at rest, which children it waits for at a rest, and why.
 use Rattle.std.specs.Prelude.{◌≡◌, ℕ, Bool, true, false, not, ◌&&◌, ◌||◌, ◌++◌, IsTrue, if◌then◌else◌, List, [], ◌∷◌}
 use Rattle.std.specs.Prelude.{filter, length, Option, Some, None, is_some}
 use Rattle.std.specs.List.{list_any}
@@ -21,7 +21,7 @@ why_of_entry None past = None
 why_of_entry (Some e) past =
     if waited_of e then Some WaitedFor else if is_wanted e past then Some InTheWay else None
 
--- the reason why init waits for a kept child, if it does: the child is excluded, or its entry gives the reason
+-- the reason why init waits for a kept child, if it does: the child is excluded, or its entry gives a reason
 abbrev pub why_awaited : List Event → Child → Option WhyAwaited
 why_awaited past child =
     if is_excluded past child then Some Excluded else why_of_entry (entry_of child.id (table_of past)) past
@@ -61,15 +61,15 @@ abbrev pub is_on_power : List Event → Child → Bool
 is_on_power past child =
     option_map_or (λ (e : Entry). answers_power e.act) (entry_of child.id (table_of past)) false
 
--- the signals told to a child in its spell, newest first, have not taken effect yet: a TERM whose grace is not over, or
--- a KILL
+-- the signals sent to a child since it became excluded, newest first, have not ended it yet: a TERM whose grace period
+-- is not over, or a KILL
 abbrev pub are_in_force : ℕ → ℕ → List Signal → Bool
 are_in_force grace now [] = false
 are_in_force grace now (signal ∷ []) = is_order Term signal.order && not (is_grace_over grace now signal)
 are_in_force grace now (signal ∷ earlier) = is_order Kill signal.order
 
--- a child that is excluded is being stopped: a signal to it failed, and is tried again in the next round, or the
--- signals told have not taken effect yet
+-- the child, if it is excluded, is being stopped: a signal to it failed and is repeated in the next round, or a TERM
+-- whose grace period is not over or a KILL was sent
 abbrev pub is_stopping : List Event → Child → Bool
 is_stopping past child =
     not (is_excluded past child) || is_missed child past
@@ -79,7 +79,7 @@ is_stopping past child =
 abbrev pub is_looked_at : List Event → Child → Bool
 is_looked_at past child = is_some (open_of child.id past) || not (wants_look child.id past)
 
--- the stretch is calm: no stage is entered, no table comes, and nothing is called by a power event or a letter
+-- the stretch is calm: it enters no stage, has no new table, and no power event or letter calls entries
 abbrev pub is_calm : List Event → Bool
 is_calm [] = true
 is_calm (NewTable table ∷ between) = false
@@ -92,7 +92,7 @@ is_calm (happening ∷ between) = is_calm between
 abbrev pub is_waited_id : List ℕ → List Event → Bool
 is_waited_id id past = option_map_or waited_of (entry_of id (table_of past)) false
 
--- between two Starts of an id over a calm stretch, the law holds of the id and of the past of the first
+-- whenever a calm stretch separates two Starts of an id, the law holds for the id and the trace before the first Start
 abbrev pub BetweenCalmStarts : (List ℕ → List Event → Type 0) → Type 0
 BetweenCalmStarts Law =
     (goal : Goal) (later between past : List Event) (id : List ℕ)
@@ -109,13 +109,13 @@ abbrev pub is_waited_start : List Event → Event → Bool
 is_waited_start past (Asked i Start) = is_waited_id i past
 is_waited_start past _ = false
 
--- a child from before the stretch is gone: its id has no kept child after it, or was started in it, which is only
--- possible once it has none
+-- a child from before the stretch is gone: its id has no kept child after the stretch, or was started during it, which
+-- is only possible after the child is gone
 abbrev pub is_gone : List Event → List Event → Child → Bool
 is_gone between past child =
     not (has_child child.id (kept_children (between ++ past))) || list_any (is_start_of child.id) between
 
--- the law holds between two rests with no order open, over a calm stretch
+-- the law holds whenever a calm stretch separates two rests with no order open
 abbrev pub BetweenRests : (List Event → List Event → Type 0) → Type 0
 BetweenRests Law =
     (goal : Goal) (later between past : List Event) → IsTrue (is_sound goal (later ++ (between ++ past)))
@@ -130,7 +130,7 @@ is_wanted_wait past e = waited_of e && is_wanted e past
 abbrev pub count_wanted_waits : List Event → ℕ
 count_wanted_waits past = length (filter (is_wanted_wait past) (table_of past))
 
--- the past after these rounds, given newest first
+-- the trace after these rounds, which are given newest first
 abbrev pub after_rounds : List (List Event) → List Event → List Event
 after_rounds [] past = past
 after_rounds (round ∷ earlier) past = round ++ after_rounds earlier past

@@ -1,18 +1,18 @@
-//! When a level is settled: after a bounded number of undisturbed rounds from a rest, whatever else comes between these
-//! rounds except requests and tables.
+//! When a level is settled: after a bounded number of undisturbed rounds from a rest, whatever happens between these
+//! rounds except requests and new tables.
 //!
 //! The definitions are in `specs/Arrival`. A round is undisturbed if all of this holds:
 //!
-//! - From its beginning on, no request and no table comes.
+//! - No request and no new table arrives during it.
 //! - Each order is answered, and at the end no signal to a child has failed since the last `nudge`.
 //! - Each child that had to end when the round began (because init waits for it, because its entry is wanted again, or
 //!   because it was sent a KILL) is found ended by the last look at it.
 //! - The clock advances by the seconds between the two signals that stop a child, unless each child that was sent only
 //!   the first signal is gone.
 //!
-//! A round may be as long as necessary, which is many turns if a child takes its time. A round that is not undisturbed
-//! does not count, and delays nothing, as long as no request and no table comes, and each order is answered when the
-//! next round begins.
+//! A round may take many turns, for example if a child takes long to end. A round that is disturbed does not count, but
+//! it does not increase the number of rounds to come either, if no request and no new table arrives in it and each order
+//! is answered before the next round begins.
 
 ghost use Rattle.std.specs.Prelude.{◌≡◌, ◌<◌, ◌≤◌, ◌+◌, ℕ, IsTrue, false, List, ◌++◌, filter, length, Some};
 ghost use Rattle.core_waiting.specs.Words.{Run, waited_of, Goal, Event, table_of, stage_of, is_idle, goal_of, are_calls_pending, is_sound};
@@ -29,15 +29,15 @@ pub fn law_of_arrival()
         → IsTrue (is_undisturbed round past) → AtRest goal (round ++ past)
         → IsTrue (is_idle (round ++ past)) → is_level_announced (round ++ past) ≡ false
         → rounds_to_come goal (round ++ past) < rounds_to_come goal past }
-    // from a rest with no order open, while no request and no table comes, the number of rounds to come never rises, at
-    // a rest or elsewhere
+    // after a rest with no order open, the number of rounds to come never rises until a request or a new table arrives,
+    // at a rest or elsewhere
     ensures stays { (goal : Goal) (later round past : List Event)
         → IsTrue (is_sound goal (later ++ (round ++ past))) → AtRest goal past
         → IsTrue (is_idle past)
         → IsTrue (has_no_request round)
         → rounds_to_come goal (round ++ past) ≤ rounds_to_come goal past }
-    // so the level is announced settled after rounds without requests, if at least as many of them are undisturbed as
-    // were to come at the first rest, whatever happens in the others
+    // so the level is announced settled after rounds without requests, if the number of undisturbed ones among them is
+    // at least the number to come at the first rest, whatever happens in the others
     ensures arrives { (goal : Goal) (later : List Event)
         (rounds : List (List Event)) (past : List Event)
         → IsTrue (is_sound goal (later ++ after_rounds rounds past))
@@ -52,14 +52,14 @@ pub fn law_of_arrival()
         → IsTrue (is_level_announced (after_rounds rounds past))
         → stage_of (after_rounds rounds past)
         ≡ Some (Run (destination (goal_of goal past).level (stage_of past))) }
-    // there are at most three rounds more to come than waited entries to come, and so at most three more than the table
-    // has waited entries
+    // the number of rounds to come is at most three more than the number of waited entries to come, and so at most
+    // three more than the number of waited entries in the table
     ensures few { (goal : Goal) (past : List Event)
         → rounds_to_come goal past ≤ waits_to_come goal past + 3 }
     ensures bounded { (goal : Goal) (past : List Event)
         → rounds_to_come goal past ≤ length (filter waited_of (table_of past)) + 3 }
-    // such rounds exist: from each rest at which no request to call entries is pending, there are any number of rounds,
-    // all of them undisturbed
+    // such rounds exist: any number of undisturbed rounds can follow each rest at which no request to call entries is
+    // pending
     ensures exist { (goal : Goal) (later past : List Event) (count : ℕ)
         → IsTrue (is_sound goal (later ++ past)) → AtRest goal past → IsTrue (is_idle past)
         → are_calls_pending past ≡ false
@@ -67,7 +67,7 @@ pub fn law_of_arrival()
         × IsTrue (is_sound goal (after_rounds rounds past))
         × AreRoundsWithoutRequests goal rounds past
         × (undisturbed_among rounds past ≡ count) }
-    // so from each of these rests a settled level can be reached, which is that level
+    // so from each of these rests that level can be reached and settled
     ensures reached { (goal : Goal) (later past : List Event)
         → IsTrue (is_sound goal (later ++ past)) → AtRest goal past → IsTrue (is_idle past)
         → are_calls_pending past ≡ false

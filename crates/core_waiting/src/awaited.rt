@@ -1,7 +1,7 @@
 //! The children that init waits for when it has nothing to do, and why; see init(8).
 //!
-//! This is tested by the rows of `test_core`, and compared with traces by `tools/pages.d/waits`. The public clause of
-//! `next` compares what the record of a child says with `awaited_children` of the past, so the helpers may change.
+//! The rows of `test_core` test this module, and `tools/pages.d/waits` compares it with traces. The public clause of
+//! `next` relates each child to `awaited_children` of the trace, so you may change the private functions.
 
 ghost use Rattle.std.specs.Prelude.{◌≡◌, IsTrue};
 ghost use Rattle.core_waiting.specs.Words.{is_quiet, ForAllFittedTraces};
@@ -17,7 +17,7 @@ use std::alloc::{Allocator, Global};
 use std::marker::Model;
 
 /// An iterator over the children that init waits for, in record order, each with the reason. Contracts see it as the
-/// list of the remaining ones. It does not allocate.
+/// list of the remaining children. It does not allocate memory.
 #[derive(Drop)]
 pub struct AwaitedChildren<'a, A: Allocator = Global> {
     stage: Option<Stage>,
@@ -38,8 +38,8 @@ impl<'a, A: Allocator> Model for AwaitedChildren<'a, A> {
 impl<'a, A: Allocator> AwaitedChildren<'a, A> {
     /// Returns the children that the core waits for.
     ///
-    /// For every goal and every sound trace that the core fits, these are the known children that init waits for there.
-    /// If no start and no signal is open, they are all children that init waits for.
+    /// For every goal and every sound trace that the core fits, these are the known children that init waits for.
+    /// If no start and no signal is open, they are all the children that init waits for.
     pub fn of(core: &'a Core<A>) -> AwaitedChildren<'a, A>
         ensures state { result ≡ awaited_by core.now }
         ensures known { ForAllFittedTraces core.now (λ goal past.
@@ -104,7 +104,7 @@ fn why_of<A: Allocator>(stage: Option<Stage>, table: &Table<A>, slot: &Slot) -> 
     None
 }
 
-/// Returns whether the entry is to be started in the stage once it has neither a child nor an open start.
+/// Returns whether init will start the entry in the stage once it has neither a child nor an open start.
 fn is_wanted_in(stage: Option<Stage>, entry: &Entry, slot: &Slot) -> bool
     ensures { result ≡ is_wanted_in stage entry.now slot.now }
 {

@@ -1,5 +1,5 @@
-//! Which children init waits for, and why: what a rest of init is, which children a core waits for there, and messages
-//! about them; see init(8). Init never waits without a reason, and a level is settled in the end.
+//! The children that init waits for when it is at rest, the reason for each, and messages about them; see init(8). Init
+//! never waits without a reason, and a level is settled in the end.
 #![tactic(auto)]
 
 mod arrivals;

@@ -1,4 +1,4 @@
-//! The messages that say what init waits for.
+//! The messages about what init waits for.
 
 ghost use Rattle.std.specs.Prelude.{◌≡◌, ◌++◌, ◌-◌, IfOk, OnOk};
 ghost use Rattle.core_waiting.specs.Awaiting.{awaited_by};
@@ -13,7 +13,7 @@ use level_core::Core;
 use std::alloc::{AllocError, Allocator, Global};
 
 /// Returns one line for each thing that init waits for: first the answers to its orders, then the children that
-/// `AwaitedChildren` gives, each with the reason, both in record order. There are no lines if a runlevel is announced
+/// `AwaitedChildren` yields, each with the reason, both in record order. The text is empty if a runlevel is announced
 /// settled.
 pub fn waiting_lines<A: Allocator>(alloc: Global, core: &Core<A>) -> Result<Vec<u8>, AllocError>
     ensures { IfOk result (λ text. text.items ≡ waiting_text core.now) }
@@ -110,7 +110,7 @@ fn add_ended(text: &mut Vec<u8>, what: &[u8], number: ChildNumber) -> Result<(),
     Ok(())
 }
 
-/// Appends how far the stopping of a child has come, given the seconds between the two signals and the present time.
+/// Appends the progress of stopping a child, given the seconds between the two signals and the current time.
 fn add_stop(text: &mut Vec<u8>, grace: u16, now: u64, stop: Option<Stop>) -> Result<(), AllocError>
     ensures { OnOk result (text.new.items ≡ text.old.items ++ stop_words grace now stop) }
 {
@@ -164,14 +164,14 @@ fn put(text: &mut Vec<u8>, bytes: &[u8]) -> Result<(), AllocError>
     Ok(())
 }
 
-/// Returns how far the stopping of the id's child has come.
+/// Returns the progress of stopping the id's child.
 fn stop_of<A: Allocator>(core: &Core<A>, id: &Id) -> Option<Stop>
     ensures { result ≡ stop_in id.now core.now.slots }
 {
     core.slots().by_id(id)?.stop()
 }
 
-/// Appends the beginning of a line, which says what is waiting.
+/// Appends the beginning of a line, which names the level or stage that is waiting.
 fn add_start(text: &mut Vec<u8>, stage: Option<Stage>) -> Result<(), AllocError>
     ensures { OnOk result (text.new.items ≡ text.old.items ++ line_start stage) }
 {

@@ -1,4 +1,4 @@
-//! No request for a level is lost; see telinit(8).
+//! The law that no request for a level is lost; see telinit(8).
 
 ghost use Rattle.std.specs.Prelude.{◌≡◌, ◌≤◌, ◌⊎◌, ℕ, IsTrue, false, List, ◌∷◌, ◌++◌, Some};
 ghost use Rattle.core_waiting.specs.Words.{Level, Stage, Boot, Run, same_level, Enter, Got, Goal, Event, stage_of, is_idle, goal_of, is_sound};
@@ -18,8 +18,8 @@ pub fn law_of_request()
         → AtRest goal (between ++ Got (LevelAsked level grace) ∷ before)
         → IsTrue (is_idle (between ++ Got (LevelAsked level grace) ∷ before))
         → IsTrue (is_stage_entered between) }
-    // the first stage entered is that level, or Boot with that level as the goal; it is entered with the seconds of the
-    // request
+    // the first stage entered is that level, or Boot with that level as the goal; it is entered with the grace period
+    // of the request
     ensures entered { (goal : Goal) (later between before : List Event) (level now : Level)
         (grace seconds : ℕ) (stage : Stage) → IsTrue (is_sound goal
         (later ++ Enter stage seconds ∷ (between ++ Got (LevelAsked level grace) ∷ before)))
@@ -28,8 +28,8 @@ pub fn law_of_request()
         → ((stage ≡ Run level)
         ⊎ (stage ≡ Boot) × ((goal_of goal (between ++ Got (LevelAsked level grace) ∷ before)).level
         ≡ level)) × (seconds ≡ grace) }
-    // from the first rest with no order open, after as many undisturbed rounds as are to come there, that level is
-    // announced settled, whatever the stage was at the request, and whatever happens in between except other requests
+    // after the first rest with no order open and the number of undisturbed rounds to come at it, that level is announced
+    // settled, whatever the stage was at the request, and whatever happens in between except other requests
     ensures settled { (goal : Goal) (later between before : List Event)
         (rounds : List (List Event)) (level : Level) (grace : ℕ)
         → let asked : List Event = between ++ Got (LevelAsked level grace) ∷ before in

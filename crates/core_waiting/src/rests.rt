@@ -1,9 +1,8 @@
-//! When init is at rest, and which children it waits for then. Init never waits without a reason.
+//! When init is at rest, and which children it waits for at a rest. Init never waits without a reason.
 //!
-//! The functions here do nothing; their contracts are the laws, and the examples in `proofs/Rows` compute the
-//! definitions. These are the ones of `trace_events` and of `specs/Rest`. A trace is a list of happenings, newest
-//! first. The laws hold for all readings of the clock and for all requests, unless they are restricted to a stretch
-//! without requests.
+//! The functions here do nothing: their contracts are the laws. The definitions are in `trace_events` and `specs/Rest`,
+//! and the examples in `proofs/Rows` evaluate them. A trace is a list of happenings, newest first. The laws hold for all
+//! readings of the clock and all requests, except the laws about a stretch without requests.
 
 ghost use Rattle.std.specs.Prelude.{◌≡◌, ℕ, Bool, IsTrue, false, not, ◌||◌, List, ◌++◌, filter_map};
 ghost use Rattle.std.specs.List.{list_any, list_all};
@@ -23,9 +22,9 @@ use init_words::{ChildNumber, Id};
 pub enum WhyAwaited {
     /// The child is excluded, and is being stopped.
     Excluded,
-    /// Init waits for its entry before it starts a later one or enters the next stage.
+    /// Init waits for its entry before it starts a later entry or enters the next stage.
     WaitedFor,
-    /// Its entry is wanted again, and is started when this child is gone.
+    /// Its entry is wanted again, and init starts it when this child is gone.
     InTheWay,
 }
 
@@ -47,10 +46,10 @@ pub fn law_of_rest()
     // if no order is open at such a moment, no request is pending
     ensures heard { AtEachRest (λ past. IsTrue (is_idle past) → is_request_pending past ≡ false) }
     // and each excluded child is being stopped: it was sent a TERM whose grace period is not over, or a KILL; or a
-    // signal to it failed and is tried again in the next round
+    // signal to it failed and is repeated in the next round
     ensures stopping { AtEachRest (λ past. IsTrue (is_idle past)
         → IsTrue (list_all (is_stopping past) (kept_children past))) }
-    // each known child was looked at since the last round began, or its id has an open order
+    // init has looked at each known child since the last round began, or the id of the child has an open order
     ensures looked { AtEachRest (λ past.
         IsTrue (list_all (is_looked_at past) (known_children past))) }
     // each core that fits the trace decides on Idle at such a moment, and at no other
@@ -63,11 +62,11 @@ pub fn law_of_rest()
         × (list_any (is_excluded past) (kept_children past) ≡ false)) }
     ensures settled { AtEachMoment (λ past. IsTrue (is_announced past)
         → IsTrue (list_all (is_on_power past) (awaited_children past))) }
-    // an entry that init waits for starts only once over a calm stretch, in which no stage is entered, no table comes
-    // and nothing is called
+    // an entry that init waits for starts at most once in a calm stretch, in which init enters no stage, adopts no table
+    // and calls no entry
     ensures once { BetweenCalmStarts (λ id past. is_waited_id id past ≡ false) }
-    // between two rests with no order open, over such a stretch: if none of the children that init waited for at the
-    // first rest is left, a waited entry was started in between, or the level is announced settled
+    // if a calm stretch separates two rests with no order open, and none of the children that init waited for at the
+    // first rest is left, then a waited entry was started in between, or the level is announced settled
     ensures progress { BetweenRests (λ between past.
         IsTrue (list_all (is_gone between past) (awaited_children past))
         → is_level_announced (between ++ past) ≡ false
@@ -77,11 +76,11 @@ pub fn law_of_rest()
 /// States in its contract that init's own steps end, and that init is at rest afterwards. The function itself does
 /// nothing.
 pub fn law_of_coming()
-    // after each happening, init takes at most as many steps of its own, each the first that is due, as there is work
-    // left; then nothing is due, or inittab is to be read, or init to be re-executed
+    // after each happening, the number of steps that init takes, each the first that is due, is at most the work left;
+    // then nothing is due, or the next step is to read inittab or to re-execute init
     ensures comes { (core : CoreState) → ForAllFittedTraces core (λ goal past.
         IsTrue (is_rest (first (due goal (with_own_steps goal (work_left core) past))))) }
-    // if neither of the two is pending, nothing is due then
+    // if no reading of inittab and no re-execution is pending, nothing is due then
     ensures arrives { (core : CoreState) → ForAllFittedTraces core (λ goal past.
         (wants_reexec past || wants_reread past) ≡ false
         → AtRest goal (with_own_steps goal (work_left core) past)) }

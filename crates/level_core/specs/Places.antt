@@ -1,4 +1,4 @@
--- The positions from which on a record may have to be looked at or sent a signal, or an entry started or waited for.
+-- The positions at which the searches for looks, signals and starts begin, because nothing before them is due.
 use Rattle.std.specs.Prelude.{◌≡◌, ◌≤◌, ◌<◌, ℕ, Bool, true, false, not, ◌&&◌, List, zip, take, slice_get, Option, Some}
 use Rattle.std.specs.Prelude.{None, is_some, is_none}
 use Rattle.std.specs.List.{list_all}
@@ -12,7 +12,7 @@ use Rattle.level_core.specs.Words.{Stage, SlotState, is_wanted_record, is_owed_r
 use Rattle.level_core.specs.declared.walk_places.Places.{Places}
 use Rattle.level_core.specs.Between.{AllExcept}
 
--- the record is seen: it has no child that is to be looked at, regardless of any open order
+-- the record is seen: no look at its child is due, regardless of any open order
 abbrev pub is_seen_record : SlotState → Bool
 is_seen_record slot = not (is_some slot.child && slot.look)
 
@@ -24,13 +24,13 @@ are_seen position slots = list_all is_seen_record (take position slots)
 abbrev pub is_held_back : ℕ → Entry → SlotState → Bool
 is_held_back now e slot = is_limited e.act && is_held slot.limiter.held now
 
--- the entry with this record is passed: it is neither to be started now, regardless of any open order, nor owed
+-- the entry with this record is passed: it need not be started now, regardless of any open order, and is not owed
 abbrev pub is_passed_record : Stage → ℕ → Entry → SlotState → Bool
 is_passed_record stage now e slot =
     not ((is_wanted_record stage e slot && is_none slot.child) && not (is_held_back now e slot))
     && not (is_owed_record stage e slot)
 
--- the entry is passed in the stage; before the first stage every entry is
+-- the entry is passed in the stage; before the first stage every entry is passed
 abbrev pub is_passed_in : Option Stage → ℕ → Entry → SlotState → Bool
 is_passed_in None now e slot = true
 is_passed_in (Some stage) now e slot = is_passed_record stage now e slot
@@ -59,7 +59,7 @@ abbrev pub NoSignalDueBefore : ℕ → ℕ → ℕ → List SlotState → Type 0
 NoSignalDueBefore grace now to slots =
     (position : ℕ) → position < to → no_signal_due_at grace now slots position ≡ true
 
--- the answer is to a start, or says that a child has ended, so it may change which entry is to be started
+-- the answer is to a start, or reports the end of a child, so it may change which entry to start next
 abbrev pub changes_starts : Answer → Bool
 changes_starts (Born number) = true
 changes_starts NotBorn = true

@@ -1,7 +1,7 @@
 //! Calls the ondemand entries of a letter, and the entries for a power event.
 //!
-//! Tested by the rows of `test_core` and `test_turns`. Other proofs rely on the order in which the table is walked,
-//! which is that of inittab(5).
+//! The rows of `test_core` and `test_turns` test this module. Other proofs rely on the order in which it visits the
+//! entries, which is their order in inittab(5).
 
 ghost use Rattle.std.specs.Prelude.{◌≡◌, ◌<◌, length, slice_get, true, option_map, if◌then◌else◌, Some};
 ghost use Rattle.child_table.specs.Changes.{after_call};
@@ -13,7 +13,8 @@ use inittab_text::Table;
 use std::alloc::Allocator;
 use trace_events::Step;
 
-/// Returns whether the step calls the entry: it is a power event or a letter for the entry, which starts in the stage.
+/// Returns whether the step calls the entry: the step is for a power event or letter that the entry names, and the
+/// entry starts in the stage.
 fn is_named(step: &Step, stage: Option<Stage>, entry: &Entry) -> bool
     ensures { result ≡ is_named step.now stage entry.now }
 {

@@ -34,8 +34,8 @@ impl<A: Allocator + Copy> Core<A> {
     ghost use Rattle.init_words.specs.declared.refusals.Refusal.TheVariants as refusal;
     ghost use Rattle.level_core.specs.Words.{NewTable, is_quiet, opening_goal, opening_state, after_adopt, Fits, HasLastStatuses, FitsExtendedTrace, ForAllFittedTraces};
 
-    /// Creates a core before its first stage. Its goal is the given level, otherwise the default level of the table,
-    /// otherwise S.
+    /// Creates a core before its first stage. Its goal is the given level, or else the default level of the table, or
+    /// else S.
     pub fn new(alloc: A, table: Table<A>, level: Option<Level>) -> Result<Core<A>, Memory>
         ensures state { IfOk result (λ core.
             core ≡ opening_state table (opening_goal level table)) }
@@ -47,8 +47,8 @@ impl<A: Allocator + Copy> Core<A> {
         Ok(Core { bare })
     }
 
-    /// Puts another table in force (telinit(8), `q`). Its entries have the records of their ids, and children of ids
-    /// that left the table are to be stopped.
+    /// Puts another table in force (telinit(8), `q`). Its entries get the records of their ids, and children of ids
+    /// that are no longer in the table are marked for stopping.
     ///
     /// Fails with `NotQuiet`, before allocating memory, if a start or a signal is not answered, and with `Memory` if
     /// memory allocation fails. If it fails, nothing changes.
@@ -86,7 +86,7 @@ impl<A: Allocator> Core<A> {
         let _inner = &self.bare;
     }
 
-    /// Returns everything except the table and the records.
+    /// Returns the state of the core, except the table and the records.
     pub fn fields(&self) -> CoreFields
         ensures { result ≡ self.now.fields }
     {
@@ -121,8 +121,8 @@ impl<A: Allocator> Core<A> {
         self.bare.slots()
     }
 
-    /// Returns how the last child of an id ended, as far as init was told, or `None` if there was no such child or the
-    /// id has no record any more.
+    /// Returns how the last child of an id ended, or `None` if init was told of no end, or the id no longer has a
+    /// record.
     pub fn last(&self, id: &Id) -> Option<Status>
         ensures { result ≡ option_and_then
             (λ (slot : SlotState). slot.last) (record_by_id id.now self.now.slots) }
@@ -144,19 +144,19 @@ impl<A: Allocator> Core<A> {
         self.bare.generation()
     }
 
-    /// Returns whether nothing is left to do and nothing runs: a runlevel was announced settled, no record has a child
-    /// or an order, no request is pending, and no entry is held.
+    /// Returns whether init has nothing left to do and no child: a runlevel was announced settled, no record has a child
+    /// or an open order, no request is pending, and no entry is held.
     pub fn drained(&self) -> bool
         ensures { result ≡ is_drained self.now }
     {
         self.bare.drained()
     }
 
-    /// Returns the next step of init, which counts as taken from then on: the first step that is due, or `Idle` if none
-    /// is. This allocates no memory.
+    /// Returns the next step of init and marks it as taken. This is the first step that is due, or `Idle` if none is due.
+    /// This allocates no memory.
     ///
-    /// The steps that read inittab or re-execute init remain due until they are answered: the first by `adopt` or
-    /// `not_read`, the second by `handed_on` or `not_handed`.
+    /// The steps that read inittab or re-execute init remain due until their result arrives: `adopt` or `not_read` for
+    /// the first, `handed_on` or `not_handed` for the second.
     ///
     /// For every goal and every sound trace that the core fits, this is the first due step, and the core then fits the
     /// trace with this step.
@@ -189,7 +189,7 @@ impl<A: Allocator> Core<A> {
         self.bare.answer_by_state(id, answer)
     }
 
-    /// Records a request that was received (telinit(8), initreq.h). Its seconds are at most 3,600.
+    /// Records a request (telinit(8), initreq.h). Its grace period is at most 3,600 seconds.
     pub fn got(&mut self, request: HeardRequest)
         ensures state { self.new ≡ after_got request self.old }
         ensures fits { ForAllFittedTraces self.old (λ goal past.
@@ -207,8 +207,7 @@ impl<A: Allocator> Core<A> {
         self.bare.not_read_by_state();
     }
 
-    /// Records that init was not re-executed. The request for it is no longer pending, whatever the result of the
-    /// hand-over was.
+    /// Records that init was not re-executed. The request for re-execution is no longer pending, whatever the reason.
     pub fn not_handed(&mut self)
         ensures state { self.new ≡ after_handed self.old }
         ensures fits { ForAllFittedTraces self.old (λ goal past. (how : Handed)
@@ -217,7 +216,7 @@ impl<A: Allocator> Core<A> {
         self.bare.not_handed_by_state();
     }
 
-    /// Records that the state was handed on to the next init, whose generation is one higher. The request for
+    /// Records that init handed its state over to the next init, whose generation is one higher. The request for
     /// re-execution is no longer pending, whatever the result of the hand-over is.
     pub fn handed_on(&mut self)
         requires { self.old.fields.generation + 1 < 2 ^ 64 }
@@ -228,7 +227,7 @@ impl<A: Allocator> Core<A> {
         self.bare.handed_on_by_state();
     }
 
-    /// Begins a round: each child is to be looked at, and a signal that missed one may be sent again.
+    /// Begins a round: a look at each child becomes due, and a signal that missed a child may be sent again.
     pub fn nudge(&mut self)
         ensures state { self.new ≡ after_round self.old }
         ensures fits { ForAllFittedTraces self.old (λ goal past.
@@ -237,8 +236,8 @@ impl<A: Allocator> Core<A> {
         self.bare.nudge_by_state();
     }
 
-    /// Records a clock reading, in seconds. The time is the greatest reading so far; a reading above 1,000,000,000,000
-    /// counts as that number.
+    /// Records a clock reading, in seconds. The time is the greatest reading so far. A reading above 1,000,000,000,000
+    /// counts as 1,000,000,000,000.
     pub fn clock(&mut self, reading: u64)
         ensures state { self.new ≡ after_clock reading self.old }
         ensures fits { ForAllFittedTraces self.old (λ goal past.

@@ -1,4 +1,4 @@
-//! What is due for a single record: its signal, its start, its look, and whether it delays other entries.
+//! Decides what is due for a single record: a signal, a start, a look, and whether it delays other entries.
 
 ghost use Rattle.std.specs.Prelude.{◌≡◌, ◌≤◌, ◌+◌, nat_le};
 ghost use Rattle.level_core.specs.Words.{level_step, signal_step, stop_step, is_wanted_record, is_owed_record, limited_step, can_start_record, start_step, is_done_record, next_stage, is_served_record, can_look_record, CLOCK_LIMIT};
@@ -83,7 +83,7 @@ fn is_wanted(stage: Stage, entry: &Entry, slot: &Slot) -> bool
     starts(entry, stage) && entry.act.is_wanted(idle, !slot.asked(), slot.called())
 }
 
-/// Returns whether the entry is owed: init waits for it, and it has a child, an open start, or is wanted.
+/// Returns whether the entry is owed: init waits for it, and it is wanted, being started, or running.
 pub(crate) fn is_owed(stage: Stage, entry: &Entry, slot: &Slot) -> bool
     ensures { result ≡ is_owed_record stage entry.now slot.now }
 {
@@ -112,7 +112,7 @@ fn can_start(stage: Stage, entry: &Entry, slot: &Slot) -> bool
     is_wanted(stage, entry, slot) && !slot.has_child() && slot.order().is_none()
 }
 
-/// Returns the start or the hold of an entry.
+/// Returns the step that starts or holds an entry, if one is due.
 pub(crate) fn start_step(stage: Stage, now: u64, entry: &Entry, slot: &Slot) -> Option<Step>
     requires { now ≤ CLOCK_LIMIT }
     ensures { result ≡ start_step stage now entry.now slot.now }
@@ -131,7 +131,7 @@ pub(crate) fn is_start(ask: OrderKind) -> bool
     matches!(ask, OrderKind::Start)
 }
 
-/// Returns whether the answer may change which entry is to be started.
+/// Returns whether the answer may change which entry to start next.
 pub(crate) fn changes_starts(answer: &Answer) -> bool
     ensures { result ≡ changes_starts answer.now }
 {
@@ -145,7 +145,7 @@ fn is_held_back(now: u64, entry: &Entry, slot: &Slot) -> bool
     entry.act.is_limited() && slot.held(now)
 }
 
-/// Returns whether the entry is neither to be started now, regardless of any open order, nor waited for.
+/// Returns whether the entry need not be started now, regardless of any open order, and is not owed.
 pub(crate) fn is_passed(stage: Stage, now: u64, entry: &Entry, slot: &Slot) -> bool
     ensures { result ≡ is_passed_record stage now entry.now slot.now }
 {
@@ -160,7 +160,7 @@ pub(crate) fn is_done(stage: Stage, entry: &Entry, slot: &Slot) -> bool
     !is_wanted(stage, entry, slot) && !(waited(entry) && slot.has_child())
 }
 
-/// Returns the stage that comes after Sysinit or Boot, on the way to the level.
+/// Returns the stage that follows Sysinit or Boot on the way to the level.
 pub(crate) fn next_stage(stage: Stage, goal: Level) -> Option<Stage>
     ensures { result ≡ next_stage stage goal }
 {
@@ -183,14 +183,14 @@ pub(crate) fn is_served(level: Level, now: u64, entry: &Entry, slot: &Slot) -> b
     !entry.names_level(level) || entry.act.is_served(slot.asked(), kept_up)
 }
 
-/// Returns whether the child is to be looked at and no order is open.
+/// Returns whether a look at the child is due and no order is open.
 pub(crate) fn can_look(slot: &Slot) -> bool
     ensures { result ≡ can_look_record slot.now }
 {
     slot.has_child() && slot.order().is_none() && slot.look()
 }
 
-/// Returns whether the record has no child that is to be looked at, regardless of any open order.
+/// Returns whether no look at the child of the record is due, regardless of any open order.
 pub(crate) fn is_seen(slot: &Slot) -> bool
     ensures { result ≡ is_seen_record slot.now }
 {

@@ -75,7 +75,7 @@ fn is_whole(plain: &PlainSlot) -> bool
     plain.child.is_some() == plain.act.is_some() && is_non_decreasing(plain.starts.as_slice())
 }
 
-/// Returns whether the record is that of the entry, if there is one.
+/// Returns whether the record has the id of the entry, if there is an entry.
 fn is_for(entry: Option<&Entry>, plain: &PlainSlot) -> bool
     ensures { result ≡ is_for (option_copied entry.entry) plain.now }
 {
@@ -85,7 +85,7 @@ fn is_for(entry: Option<&Entry>, plain: &PlainSlot) -> bool
     }
 }
 
-/// Rebuilds a record, if it is whole and that of the entry.
+/// Rebuilds a record, if it is whole and has the id of the entry.
 fn record_read(entry: Option<&Entry>, plain: &PlainSlot) -> Option<Slot>
     ensures { result ≡ record_read (option_copied entry.entry) plain.now }
 {

@@ -1,4 +1,4 @@
-//! Tests of the rules that the state of init always obeys.
+//! Tests whether a state obeys the rules that the state of init always obeys.
 
 ghost use Rattle.std.specs.Prelude.{◌≡◌, ◌≤◌, ◌&&◌, if◌then◌else◌, not, true, nat_le, Some};
 ghost use Rattle.std.specs.List.{list_all, list_any};
@@ -23,14 +23,14 @@ pub(crate) fn is_non_decreasing(times: &[u64]) -> bool
     times.is_sorted()
 }
 
-/// Returns whether the record is that of an entry, or has a child.
+/// Returns whether the record belongs to an entry, or has a child.
 fn has_cause(slot: &Slot) -> bool
     ensures { result ≡ has_cause slot.now }
 {
     slot.table_act().is_some() || slot.has_child()
 }
 
-/// Returns whether the signal may be open when the stopping of the child has come this far.
+/// Returns whether the signal may be open at this point of stopping the child.
 fn may_follow(signal: OrderKind, stop: Option<Stop>) -> bool
     ensures { result ≡ may_follow signal stop }
 {
@@ -60,22 +60,21 @@ fn has_start(slots: &[Slot]) -> bool
     slots.iter().any(|slot| is_starting(slot))
 }
 
-/// Returns whether some child is to be stopped.
+/// Returns whether some child must be stopped.
 fn has_excluded(slots: &[Slot]) -> bool
     ensures { result ≡ has_excluded slots.now }
 {
     slots.iter().any(|slot| slot.stop().is_some())
 }
 
-/// Returns whether an open start, if there is one, was asked and is for an entry that starts in the stage.
+/// Returns whether an open start, if there is one, has set `asked` and is for an entry that starts in the stage.
 fn is_start_allowed(stage: Stage, entry: &Entry, slot: &Slot) -> bool
     ensures { result ≡ is_start_allowed stage entry.now slot.now }
 {
     !is_starting(slot) || (slot.asked() && starts(entry, stage))
 }
 
-/// Returns whether a start of the entry is allowed: after an owed entry none may be open, and otherwise an open one
-/// must be allowed for the entry.
+/// Returns whether the entry has no open start if it follows an owed entry, and only an allowed one otherwise.
 fn is_start_in_turn(owed: bool, stage: Stage, entry: &Entry, slot: &Slot) -> bool
     ensures { result ≡ (if owed then not (is_started slot.now)
         else is_start_allowed stage entry.now slot.now) }
@@ -126,7 +125,7 @@ fn is_child_excluded<A: Allocator>(stage: Option<Stage>, table: &Table<A>, slot:
     }
 }
 
-/// Returns whether the child of a record is to be stopped exactly if it is excluded.
+/// Returns whether the record marks its child for stopping exactly if the child is excluded.
 fn is_stop_judged<A: Allocator>(stage: Option<Stage>, table: &Table<A>, slot: &Slot) -> bool
     ensures { result ≡ is_stop_judged stage table.now slot.now }
 {
@@ -150,15 +149,15 @@ fn is_callable(act: Option<Act>) -> bool
         || act.is_ondemand()
 }
 
-/// Returns whether a child whose stopping has come this far may still be sent a signal.
+/// Returns whether init may still send the child a signal, given the progress of stopping it.
 fn may_be_signalled(stop: Option<Stop>) -> bool
     ensures { result ≡ may_be_signalled stop }
 {
     matches!(stop, Some(Stop::Due | Stop::Termed(_)))
 }
 
-/// Returns whether the flags of a record are justified: only a child is to be looked at, a signal can only have missed
-/// a child that may still be sent one, and only an entry that can be called is called.
+/// Returns whether the flags of a record are justified: `look` needs a child, `missed` needs a child that may still be
+/// sent a signal, and `called` needs an entry that can be called.
 fn are_marks_consistent(slot: &Slot) -> bool
     ensures { result ≡ are_marks_consistent slot.now }
 {
@@ -167,7 +166,7 @@ fn are_marks_consistent(slot: &Slot) -> bool
         && (!slot.called() || is_callable(slot.table_act()))
 }
 
-/// Returns whether a hold ends at most five minutes from now and comes after ten starts.
+/// Returns whether there is no hold, or it ends at most five minutes from now and there are ten starts.
 fn is_hold_kept(now: u64, starts: &[u64], held_until: Option<u64>) -> bool
     requires { now ≤ CLOCK_LIMIT }
     ensures { result
@@ -179,7 +178,7 @@ fn is_hold_kept(now: u64, starts: &[u64], held_until: Option<u64>) -> bool
     }
 }
 
-/// Returns whether the starts and the hold are as they should be; there are none if the respawn limit does not apply.
+/// Returns whether the starts and the hold obey the rules; there are none if the respawn limit does not apply.
 fn is_limiter_consistent(now: u64, slot: &Slot) -> bool
     requires { now ≤ CLOCK_LIMIT }
     ensures { result ≡ is_limiter_consistent now slot.now }
@@ -217,7 +216,7 @@ fn is_timely(now: u64, slot: &Slot) -> bool
     are_past(now, slot.starts()) && is_stop_timely(now, slot.stop())
 }
 
-/// Returns whether the action with which the record's child was born is known.
+/// Returns whether the record, if it has a child, has the action with which the child was born.
 fn is_birth_known(slot: &Slot) -> bool
     ensures { result ≡ is_birth_known slot.now.child }
 {
@@ -274,7 +273,7 @@ fn do_records_obey<A: Allocator>(
         && is_each_kept(stage, table, now, slots)
 }
 
-/// Returns whether the pending request for a level, if there is one, comes in a runlevel and is for another one.
+/// Returns whether the pending request for a level, if there is one, came in a runlevel and is for a different level.
 fn is_level_wish_valid(stage: Option<Stage>, wish: Option<Goal>) -> bool
     ensures { result ≡ is_level_wish_valid stage wish }
 {
@@ -287,8 +286,8 @@ fn is_level_wish_valid(stage: Option<Stage>, wish: Option<Goal>) -> bool
     }
 }
 
-/// Returns whether the goal is right for the stage: in a runlevel it is that level; and Boot was entered in Boot, but
-/// not before it.
+/// Returns whether the goal and `booted` are right for the stage: in a runlevel, the goal is that level; in Boot,
+/// `booted` is set, and before Boot it is not.
 fn is_goal_reached(stage: Option<Stage>, goal: Goal, booted: bool) -> bool
     ensures { result ≡ is_goal_reached stage goal booted }
 {
@@ -308,7 +307,7 @@ fn do_fields_obey(fields: &CoreFields) -> bool
         && is_goal_reached(fields.stage, fields.goal, fields.booted)
 }
 
-/// Returns whether the state obeys the rules, apart from record order, and provided that no id has two records.
+/// Returns whether the state obeys the rules, except for record order, provided that no id has two records.
 pub(crate) fn is_kept<A: Allocator>(fields: &CoreFields, table: &Table<A>, slots: &[Slot]) -> bool
     ensures kept { is_kept fields.now table.now slots.now ≡ (are_distinct slots.now && result) }
     ensures timely { result ≡ true → are_timely CLOCK_LIMIT slots.now ≡ true }

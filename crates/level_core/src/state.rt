@@ -26,7 +26,7 @@ pub(crate) struct CoreValues<A: Allocator> {
     table: Table<A>,
     slots: Slots<A>,
     fields: CoreFields,
-    // The position at which `next` begins to search for looks. No record before it has a child that is to be looked at.
+    // The position at which `next` begins to search for looks. No look is due for a record before it.
     looks_from: usize,
     // The position at which `next` begins to search for signals. No signal is due for a record before it.
     stops_from: usize,
@@ -128,7 +128,7 @@ impl<A: Allocator> CoreValues<A> {
         }
     }
 
-    /// Returns everything except the table and the records.
+    /// Returns the state of the core, except the table and the records.
     pub(crate) fn fields(&self) -> CoreFields
         ensures { result ≡ self.now.fields }
     {
@@ -177,8 +177,8 @@ impl<A: Allocator> CoreValues<A> {
         self.fields.generation
     }
 
-    /// Returns whether nothing is left to do and nothing runs: a runlevel was announced settled, no record has a child
-    /// or an order, no request is pending, and no entry is held.
+    /// Returns whether init has nothing left to do and no child: a runlevel was announced settled, no record has a child
+    /// or an open order, no request is pending, and no entry is held.
     pub(crate) fn drained(&self) -> bool
         ensures { result ≡ is_drained self.now }
     {
@@ -231,7 +231,7 @@ impl<A: Allocator> CoreValues<A> {
             || self.has_news(stage)
     }
 
-    /// Returns whether power events or letters are pending, and count in the stage.
+    /// Returns whether power events or letters are pending and the stage is a runlevel.
     fn has_news(&self, stage: Stage) -> bool
         ensures { result ≡ core.counts_news stage self.now }
     {
@@ -241,7 +241,7 @@ impl<A: Allocator> CoreValues<A> {
         }
     }
 
-    /// Returns the step that enters the stage after Sysinit or Boot, if that one is over.
+    /// Returns the step that enters the stage after Sysinit or Boot, if the current one is over.
     fn stage_step(&self, stage: Stage) -> Option<Step>
         ensures { result ≡ core.stage_step stage self.now.fields.goal self.now.table
             self.now.slots }
@@ -290,7 +290,8 @@ impl<A: Allocator> CoreValues<A> {
         self.settle_step(stage)
     }
 
-    /// Returns the step that is due if no request is pending: a signal, or one of those steps.
+    /// Returns the step that is due if no request is pending: a signal, or the result of `calm_step` if no child is
+    /// excluded.
     fn work_step(&self, stage: Stage) -> Option<Step>
         requires { self.now.fields.stage ≡ Some stage }
         ensures { result ≡ work_step stage self.now }
@@ -304,8 +305,8 @@ impl<A: Allocator> CoreValues<A> {
         self.stop_step()
     }
 
-    /// Returns whether a signal may be due: a child was sent none yet, or the grace period of the first SIGTERM is
-    /// over.
+    /// Returns whether a signal may be due: an excluded child was sent none yet, or the grace period of the earliest
+    /// SIGTERM is over.
     fn may_signal(&self) -> bool
         ensures { result ≡ false
             → stop_among self.now.fields.grace self.now.fields.time self.now.slots ≡ None }
@@ -314,7 +315,7 @@ impl<A: Allocator> CoreValues<A> {
         slots.has_due() || is_past(slots.first_termed(), self.fields.grace, self.fields.time)
     }
 
-    /// Returns the first signal that is due. The records are searched only if there may be one.
+    /// Returns the first signal that is due. Searches the records only if a signal may be due.
     fn stop_step(&self) -> Option<Step>
         ensures { result ≡ stop_among self.now.fields.grace self.now.fields.time self.now.slots }
     {
@@ -325,7 +326,7 @@ impl<A: Allocator> CoreValues<A> {
         stop_among(self.fields.grace, self.fields.time, slots, self.stops_from)
     }
 
-    /// Returns the step before the first stage: it enters Sysinit, if no start and no signal is open.
+    /// Returns the step that enters the first stage, Sysinit, if no start and no signal is open, and otherwise `Idle`.
     fn first_step(&self) -> Step
         ensures { result ≡ or_idle (first_step self.now) }
     {
@@ -353,8 +354,8 @@ impl<A: Allocator> CoreValues<A> {
         look_among(slots, self.looks_from).unwrap_or(Step::Idle)
     }
 
-    /// Advances the positions past all records that need no look, all records that are due no signal, and all entries
-    /// that are neither to be started nor waited for.
+    /// Advances the positions past all records without a due look or signal, and past all entries that need not be
+    /// started or waited for.
     fn pass(&mut self)
         ensures { self.new ≡ self.old }
     {
@@ -399,7 +400,7 @@ impl<A: Allocator> CoreValues<A> {
         self.starts = self.starts.with_if(position, is_start(ask));
     }
 
-    /// Changes the state by the step that was decided.
+    /// Changes the state by the step that `decide` returned.
     fn apply(&mut self, step: &Step)
         requires decided { decide self.old ≡ step.now }
         requires distinct { are_distinct self.old.slots ≡ true }
@@ -469,7 +470,7 @@ impl<A: Allocator> CoreValues<A> {
         }
     }
 
-    /// Records a request for a level. In that runlevel, it drops a pending request for another one; in another
+    /// Records a request for a level. In that runlevel, it drops a pending request for another level; in another
     /// runlevel, it becomes the pending request; in any other stage, it becomes the goal.
     fn hear_level(&mut self, wish: Goal)
         ensures { self.new ≡ record self.old {
@@ -522,7 +523,7 @@ impl<A: Allocator> CoreValues<A> {
     {
         let before = self.fields.time;
         self.fields.time = reading.min(CLOCK_LIMIT).max(self.fields.time);
-        // A hold may be over, or the grace period of a SIGTERM.
+        // A hold or the grace period of a SIGTERM may have ended.
         self.starts = self.starts.all_if(before < self.fields.time);
         if before < self.fields.time {
             self.stops_from = 0;

@@ -1,4 +1,4 @@
-//! The positions at which a search of the table begins.
+//! The entries of the table that a search for starts must visit.
 
 ghost use Rattle.std.specs.Prelude.{◌≡◌, ◌||◌, ◌==◌, ℕ, Bool, true, false};
 ghost use Rattle.level_core.specs.declared.walk_places.Places.{Places};
@@ -20,7 +20,7 @@ impl Places {
         Places { first: 0, next: 0 }
     }
 
-    /// Includes the entry at the position, too.
+    /// Adds the entry at the position.
     pub(crate) fn with(self, position: usize) -> Places
         ensures { (passed : ℕ → Bool) → AllExcept (λ i. i == position || passed i) self
             → AllExcept passed result }
@@ -40,7 +40,7 @@ impl Places {
         }
     }
 
-    /// Includes the entry at the position, too, if the condition holds.
+    /// Adds the entry at the position if the condition holds.
     pub(crate) fn with_if(self, position: usize, counts: bool) -> Places
         ensures { (passed : ℕ → Bool)
             → (counts ≡ true → AllExcept (λ i. i == position || passed i) self)
@@ -49,7 +49,7 @@ impl Places {
         if counts { self.with(position) } else { self }
     }
 
-    /// Includes all entries if the search must begin again.
+    /// Adds all entries if the search must begin again.
     pub(crate) fn all_if(self, anew: bool) -> Places
         ensures { (passed : ℕ → Bool) → (anew ≡ false → AllExcept passed self)
             → AllExcept passed result }

@@ -15,7 +15,7 @@ use inittab_text::Table;
 use std::alloc::Allocator;
 use trace_events::Step;
 
-/// Returns the position up to which no signal is due now, given that none is due before `from`.
+/// Returns a position before which no signal is due now, given that none is due before `from`.
 pub(crate) fn unsignalled_to(grace: u16, now: u64, slots: &[Slot], from: usize) -> usize
     requires { NoSignalDueBefore grace now from slots.now }
     ensures { NoSignalDueBefore grace now result slots.now }
@@ -85,7 +85,7 @@ fn is_passed_at<A: Allocator>(
     is_passed(stage, now, entry, &slots[position])
 }
 
-/// Returns the position up to which the entries are passed, beginning at `from`.
+/// Returns a position such that all entries from `from` up to it are passed.
 fn passed_to<A: Allocator>(
     stage: Stage,
     now: u64,
@@ -126,7 +126,7 @@ pub(crate) fn advanced_places<A: Allocator>(
     }
 }
 
-/// Returns what the search for a start or a hold finds at a position, or `None` if it continues with the next one.
+/// Returns the result of the search for a start or a hold at a position, or `None` if the search continues.
 fn start_at<A: Allocator>(
     stage: Stage,
     now: u64,
@@ -227,8 +227,8 @@ fn is_unserved_at<A: Allocator>(
     !is_served(level, now, entry, &slots[position])
 }
 
-/// Returns whether no entry keeps the level from being settled. The entry at the position, which may be the one that
-/// does, is tested first.
+/// Returns whether no entry keeps the level from being settled. Tests the entry at the position first, because it is
+/// likely to be one that does.
 pub(crate) fn all_served<A: Allocator>(
     level: Level,
     now: u64,
@@ -248,7 +248,7 @@ pub(crate) fn all_served<A: Allocator>(
         .all(|(entry, slot)| is_served(level, now, entry, slot))
 }
 
-/// Returns the position up to which no child is to be looked at, given that none is before `from`.
+/// Returns a position before which no look is due, given that none is due before `from`.
 pub(crate) fn seen_until(slots: &[Slot], from: usize) -> usize
     requires { are_seen from slots.now ≡ true }
     ensures { are_seen result slots.now ≡ true }
@@ -263,7 +263,7 @@ pub(crate) fn seen_until(slots: &[Slot], from: usize) -> usize
     seen
 }
 
-/// Returns the first look in record order. No record before `from` has a child that is to be looked at.
+/// Returns the first look that is due, in record order. No look is due before `from`.
 pub(crate) fn look_among(slots: &[Slot], from: usize) -> Option<Step>
     requires { are_seen from slots.now ≡ true }
     ensures { result ≡ look_among slots.now }
