@@ -95,7 +95,8 @@ impl<A: Allocator> Slots<A> {
     ghost use Rattle.child_table.specs.Judging.{after_judge};
     ghost use Rattle.child_table.specs.Stopping.{is_stop_due, IsFirstTermed};
 
-    /// Returns the number of records. No id has two records, and no start or signal in them is later than `CLOCK_LIMIT`.
+    /// Returns the number of records. No id has two records, and no start or signal in them is later than
+    /// `CLOCK_LIMIT`.
     pub fn len(&self) -> usize
         ensures value { result ≡ length self.now }
         ensures distinct { are_distinct self.now ≡ true }

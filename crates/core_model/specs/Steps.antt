@@ -40,10 +40,10 @@ abbrev pub with_called : (Entry → Bool) → List Entry → List SlotState → 
 with_called named table slots =
     map (λ (slot : SlotState). called_if (list_any (λ e. has_id slot.id e && named e) table) slot) slots
 
--- The state after a step.
--- Entering a stage clears the starts, calls and holds, judges the children by the stage, and makes a pending request
--- for a level the goal. A call marks the entries that it names, and is no longer pending. An order or a hold changes the
--- record of its id. Reading inittab and re-execution change nothing until their results arrive; Idle changes nothing.
+-- The state after a step. Entering a stage clears the starts, calls and holds, judges the children by the stage, and
+-- makes a pending request for a level the goal. A call marks the entries that it names, and is no longer pending. An
+-- order or a hold changes the record of its id. Reading inittab and re-execution change nothing until their results
+-- arrive; Idle changes nothing.
 abbrev pub after_step : Step → CoreState → CoreState
 after_step (Enter stage grace) c = record c {
   slots = map (after_judge c.table stage) (map after_enter c.slots);

@@ -38,17 +38,18 @@ pub fn law_agreement()
     ensures through { AtEachBirth AllEarlierDone }
     // at each birth, each unreaped child may live in the stage
     ensures living { AtEachBirth (λ id past. AllMayLive past) }
-    // when a level is announced settled, it is reached: each unreaped child may live in it, each waited entry is through,
-    // each wait and once entry of the level was started, and each respawn entry of the level has a child or is held
+    // when a level is announced settled, it is reached: each unreaped child may live in it, each waited entry is
+    // through, each wait and once entry of the level was started, and each respawn entry of the level has a child or is
+    // held
     ensures reached { AtEachSettle IsReached }
     // and each unreaped child belongs to an entry of the level
     ensures of_level { AtEachSettle (λ level past.
         IsTrue (list_all (belongs level past) (unreaped_children past))) }
-    // when a KILL is ordered, init was told at least a grace period ago that a TERM was sent to the child since it became
-    // excluded
+    // when a KILL is ordered, init was told at least a grace period ago that a TERM was sent to the child since it
+    // became excluded
     ensures warned { AtEachOrder Kill WasTermedBefore }
-    // at each moment, the unreaped children, as pairs of id and number, are the known children, minus those whose end init
-    // was not told yet, plus those whose birth init was not told yet
+    // at each moment, the unreaped children, as pairs of id and number, are the known children, minus those whose end
+    // init was not told yet, plus those whose birth init was not told yet
     ensures agreement { AtEachMoment (λ past. (id : List ℕ) (n : ℕ) → Agrees id n past) }
     // for each core that fits the trace, the unreaped children, as pairs of id and number, are those in the core's
     // records, minus those whose reaping init was not told yet, plus those whose birth init was not told yet; and no id
@@ -63,11 +64,12 @@ pub fn law_agreement()
     ensures bounded { (core : CoreState) → ForAllFittedTraces core (λ goal past.
         length core.slots ≤ length (table_of past)
         + length (filter (is_without_entry (table_of past)) (known_children past))) }
-    // if the respawn limit applies to an entry, then, while no stage is entered and no table is read, its eleventh start is
-    // at least two minutes after its first, and a start after a hold is at least five minutes after it
+    // if the respawn limit applies to an entry, then, while no stage is entered and no table is read, its eleventh
+    // start is at least two minutes after its first, and a start after a hold is at least five minutes after it
     ensures paced { AtEachOrder Start
         (λ id past. IsTrue (obeys_respawn_limit (Asked id Start) past)) }
-    // the same law for pairs of happenings: two starts with at least nine others in between, or a hold and a later start
+    // the same law for pairs of happenings: two starts with at least nine others in between, or a hold and a later
+    // start
     ensures apart { BetweenStarts (λ id between past.
         STARTS ≤ count_starts id between + 1 → IsTrue (is_limited_id id past)
         → time_of past + WINDOW ≤ time_of (between ++ Asked id Start ∷ past)) }

@@ -14,8 +14,8 @@ pub fn law_of_acts()
         → Fits core goal past → FitsExtendedTrace core core goal past (happening ∷ past) }
 {}
 
-/// States that the last statuses do not affect whether a core fits a trace: with any others, it fits the same traces. The function does
-/// nothing: its contract is the law.
+/// States that the last statuses do not affect whether a core fits a trace: with any others, it fits the same traces.
+/// The function does nothing: its contract is the law.
 pub fn law_of_lasts()
     ensures { (lasts : LastStatuses) (goal : Goal) (past : List Event) (core : CoreState)
         → Fits core goal past → Fits (with_last_statuses lasts core) goal past }

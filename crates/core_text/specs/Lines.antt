@@ -1,4 +1,4 @@
--- The text of a state (telinit(8)) in each version: its lines, and the words of each line, separated by single blanks.
+-- The text of a state (telinit(8)) in each version: its lines, each of which consists of words separated by one blank.
 use Rattle.std.specs.Prelude.{ℕ, Bool, if◌then◌else◌, List, [], ◌∷◌, ◌++◌, map, length, codes, decimal, Option, Some}
 use Rattle.std.specs.Prelude.{None}
 use Rattle.std.specs.List.{flat_map, join_with_byte}
@@ -17,19 +17,19 @@ bit flag = if flag then 49 else 48
 abbrev pub bits : List Bool → List ℕ
 bits flags = map bit flags
 
--- the word for a value, or another word if there is none
+-- the word for a value, or the word `none` if there is no value
 abbrev pub or_word : {X : Type 0} → List ℕ → (X → List ℕ) → Option X → List ℕ
 or_word none write None = none
 or_word none write (Some x) = write x
 
--- the word for a value, or a dash if there is none
+-- the word for a value, or a dash if there is no value
 abbrev pub or_dash : {X : Type 0} → (X → List ℕ) → Option X → List ℕ
 or_dash write o = or_word (codes "-") write o
 
 abbrev pub stage_or_none : Option Stage → List ℕ
 stage_or_none stage = or_word (codes "none") stage_word stage
 
--- a level and its seconds in one word
+-- a level and its grace period in seconds, in one word
 abbrev pub goal_word : Goal → List ℕ
 goal_word goal = level_word goal.level ++ 58 ∷ decimal goal.grace
 
@@ -38,17 +38,17 @@ stop_word Due = codes "due"
 stop_word (Termed time) = codes "term" ++ 58 ∷ decimal time
 stop_word (Killed time) = codes "kill" ++ 58 ∷ decimal time
 
--- how a child ended
+-- the word for the status of a child that ended
 abbrev pub status_word : Status → List ℕ
 status_word (Exit code) = codes "exit" ++ 58 ∷ decimal code
 status_word KilledBySignal = codes "killed"
 
--- readings of the clock, separated by commas, or a dash if there are none
+-- times in seconds, separated by commas, or a dash if there are none
 abbrev pub starts_word : List ℕ → List ℕ
 starts_word [] = codes "-"
 starts_word (time ∷ times) = join_with_byte 44 (map decimal (time ∷ times))
 
--- the line of these words
+-- the line that consists of these words, separated by blanks
 abbrev pub spaced : List (List ℕ) → List ℕ
 spaced words = join_with_byte 32 words
 
@@ -99,14 +99,14 @@ table_line count = spaced (codes "table" ∷ decimal count ∷ [])
 abbrev pub slot_flags : PlainSlot → List Bool
 slot_flags plain = plain.asked ∷ plain.called ∷ plain.look ∷ plain.missed ∷ []
 
--- the words of a record, except how its last child ended
+-- the words of a record, except the status of its last child
 abbrev pub record_words : PlainSlot → List (List ℕ)
 record_words plain =
     codes "slot" ∷ plain.id ∷ or_dash decimal plain.child ∷ or_dash word_of plain.act
     ∷ or_dash order_word plain.order ∷ or_dash stop_word plain.stop ∷ bits (slot_flags plain)
     ∷ or_dash decimal plain.held_until ∷ starts_word plain.starts.items ∷ []
 
--- the line of a record; version 2 adds how its last child ended
+-- the line of a record; version 2 adds the status of its last child
 abbrev pub slot_line : Version → PlainSlot → List ℕ
 slot_line V1 plain = spaced (record_words plain)
 slot_line V2 plain = spaced (record_words plain ++ or_dash status_word plain.last ∷ [])
@@ -114,8 +114,8 @@ slot_line V2 plain = spaced (record_words plain ++ or_dash status_word plain.las
 abbrev pub end_line : ℕ → List ℕ
 end_line count = spaced (codes "end" ∷ decimal count ∷ [])
 
--- the lines of a state before its last: the version; the fields; the number of entries of the table, and one line of
--- inittab(5) for each; and one line for each record
+-- the lines of a state, except the last one: the version; the fields; the number of entries of the table, and one line
+-- of inittab(5) for each; and one line for each record
 abbrev pub body_lines : Version → SavedState → List (List ℕ)
 body_lines version state =
     version_line version ∷ (head_lines state.fields ++ (table_line (length state.table)
@@ -133,6 +133,6 @@ text_of_lines lines = flat_map (λ line. line ++ 10 ∷ []) lines
 abbrev pub text_in : Version → SavedState → List ℕ
 text_in version state = text_of_lines (state_lines version state)
 
--- the text that is written, which is that of version 2
+-- the text that init writes, which has version 2
 abbrev pub state_text : SavedState → List ℕ
 state_text state = text_in V2 state

@@ -1,5 +1,5 @@
--- How a line of a state text is read, word by word. The meaning of a text is defined by writing (`Lines`): it stands
--- for the state that is written like this. The definitions here say how the reader finds that state.
+-- How to parse a line of a state text, word by word. `Lines` defines the meaning of a text: it represents the state
+-- that is written as this text. The definitions here compute that state from the text.
 use Rattle.std.specs.Prelude.{◌≡◌, ℕ, Bool, true, false, not, ◌==◌, ◌-◌, ◌&&◌, ◌^◌, if◌then◌else◌, nat_le, List, []}
 use Rattle.std.specs.Prelude.{◌∷◌, length, take, codes, Option, Some, None, option_and_then}
 use Rattle.std.specs.Option.{option_map}
@@ -29,11 +29,11 @@ checked_by test (Some x) = if test x then Some x else None
 abbrev pub pair : {X Y : Type 0} → X → Y → X × Y
 pair x y = (x, y)
 
--- the values of the text before the first occurrence of a byte, and of the text after it
+-- the pair of the value before the first occurrence of a byte and the value after it
 abbrev pub pair_read : {X Y : Type 0} → ℕ → (List ℕ → Option X) → (List ℕ → Option Y) → List ℕ → Option (X × Y)
 pair_read mark first second text = option_and_then (λ parts. both pair (first parts.0) (second parts.1)) (cut mark text)
 
--- the text after a name and this byte; none if the text does not begin with them
+-- the text after a name and this byte, if the text begins with both
 abbrev pub after_prefix : List ℕ → ℕ → List ℕ → Option (List ℕ)
 after_prefix name mark text =
     option_and_then (λ parts. if same_id parts.0 name then Some parts.1 else None) (cut mark text)
@@ -58,12 +58,12 @@ generation_read word = checked_by (λ n. nat_le 1 n) (time_read word)
 abbrev pub bit_read : ℕ → Option Bool
 bit_read byte = if byte == 48 then Some false else if byte == 49 then Some true else None
 
--- a word of one flag
+-- a word that consists of one flag
 abbrev pub one_bit : List ℕ → Option Bool
 one_bit (byte ∷ []) = bit_read byte
 one_bit _ = None
 
--- a word of a flag followed by other flags
+-- a word that consists of a flag followed by other flags
 abbrev pub first_bit : {X : Type 0} → (List ℕ → Option X) → List ℕ → Option (Bool × X)
 first_bit rest [] = None
 first_bit rest (byte ∷ word) = both pair (bit_read byte) (rest word)
@@ -77,20 +77,20 @@ three_bits word = first_bit two_bits word
 abbrev pub four_bits : List ℕ → Option (Bool × (Bool × (Bool × Bool)))
 four_bits word = first_bit three_bits word
 
--- a stage and its seconds, which are 0 before the first stage
+-- a stage and its grace period, which is 0 before the first stage
 abbrev pub stage_pair_read : List ℕ → Option (Option Stage × ℕ)
 stage_pair_read words =
     checked_by (λ p. is_stage p.0 p.1) (pair_read 32 (or_read (codes "none") stage_of_word) seconds_of_word words)
 
--- a goal, given its level and seconds
+-- a goal, given its level and its grace period in seconds
 abbrev pub goal_made : Level × ℕ → Goal
 goal_made p = record { level = p.0; grace = p.1 }
 
--- a level and its seconds, separated by this byte
+-- a level and its grace period in seconds, separated by this byte
 abbrev pub goal_read : ℕ → List ℕ → Option Goal
 goal_read mark words = option_map goal_made (pair_read mark level_of_word seconds_of_word words)
 
--- whether inittab is to be read again; no further re-execution may be pending
+-- two flags: a reading of inittab is pending, and a re-execution is pending, which must be false
 abbrev pub reread_read : List ℕ → Option (Bool × Bool)
 reread_read word = checked_by (λ p. not p.1) (two_bits word)
 
@@ -119,29 +119,29 @@ abbrev pub all_read : {X Y : Type 0} → (X → Option Y) → List X → Option 
 all_read read [] = Some []
 all_read read (x ∷ xs) = both ◌∷◌ (read x) (all_read read xs)
 
--- the times of starts, separated by commas, or a dash; at most as many as the respawn limit counts
+-- the times of starts, separated by commas, or a dash; no more than the respawn limit counts
 abbrev pub starts_read : List ℕ → Option (List ℕ)
 starts_read word =
     if same_id word (codes "-") then Some []
     else checked_by (λ times. nat_le (length times) STARTS) (all_read time_read (pieces_of 44 word))
 
--- an id, if its length is allowed by the version
+-- an id, if the version allows its length
 abbrev pub id_in_read : Version → List ℕ → Option (List ℕ)
 id_in_read version word = checked_by (holds_id version) (id_read word)
 
--- how a child ended
+-- the status of a child that ended
 abbrev pub status_read : List ℕ → Option Status
 status_read word =
     if same_id word (codes "killed") then Some KilledBySignal else named_read (codes "exit") 58 code_of_word word
 
--- the last starts, and how the last child ended
+-- the times of the last starts, and the status of the last child
 abbrev pub EndWords : Type 0
 EndWords = List ℕ × Option Status
 
 abbrev pub without_status : List ℕ → EndWords
 without_status starts = (starts, None)
 
--- the last starts and how the last child ended, which version 1 does not record
+-- the times of the last starts, and the status of the last child, which version 1 omits
 abbrev pub ends_read : Version → List ℕ → Option EndWords
 ends_read V1 words = option_map without_status (starts_read words)
 ends_read V2 words = pair_read 32 starts_read (dash_read status_read) words
@@ -280,7 +280,7 @@ fields_made words =
       pending = news_made flags.1.1.1.0 flags.1.1.1.1;
     }
 
--- the value made of what was read
+-- the value that a function makes from the value read, and the text after it
 abbrev pub made_read : {X Y : Type 0} → (X → Y) → Option (X × List ℕ) → Option (Y × List ℕ)
 made_read make found = option_map (λ p. (make p.0, p.1)) found
 
@@ -297,25 +297,25 @@ table_in version count text =
 abbrev pub table_read : Version → List ℕ → Option (List Entry × List ℕ)
 table_read version text = option_and_then (λ p. table_in version p.0 p.1) (line_read table_line_read text)
 
--- the text without its newline, if it is a single line that is ended by a newline and begins with `end `
+-- the text without its newline, if it is a single line that begins with `end ` and ends with a newline
 abbrev pub last_line : List ℕ → Option (List ℕ)
 last_line text =
     option_and_then
     (λ parts. if is_empty parts.1 && starts_with ◌==◌ parts.0 (codes "end ") then Some parts.0 else None) (cut 10 text)
 
--- the text before the last line, and that line; none if it is not ended by a newline or does not begin with `end `
+-- the text before the last line, and that line; none unless the line begins with `end ` and ends with a newline
 abbrev pub end_split : List ℕ → Option (List ℕ × List ℕ)
 end_split text =
     option_and_then (λ rest. option_map (λ last. (take (length text - length rest) text, last)) (last_line rest))
     (after_lines (newlines text - 1) text)
 
--- the fault names a line and this fact holds, or it is lack of memory
+-- the fault names a line, and this fact holds; or the fault is lack of memory
 abbrev pub OnLine : Type 0 → StateFault → Type 0
 OnLine fact (Line number) = fact
 OnLine fact Memory = Unit {0}
 OnLine fact _ = ⊥
 
--- why a part of a text was not read
+-- the fault of a part that could not be parsed
 abbrev pub UnreadState : {X : Type 0} → Option X → StateFault → Type 0
 UnreadState found why = OnLine (found ≡ None) why
 

@@ -1,4 +1,4 @@
--- Which texts are those of states, and why a text is rejected.
+-- Which texts represent states, and why a text is rejected.
 use Rattle.std.specs.Prelude.{◌≡◌, ◌≢◌, ◌==◌, ℕ, Bool, true, not, List, [], ◌∷◌, ◌++◌, map, codes, None}
 use Rattle.std.specs.List.{list_all, starts_with}
 use Rattle.core_text.specs.CommonWords.{has_byte, PlainSlot, SavedState}
@@ -23,15 +23,15 @@ pub record Whole (text : List ℕ) : Type 0 where
   pub begins : starts_with ◌==◌ last (codes "end ") ≡ true
   pub whole : text_of_lines lines ++ (last ++ 10 ∷ []) ≡ text
 
--- the text is that of the state in this version
+-- the text represents the state in this version
 abbrev pub IsTextIn : Version → List ℕ → SavedState → Type 0
 IsTextIn version text state = (is_state version state ≡ true) × (text_in version state ≡ text)
 
--- the text is that of the state in some version
+-- the text represents the state in some version
 abbrev pub IsTextOf : List ℕ → SavedState → Type 0
 IsTextOf text state = (version : Version) × IsTextIn version text state
 
--- the text is that of no state
+-- the text represents no state
 abbrev pub SaysNone : List ℕ → Type 0
 SaysNone text = (state : SavedState) → IsTextOf text state → ⊥
 
@@ -51,19 +51,19 @@ BeginsAsKnown text = (version : Version) × Begins text version
 abbrev pub IsCut : List ℕ → Type 0
 IsCut text = Whole text → ⊥
 
--- the text is whole, and its first line is that of no version
+-- the text is whole, and its first line names no known version
 abbrev pub IsOtherVersion : List ℕ → Type 0
 IsOtherVersion text = Whole text × ((version : Version) (rest : List ℕ) → BeginsAs version text rest → ⊥)
 
--- the text is that of a state of another generation
+-- the text represents a state of another generation
 pub record IsOther (text : List ℕ) (generation : ℕ) : Type 0 where
   pub state : SavedState
   pub says : IsTextOf text state
   pub other : state.fields.generation ≢ generation
 
--- What holds of a text that is rejected for this reason. It is cut short; or it is whole, and its first line is that of
--- no version; or it is whole and of some version, but not the text of a state (which line is named is not specified);
--- or it is the text of a state of another generation. Lack of memory says nothing about the text.
+-- What each reason for rejecting a text implies. The text is cut short; or it is whole, but its first line names no
+-- known version; or it is whole and has a known version, but represents no state (it is not specified which line the
+-- fault names); or it represents a state of another generation. Lack of memory implies nothing about the text.
 abbrev pub Refused : List ℕ → ℕ → StateFault → Type 0
 Refused text generation Cut = IsCut text
 Refused text generation OtherVersion = IsOtherVersion text
@@ -77,21 +77,21 @@ abbrev pub AreRecords : Version → List ℕ → List PlainSlot → Type 0
 AreRecords version text records =
     (list_all (is_record version) records ≡ true) × (text_of_lines (map (slot_line version) records) ≡ text)
 
--- the text is not that of any records in this version
+-- the text does not consist of the lines of any records in this version
 abbrev pub NoRecords : Version → List ℕ → Type 0
 NoRecords version text =
     (records : List PlainSlot) → list_all (is_record version) records ≡ true
     → text_of_lines (map (slot_line version) records) ≢ text
 
--- the lines of the state before its last one form the text in this version
+-- the text consists of the lines of the state in this version, except the last one
 abbrev pub IsBodyIn : Version → List ℕ → SavedState → Type 0
 IsBodyIn version text state = (is_state version state ≡ true) × (text_of_lines (body_lines version state) ≡ text)
 
--- the lines of the state before its last one form the text in some version
+-- the text consists of the lines of the state in some version, except the last one
 abbrev pub IsBody : List ℕ → SavedState → Type 0
 IsBody text state = (version : Version) × IsBodyIn version text state
 
--- the text is not that of the lines of any state before its last one
+-- the text does not consist of the lines of any state, except the last one
 abbrev pub NoBody : List ℕ → Type 0
 NoBody text = (state : SavedState) → IsBody text state → ⊥
 

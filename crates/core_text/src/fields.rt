@@ -35,7 +35,7 @@ pub(crate) fn read_generation_line(line: &[u8]) -> Option<u64>
     read_generation(after_prefix(b"generation", line)?)
 }
 
-/// Reads the stage and its seconds.
+/// Reads the stage and its grace period in seconds.
 pub(crate) fn read_stage_pair(words: &[u8]) -> Option<(Option<Stage>, u16)>
     ensures { result ≡ stage_pair_read words.now }
 {
@@ -48,7 +48,7 @@ pub(crate) fn read_stage_pair(words: &[u8]) -> Option<(Option<Stage>, u16)>
     Some((stage, grace))
 }
 
-/// Reads whether inittab is to be read again. The bit after it has to be 0, because a re-execution is no longer pending
+/// Reads whether a reading of inittab is pending. The next bit must be 0, because a re-execution is no longer pending
 /// once it is under way.
 fn read_reread(word: &[u8]) -> Option<(bool, bool)>
     ensures { result ≡ reread_read word.now }
@@ -60,10 +60,10 @@ fn read_reread(word: &[u8]) -> Option<(bool, bool)>
     Some((reread, reexec))
 }
 
-/// Three flags: those of the power events, or those of the letters.
+/// Three flags, one for each power event or one for each letter.
 type Bits = (bool, (bool, bool));
 
-/// Whether inittab is to be read again and init to be re-executed, the level requested, and the flags of the power
+/// The pending requests: to read inittab again, to re-execute init, to change to a level, and the flags of the power
 /// events and of the letters.
 pub(crate) type WishFields = ((bool, bool), (Option<Goal>, (Bits, Bits)));
 
@@ -84,7 +84,7 @@ pub(crate) fn read_wishes(words: &[u8]) -> Option<WishFields>
     Some((bits, (read_goal_or_dash(level)?, read_news(words)?)))
 }
 
-/// Reads the last line, which has the number of lines before it.
+/// Reads the last line, which contains the number of lines before it.
 pub(crate) fn read_end_line(line: &[u8]) -> Option<u64>
     ensures { result ≡ end_line_read line.now }
 {

@@ -1,10 +1,10 @@
-//! The laws of state texts: none is a prefix of another one, and each is that of only one state.
+//! The laws of state texts: no text is a prefix of another, and each text represents only one state.
 
 ghost use Rattle.std.specs.Prelude.{◌≡◌, ◌++◌, ℕ, List, []};
 ghost use Rattle.core_text.specs.CommonWords.{SavedState};
 ghost use Rattle.core_text.specs.Refused.{IsTextOf, Whole};
 
-/// States in its contract that a text that was cut short is never taken for a whole one. The function itself does
+/// States in its contract that a text that was cut short is never mistaken for a whole one. The function itself does
 /// nothing.
 ///
 /// No proper prefix of the text of a state is whole, because no line before the last one begins with `end `. So no

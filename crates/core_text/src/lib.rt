@@ -1,8 +1,8 @@
 //! The text of init's state, which allows init to re-execute itself without losing a child (telinit(8), `u`).
 //!
 //! The text has one line for each field, one for each entry of the table and one for each record, and a last line that
-//! counts them. A state has exactly one text in each version, and a text that is cut short can be told from a whole
-//! one. The first line names the version; version 2 is written, and versions 1 and 2 are read.
+//! counts them. Each state has exactly one text in each version, and the reader detects a text that was cut short. The
+//! first line names the version. Init writes version 2, and reads versions 1 and 2.
 #![tactic(auto)]
 
 mod fields;

@@ -181,8 +181,8 @@ fn table_in<A: Allocator + Copy>(
     }
 }
 
-/// Returns how many of the first lines form a table, given that the first `count` lines do not. The first line that
-/// does not fit is found by bisection.
+/// Returns how many of the first lines form a table, given that the first `count` lines do not. Finds the first line
+/// that does not fit by bisection.
 fn table_lines<A: Allocator + Copy>(
     alloc: A,
     version: Version,
@@ -287,7 +287,7 @@ fn read_body<A: Allocator + Copy>(alloc: A, text: &[u8]) -> Result<Parts<A>, Sta
     })
 }
 
-/// Returns whether the last line gives this number of lines before it.
+/// Returns whether the last line states this number of lines before it.
 fn counts(last: &[u8], lines: u64) -> bool
     ensures right { result ≡ true → end_line_read last.now ≡ Some lines }
     ensures wrong { result ≡ false → end_line_read last.now ≢ Some lines }
@@ -301,7 +301,7 @@ fn counts(last: &[u8], lines: u64) -> bool
 /// Reads the text of a state of this generation.
 ///
 /// The fault names the first check that fails: that the text is whole (`Cut`), its first line (`Version`), the other
-/// lines (`Line`), the generation (`Generation`). Each version has a grammar of its own.
+/// lines (`Line`), the generation (`Generation`). Each version has a different grammar.
 pub fn read_state<A: Allocator + Copy>(
     alloc: A,
     text: &[u8],
@@ -309,7 +309,8 @@ pub fn read_state<A: Allocator + Copy>(
 ) -> Result<Parts<A>, StateFault>
     ensures read { IfOk result (λ parts. IsTextOf text.now parts) }
     ensures generation { IfOk result (λ parts. parts.fields.generation ≡ generation) }
-    // No other state has the text, and a text that is that of a state of this generation is read.
+    // Only the returned state has this text, and the text of a state of this generation is accepted unless memory runs
+    // out.
     ensures only { (state : SavedState) → IsTextOf text.now state
         → state.fields.generation ≡ generation
         → MatchResult result (λ parts. parts ≡ state) (λ why. why ≡ StateFault.Memory) }

@@ -1,4 +1,4 @@
-//! Why a state was not handed over or taken over.
+//! The faults that prevent init from handing over or taking over a state.
 
 use init_words::Memory;
 use std::alloc::AllocError;
@@ -10,19 +10,19 @@ pub enum StateFault {
     /// The text does not end with a newline, or its last line does not begin with `end `.
     #[error("the text is truncated")]
     Cut,
-    /// The first line is not that of a known version.
+    /// The first line names no known version.
     #[error("the text has an unknown version")]
     Version,
     /// The line of this number, counted from 1, is invalid or in the wrong place.
     #[error("line {0} is wrong, or in the wrong place")]
     Line(u64),
-    /// The text is that of another generation.
+    /// The text represents a state of another generation.
     #[error("the text has another generation")]
     Generation,
-    /// No init can reach such a state.
+    /// No init can reach the state in the text.
     #[error("no init can reach this state")]
     Unfit,
-    /// There is no greater generation.
+    /// The generation number is at its maximum.
     #[error("no generation number is left")]
     Worn,
     /// Memory allocation failed.

@@ -1,4 +1,4 @@
-//! The versions of the state text, and the limits of the first one.
+//! The versions of the state text, and the limits of version 1.
 
 ghost use Rattle.std.specs.Prelude.{◌≡◌};
 ghost use Rattle.core_text.specs.Versions.{id_limit, entry_limit};
@@ -15,9 +15,9 @@ pub const OLD_ENTRY_LIMIT: usize = 512;
 /// The versions of the state text.
 #[derive(Clone, Copy)]
 pub enum Version {
-    /// Version 1: ids are shorter and tables smaller, and it does not record how a child ended.
+    /// Version 1 has lower limits on ids and tables, and does not record how a child ended.
     V1,
-    /// Version 2, which is written.
+    /// Version 2, the version that init writes.
     V2,
 }
 

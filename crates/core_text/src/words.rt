@@ -35,7 +35,7 @@ pub(crate) fn read_version(line: &[u8]) -> Option<Version>
     None
 }
 
-/// Reads an id, if its length is allowed by the version.
+/// Reads an id, if the version allows its length.
 pub(crate) fn read_id(version: Version, word: &[u8]) -> Option<Id>
     ensures { result ≡ id_in_read version word.now }
 {
@@ -69,7 +69,7 @@ pub(crate) fn read_generation(word: &[u8]) -> Option<u64>
     }
 }
 
-/// Reads a level and its seconds, separated by this byte.
+/// Reads a level and its grace period in seconds, separated by this byte.
 pub(crate) fn read_goal(mark: u8, words: &[u8]) -> Option<Goal>
     ensures { result ≡ goal_read mark words.now }
 {
@@ -80,7 +80,7 @@ pub(crate) fn read_goal(mark: u8, words: &[u8]) -> Option<Goal>
     })
 }
 
-/// Reads a level and its seconds, or a dash.
+/// Reads a level and its grace period in seconds, or a dash.
 pub(crate) fn read_goal_or_dash(word: &[u8]) -> Option<Option<Goal>>
     ensures { result ≡ dash_read (goal_read 58) word.now }
 {
@@ -211,7 +211,7 @@ pub(crate) fn read_time_or_dash(word: &[u8]) -> Option<Option<u64>>
     Some(Some(read_number(word)?))
 }
 
-/// Reads how a child ended.
+/// Reads the status of a child that ended.
 fn read_status(word: &[u8]) -> Option<Status>
     ensures { result ≡ status_read word.now }
 {
@@ -226,7 +226,7 @@ fn read_status(word: &[u8]) -> Option<Status>
     }
 }
 
-/// Reads how a child ended, or a dash.
+/// Reads the status of a child that ended, or a dash.
 pub(crate) fn read_status_or_dash(word: &[u8]) -> Option<Option<Status>>
     ensures { result ≡ dash_read status_read word.now }
 {

@@ -14,7 +14,7 @@ use itoa::Buffer;
 use std::alloc::{AllocError, Allocator};
 use trace_events::{CallSet, Goal};
 
-// Each of these functions appends to the text. If memory allocation fails, a part may have been appended.
+// Each of these functions appends to the text. If memory allocation fails, part of the output may have been appended.
 
 fn put<A: Allocator>(text: &mut Vec<u8, A>, bytes: &[u8]) -> Result<(), AllocError>
     ensures { OnOk result (text.new.items ≡ text.old.items ++ bytes.now) }

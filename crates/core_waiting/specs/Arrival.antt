@@ -12,8 +12,8 @@ use Rattle.initctl_frame.specs.declared.requests.HeardRequest.TheVariants as got
 use Rattle.core_waiting.specs.Rest.{AtRest, is_awaited, awaited_children, is_empty, is_gone, count_wanted_waits}
 use Rattle.core_waiting.specs.Rest.{after_rounds}
 
--- how many of the two signals that stop an excluded child init was not yet told to have been sent; 0 for a child that is
--- not excluded
+-- for an excluded child, how many of the two signals that stop it are still to come, as far as init was told; 0 for a
+-- child that is not excluded
 abbrev pub signals_to_come : List Event → Child → ℕ
 signals_to_come past child = if is_excluded past child then 2 - length (spell_hits child past) else 0
 
@@ -60,8 +60,8 @@ makes_kills_due round past =
     || list_all (is_gone round past) (filter (has_kill_to_come past) (kept_children past))
 
 -- The round, which follows a rest, is undisturbed. It has no request and no new table, and it has a `nudge`. The clock
--- advances by the grace period, unless each child whose KILL was still to come is gone. A look finds each child that had
--- to end ended. At the end, no signal to a child has failed since the last `nudge`.
+-- advances by the grace period, unless each child whose KILL was still to come is gone. Each child that had to end is
+-- found ended by a look. At the end, no signal to a child has failed since the last `nudge`.
 abbrev pub is_undisturbed : List Event → List Event → Bool
 is_undisturbed round past = has_no_request round && list_any is_nudge round
     && makes_kills_due round past

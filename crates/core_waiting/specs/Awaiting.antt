@@ -31,7 +31,7 @@ abbrev pub is_wanted_in : Option Stage → Entry → SlotState → Bool
 is_wanted_in None e slot = false
 is_wanted_in (Some stage) e slot = is_wanted_record stage e slot
 
--- the reason that the entry gives to wait for the record's child: init waits for the entry, or the entry is wanted again
+-- the reason that the entry gives to wait for its child: init waits for the entry, or the entry is wanted again
 abbrev pub why_by_entry : Option Stage → Option Entry → SlotState → Option WhyAwaited
 why_by_entry stage None slot = None
 why_by_entry stage (Some e) slot =

@@ -11,8 +11,8 @@
 //!   the first signal is gone.
 //!
 //! A round may take many turns, for example if a child takes long to end. A round that is disturbed does not count, but
-//! it does not increase the number of rounds to come either, if no request and no new table arrives in it and each order
-//! is answered before the next round begins.
+//! it delays nothing either if no request and no new table arrives in it and each order is answered before the next
+//! round begins.
 
 ghost use Rattle.std.specs.Prelude.{◌≡◌, ◌<◌, ◌≤◌, ◌+◌, ℕ, IsTrue, false, List, ◌++◌, filter, length, Some};
 ghost use Rattle.core_waiting.specs.Words.{Run, waited_of, Goal, Event, table_of, stage_of, is_idle, goal_of, are_calls_pending, is_sound};

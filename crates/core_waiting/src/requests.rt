@@ -28,8 +28,8 @@ pub fn law_of_request()
         → ((stage ≡ Run level)
         ⊎ (stage ≡ Boot) × ((goal_of goal (between ++ Got (LevelAsked level grace) ∷ before)).level
         ≡ level)) × (seconds ≡ grace) }
-    // after the first rest with no order open and the number of undisturbed rounds to come at it, that level is announced
-    // settled, whatever the stage was at the request, and whatever happens in between except other requests
+    // after the first rest with no order open and the number of undisturbed rounds to come at it, that level is
+    // announced settled, whatever the stage was at the request, and whatever happens in between except other requests
     ensures settled { (goal : Goal) (later between before : List Event)
         (rounds : List (List Event)) (level : Level) (grace : ℕ)
         → let asked : List Event = between ++ Got (LevelAsked level grace) ∷ before in

@@ -1,8 +1,8 @@
 //! When init is at rest, and which children it waits for at a rest. Init never waits without a reason.
 //!
 //! The functions here do nothing: their contracts are the laws. The definitions are in `trace_events` and `specs/Rest`,
-//! and the examples in `proofs/Rows` evaluate them. A trace is a list of happenings, newest first. The laws hold for all
-//! readings of the clock and all requests, except the laws about a stretch without requests.
+//! and the examples in `proofs/Rows` evaluate them. A trace is a list of happenings, newest first. The laws hold for
+//! all readings of the clock and all requests, except the laws about a stretch without requests.
 
 ghost use Rattle.std.specs.Prelude.{◌≡◌, ℕ, Bool, IsTrue, false, not, ◌||◌, List, ◌++◌, filter_map};
 ghost use Rattle.std.specs.List.{list_any, list_all};
@@ -62,8 +62,8 @@ pub fn law_of_rest()
         × (list_any (is_excluded past) (kept_children past) ≡ false)) }
     ensures settled { AtEachMoment (λ past. IsTrue (is_announced past)
         → IsTrue (list_all (is_on_power past) (awaited_children past))) }
-    // an entry that init waits for starts at most once in a calm stretch, in which init enters no stage, adopts no table
-    // and calls no entry
+    // an entry that init waits for starts at most once in a calm stretch, in which init enters no stage, adopts no
+    // table and calls no entry
     ensures once { BetweenCalmStarts (λ id past. is_waited_id id past ≡ false) }
     // if a calm stretch separates two rests with no order open, and none of the children that init waited for at the
     // first rest is left, then a waited entry was started in between, or the level is announced settled

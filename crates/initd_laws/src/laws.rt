@@ -22,7 +22,7 @@ ghost use Rattle.initd_laws.specs.Signals.{keeps_to_children, kills_warned, numb
 
 /// States that a host on the operating system waits for and signals only children that it started and has not reaped.
 ///
-/// It assumes that the kernel returns no number of an unreaped child from fork(2). The function does nothing: its
+/// It assumes that fork(2) never returns the number of an unreaped child. The function does nothing: its
 /// contract is the law.
 pub fn law_of_targets()
     ensures whole { (settings : HostSettings) (calls : List HostCall) (held : HeldChildren)
@@ -37,8 +37,8 @@ pub fn law_of_targets()
 /// States that in a run each SIGKILL goes to a process that a SIGTERM reached at least `grace` seconds earlier, with no
 /// SIGKILL in between.
 ///
-/// It assumes that each request for a runlevel allows that many seconds (telinit(8), `-t`), that the kernel returns no
-/// number of an unreaped child from fork(2), and that init's saved state comes back in a permitted way. The function does
+/// It assumes that each request for a runlevel allows that many seconds (telinit(8), `-t`), that fork(2) never returns
+/// the number of an unreaped child, and that init's saved state comes back in a permitted way. The function does
 /// nothing: its contract is the law.
 pub fn law_of_kills()
     ensures { (settings : HostSettings) (level : Option Level) (table : List Entry)

@@ -144,16 +144,16 @@ impl<A: Allocator> Core<A> {
         self.bare.generation()
     }
 
-    /// Returns whether init has nothing left to do and no child: a runlevel was announced settled, no record has a child
-    /// or an open order, no request is pending, and no entry is held.
+    /// Returns whether init has nothing left to do and no child: a runlevel was announced settled, no record has a
+    /// child or an open order, no request is pending, and no entry is held.
     pub fn drained(&self) -> bool
         ensures { result ≡ is_drained self.now }
     {
         self.bare.drained()
     }
 
-    /// Returns the next step of init and marks it as taken. This is the first step that is due, or `Idle` if none is due.
-    /// This allocates no memory.
+    /// Returns the next step of init and marks it as taken. This is the first step that is due, or `Idle` if none is
+    /// due. This allocates no memory.
     ///
     /// The steps that read inittab or re-execute init remain due until their result arrives: `adopt` or `not_read` for
     /// the first, `handed_on` or `not_handed` for the second.

@@ -1,8 +1,8 @@
 //! The decisions of init: its next step, given its table, its records of children, and what has happened (init(8)).
 //!
 //! A `Core` neither starts nor stops anything itself. `next` returns the step that is due, and its caller carries it
-//! out. The caller then calls `answer`, `got`, `adopt`, `clock` or `nudge` to report results, requests, tables and clock
-//! readings.
+//! out. The caller then calls `answer`, `got`, `adopt`, `clock` or `nudge` to report results, requests, tables and
+//! clock readings.
 #![tactic(auto)]
 
 mod calling;

@@ -177,8 +177,8 @@ impl<A: Allocator> CoreValues<A> {
         self.fields.generation
     }
 
-    /// Returns whether init has nothing left to do and no child: a runlevel was announced settled, no record has a child
-    /// or an open order, no request is pending, and no entry is held.
+    /// Returns whether init has nothing left to do and no child: a runlevel was announced settled, no record has a
+    /// child or an open order, no request is pending, and no entry is held.
     pub(crate) fn drained(&self) -> bool
         ensures { result ≡ is_drained self.now }
     {

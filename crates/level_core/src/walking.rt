@@ -227,8 +227,8 @@ fn is_unserved_at<A: Allocator>(
     !is_served(level, now, entry, &slots[position])
 }
 
-/// Returns whether no entry keeps the level from being settled. Tests the entry at the position first, because it is
-/// likely to be one that does.
+/// Returns whether no entry keeps the level from being settled. Tests the entry at the position first, because it
+/// may be one that does.
 pub(crate) fn all_served<A: Allocator>(
     level: Level,
     now: u64,

@@ -1,4 +1,4 @@
-//! Writes the state of a core as the text that a re-execution carries.
+//! Writes the state of a core as a text for the next init.
 
 ghost use Rattle.std.specs.List.{list_all};
 ghost use Rattle.std.specs.Prelude.{◌≡◌, true, map, ◌+◌, ◌^◌, ◌==◌, ◌∷◌, if◌then◌else◌, false, Err, IfOk, IfErr, OnOk, OnErr};
@@ -39,7 +39,7 @@ fn next_fields(fields: CoreFields) -> Result<CoreFields, StateFault>
     })
 }
 
-/// States that the number of a child fits its type.
+/// States that the number of a child fits in its type.
 fn of_child(slot: &Slot)
     ensures { passes is_child (child_number slot.now) ≡ true }
 {
@@ -48,7 +48,7 @@ fn of_child(slot: &Slot)
     }
 }
 
-/// States that an exit status fits its type.
+/// States that an exit status fits in its type.
 fn of_status(status: Status)
     ensures { is_status status ≡ true }
 {
@@ -65,7 +65,8 @@ fn of_last(slot: &Slot)
     }
 }
 
-/// States that the id of a record is valid, and that the number of its child and its last status fit their types.
+/// States that the id of a record is valid, and that the number of its child and its last status fit in their
+/// types.
 fn of_record(slot: &Slot)
     ensures { has_ranged_words slot.now ≡ true }
 {
@@ -74,7 +75,7 @@ fn of_record(slot: &Slot)
     of_last(slot);
 }
 
-/// States the same for all records. The function does nothing: its contract is the law.
+/// States the law of `of_record` for all records. The function does nothing: its contract is the law.
 fn law_of_records(slots: &[Slot])
     ensures { list_all has_ranged_words slots.now ≡ true }
 {
@@ -83,7 +84,7 @@ fn law_of_records(slots: &[Slot])
     }
 }
 
-/// Writes the text of the core's state, with these fields.
+/// Writes the text of the core's state, with its fields replaced by these.
 fn text_of<A: Allocator + Copy, B: Allocator>(
     alloc: A,
     fields: &CoreFields,
@@ -98,8 +99,8 @@ fn text_of<A: Allocator + Copy, B: Allocator>(
     write_state(alloc, fields, core.table(), core.slots().as_slice())
 }
 
-/// Hands on init's state: returns the text, of version 2, of the state with which the next init begins, whose
-/// generation is one higher and in which re-execution is no longer requested.
+/// Hands over init's state: returns the version 2 text of the state with which the next init begins. The generation is
+/// one higher, and re-execution is no longer requested.
 ///
 /// Fails with `Worn` if there is no higher generation, and with `Memory` if memory allocation fails. If it fails,
 /// nothing changes.
@@ -115,7 +116,7 @@ pub fn hand_over<A: Allocator + Copy, B: Allocator>(
     ensures unchanged { OnErr result (core.new ≡ core.old) }
     ensures fits { OnOk result (ForAllFittedTraces core.old (λ goal past. (how : Handed)
         → FitsExtendedTrace core.old core.new goal past (happening.Handed how ∷ past))) }
-    // What was handed on can be taken over.
+    // The next init can take over the returned text.
     ensures said { IfOk result (λ text. has_short_seconds core.old ≡ true
         → IsTextIn V2 text.items (state_of core.new) × IsFit core.new) }
 {

@@ -1,4 +1,4 @@
-//! Re-execution of init (telinit(8), `u`): its state is handed over as a text, and the next init takes it over.
+//! Re-execution of init (telinit(8), `u`): init hands over its state as a text, and the next init takes it over.
 #![tactic(auto)]
 
 mod handing;

@@ -1,4 +1,4 @@
-//! Takes over the core whose state is carried as a text.
+//! Takes over the state of the previous init from its text.
 
 ghost use Rattle.std.specs.Prelude.{◌≡◌, Err, IfOk, IfErr};
 ghost use Rattle.std.specs.Result.{MatchResult};
@@ -13,10 +13,10 @@ use core_text::{StateFault, read_state};
 use level_core::{Core, Rebuild};
 use std::alloc::Allocator;
 
-/// Takes over the state of an init of this generation from its text.
+/// Rebuilds the core of this generation from the text of its state.
 ///
-/// If it fails, the fault is that of the first check that fails: those of `read_state`, and then that the state obeys
-/// the rules of init (`Unfit`). A text of version 1 does not say how the last children ended, so there are no last
+/// The fault names the first check that fails: first the checks of `read_state`, then whether the state obeys the rules
+/// of init (`Unfit`). A text of version 1 does not record how the last children ended, so the core has no last
 /// statuses.
 pub fn take_over<A: Allocator + Copy>(
     alloc: A,
@@ -26,12 +26,12 @@ pub fn take_over<A: Allocator + Copy>(
     ensures taken { IfOk result (λ core. IsTextOf text.now (state_of core)) }
     ensures kept { IfOk result (λ core. IsFit core) }
     ensures generation { IfOk result (λ core. core.fields.generation ≡ generation) }
-    // If the text is that of a core that obeys the rules, this core is taken over.
+    // If the text represents a core that obeys the rules, the result is this core.
     ensures only { (core : CoreState) → IsFit core → IsTextOf text.now (state_of core)
         → core.fields.generation ≡ generation
         → MatchResult result (λ taken. taken ≡ core) (λ why. why ≡ fault.Memory) }
-    // A text that is cut, as every proper prefix of a text that was handed over is, is rejected for this reason alone,
-    // even if no memory is left; and so is a text of another version.
+    // A text that is cut short (such as a proper prefix of a text that `hand_over` returned) is rejected as `Cut`, even
+    // if no memory is left; and a text of an unknown version is rejected as that.
     ensures cut { IsCut text.now → result ≡ Err fault.Cut }
     ensures version { IsOtherVersion text.now → result ≡ Err fault.Version }
     ensures refused { IfErr result (λ why. NotTaken text.now generation why) }

@@ -96,8 +96,9 @@ impl Limiter {
 
     /// Returns whether the entry may be started now, and if not, when the wait ends.
     ///
-    /// While a hold lasts, the wait ends with the hold. Otherwise, if ten starts are less than 120 seconds old, the wait
-    /// ends 300 seconds from now. Otherwise, the answer is `Yes`. A start later than `now` counts as 0 seconds old.
+    /// While a hold lasts, the wait ends with the hold. Otherwise, if ten starts are less than 120 seconds old, the
+    /// wait ends 300 seconds from now. Otherwise, the answer is `Yes`. A start later than `now` counts as 0 seconds
+    /// old.
     pub fn may(&self, now: u64) -> May
         requires { now ≤ CLOCK_LIMIT }
 

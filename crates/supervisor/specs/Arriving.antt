@@ -1,5 +1,5 @@
--- After which turns a level is settled. Calls are given newest first: the pause after a turn, then the calls of the
--- turn.
+-- The number of turns after which a level is settled. Calls are listed newest first: the pause after a turn, then the
+-- calls of the turn.
 use Rattle.std.specs.Prelude.{◌≡◌, ◌≤◌, ◌<◌, ◌+◌, ◌-◌, ℕ, zero, suc, Bool, ◌&&◌, IsTrue, nat_lt, if◌then◌else◌, List}
 use Rattle.std.specs.Prelude.{[], ◌∷◌, length, take, Option, Some}
 use Rattle.supervisor.specs.Words.{Entry, Level, Goal, Event, CoreState, opening_goal, Pause, HostCall, STEP_LIMIT}
@@ -36,13 +36,13 @@ abbrev pub round_of : ℕ → List HostCall → Point → List Event
 round_of n calls p =
     take (length (past_after calls p) - length (past_after (without_turns n calls) p)) (past_after calls p)
 
--- the newest turn made fewer calls than a turn may take steps, and left no order open
+-- the newest turn made fewer calls than the maximum number of steps in a turn, and left no order open
 abbrev pub is_answered_turn : List HostCall → Point → Bool
 is_answered_turn calls p =
     nat_lt (length calls) (length (without_turn calls) + STEP_LIMIT) && is_idle (past_after calls p)
 
--- Turns are grouped into rounds; a list gives the number of turns in each round, newest round first. This is the number
--- of all these turns.
+-- Turns are grouped into rounds; a list gives the number of turns in each round, newest round first. This is the total
+-- number of turns.
 abbrev pub turns_in : List ℕ → ℕ
 turns_in [] = 0
 turns_in (n ∷ earlier) = n + turns_in earlier
@@ -52,45 +52,44 @@ abbrev pub without_rounds : List ℕ → List HostCall → List HostCall
 without_rounds [] calls = calls
 without_rounds (n ∷ earlier) calls = without_rounds earlier (without_turns n calls)
 
--- In each of these rounds no request is received, except ones that init ignores, and no table is read; and the last
--- turn of the round is answered. The turn before all the rounds is answered, too. Anything else may happen in the
--- rounds.
+-- In each of these rounds, init receives no request, except ones that it ignores, and reads no table; and the last turn
+-- of the round is answered. The turn before all the rounds is answered, too. Anything else may happen in the rounds.
 abbrev pub are_unasked_rounds : List ℕ → List HostCall → Point → Bool
 are_unasked_rounds [] calls p = is_answered_turn calls p
 are_unasked_rounds (n ∷ earlier) calls p =
     is_answered_turn calls p && has_no_request (round_of n calls p)
     && are_unasked_rounds earlier (without_turns n calls) p
 
--- the number of undisturbed rounds among them
+-- the number of undisturbed rounds among these rounds
 abbrev pub undisturbed_rounds : List ℕ → List HostCall → Point → ℕ
 undisturbed_rounds [] calls p = 0
 undisturbed_rounds (n ∷ earlier) calls p =
     (if is_undisturbed (round_of n calls p) (past_after (without_turns n calls) p) then 1 else 0)
     + undisturbed_rounds earlier (without_turns n calls) p
 
--- A level is announced settled: the one that was in force at the moment `from`, or, if no run level was in force then,
--- the level of the goal at that moment.
+-- A level is announced settled: the level that was in force after the trace `from`, or, if none was, the level of the
+-- goal at that moment.
 abbrev pub IsSettled : Goal → List Event → List Event → Type 0
 IsSettled goal from past = IsTrue (is_level_announced past)
     × (stage_of past ≡ Some (Run (destination (goal_of goal from).level (stage_of from))))
 
--- Assume that the answers to these calls were possible, that the texts that were carried came back in a permitted way,
--- and that the rounds are as `are_unasked_rounds` says. If at least as many of the rounds were undisturbed as were to
--- come when they began, the level is settled.
+-- Assume that the answers to these calls were possible, that the host returned the state texts in a permitted way, and
+-- that `are_unasked_rounds` holds for the rounds. If the number of undisturbed rounds is at least the number of rounds
+-- to come when they began, the level is settled.
 abbrev pub SettlesWithin : Goal → Point → List ℕ → List HostCall → Type 0
 SettlesWithin goal p rounds calls = IsTrue (is_allowed goal (past_after calls p)) → IsTrue (are_carried calls p)
     → IsTrue (are_unasked_rounds rounds calls p)
     → rounds_to_come goal (past_after (without_rounds rounds calls) p) ≤ undisturbed_rounds rounds calls p
     → IsSettled goal (past_after (without_rounds rounds calls) p) (past_after calls p)
 
--- This holds of the turns from the opening on: after each of them, whatever came later, and however turns before that
--- moment are grouped into rounds.
+-- `SettlesWithin` holds after each turn since the start of the run, whatever comes later, and however the turns before
+-- that moment are grouped into rounds.
 abbrev pub SettlesUpToEachTurn : Option Level → List Entry → ℕ → List HostCall → Type 0
 SettlesUpToEachTurn level table turns calls = (later : ℕ) (rounds : List ℕ) → later + turns_in rounds < turns
     → SettlesWithin (opening_goal level table) (start_point table) rounds (without_turns later calls)
 
--- This number of turns were made from the opening on, an observer saw the core after each turn, and the level is
--- settled after enough undisturbed rounds, as `SettlesUpToEachTurn` says.
+-- The run made this number of turns from its start, an observer saw the core after each turn, and the level is settled
+-- after enough undisturbed rounds, as `SettlesUpToEachTurn` states.
 abbrev pub AreObservedTurns : Bool → Bool → Option Level → List Entry → ℕ → Option (List CoreState)
     → Option (List CoreState) → List HostCall → Type 0
 AreObservedTurns strict drain level table turns saw now_saw calls =

@@ -1,4 +1,4 @@
--- How a part of init's work changes its core and its log, provided that its host's answers were possible; see init(8).
+-- How a part of init's work changes its core and its log, provided that the host's answers were possible; see init(8).
 use Rattle.std.specs.Prelude.{◌≡◌, ◌⊎◌, ℕ, Bool, true, false, ◌&&◌, ◌||◌, ◌+◌, IsTrue, ◌==◌, not, List, [], ◌∷◌, ◌++◌}
 use Rattle.std.specs.Prelude.{length, take, reverse, None, is_some, Ok, Err}
 use Rattle.std.specs.List.{starts_with}
@@ -20,30 +20,30 @@ abbrev pub is_own : Event → Bool
 is_own (NewTable table) = true
 is_own happening = is_some (step_in happening)
 
--- the happening is init's own, or may come at its place in the trace
+-- the happening is init's own, or can follow this trace
 abbrev pub may_happen : Goal → Event → List Event → Bool
 may_happen goal happening past = is_own happening || may_come goal happening past
 
--- The answers were possible: the system and the edge did only what they may do.
+-- The answers were possible: each happening that is not init's own can follow the trace before it.
 abbrev pub is_allowed : Goal → List Event → Bool
 is_allowed goal [] = true
 is_allowed goal (happening ∷ past) = may_happen goal happening past && is_allowed goal past
 
--- A text that is carried as one of this generation comes back in a permitted way: unchanged, or cut, or replaced by a
--- text that is not of this generation, or not at all.
+-- The host returns a state text of this generation in a permitted way: unchanged, or cut short, or replaced by a text
+-- of another generation, or not at all.
 abbrev pub comes_back : ℕ → List ℕ → TextRead → Bool
 comes_back generation text (Ok back) = starts_with ◌==◌ text back || not (is_of_generation generation back)
 comes_back generation text (Err fault) = true
 
--- each text that was carried came back in a permitted way
+-- the host returned each state text in a permitted way
 abbrev pub are_carried : List HostCall → Point → Bool
 are_carried [] p = true
 are_carried (Carry text back ∷ calls) p =
     comes_back ((point_after calls p).generation + 1) text back && are_carried calls p
 are_carried (_ ∷ calls) p = are_carried calls p
 
--- The text, in version 2, is that of a state of init of this generation. The state belongs to a core that keeps the
--- rules and fits the trace whatever the outcome of the hand-over is.
+-- The text is the version 2 text of a state of init of this generation. The state belongs to a core that obeys the
+-- rules and fits the trace, whatever the outcome of the hand-over.
 pub record IsStateText (goal : Goal) (past : List Event) (generation : ℕ) (text : List ℕ) : Type 0 where
   pub core : CoreState
   pub fits : (how : HandOver) → FitsWithLastStatuses core goal (Handed how ∷ past)
@@ -51,8 +51,8 @@ pub record IsStateText (goal : Goal) (past : List Event) (generation : ℕ) (tex
   pub own : core.fields.generation ≡ generation
   pub says : IsTextIn V2 text (state_of core)
 
--- each text that was carried is that of init's state at that moment, one generation later, provided that those before
--- it came back in a permitted way
+-- each text handed to the host represents init's state at that moment, one generation later, provided that the host
+-- returned the earlier texts in a permitted way
 abbrev pub AreTexts : Goal → List HostCall → Point → Type 0
 AreTexts goal [] p = Unit {0}
 AreTexts goal (Carry text back ∷ calls) p =
@@ -61,8 +61,8 @@ AreTexts goal (Carry text back ∷ calls) p =
     × AreTexts goal calls p
 AreTexts goal (_ ∷ calls) p = AreTexts goal calls p
 
--- What a log took of the happenings that came, newest first: all of them as long as it has not failed, otherwise those
--- before its failure; and then some more, but only if it missed none. A log that has failed takes nothing.
+-- The happenings that the log accepted, newest first: all that came if the log has not failed, otherwise those before
+-- its failure; and `more` after them, but only if it missed none. A log that has failed accepts nothing.
 pub record Takes (old new : LogState) (before came more : List Event) : Type 0 where
   pub took : List Event
   pub missed : List Event
@@ -73,19 +73,19 @@ pub record Takes (old new : LogState) (before came more : List Event) : Type 0 w
   pub nothing : old.failed ≡ true → more ++ took ≡ []
   pub stays : old.failed ≡ true → new.failed ≡ true
 
--- the trace has grown, and the log has taken what came as `Takes` says, after what it had taken before; it still notes
--- the ends of the same id
+-- the trace has grown, and the log has accepted the new happenings as `Takes` states; it still notes the ends of the
+-- same id
 pub record Took (old new : LogState) (past now : List Event) : Type 0 where
   pub same : new.noted ≡ old.noted
   pub came : List Event
   pub grown : now ≡ came ++ past
   pub log : (before : List Event) → old.taken before → Takes old new before came []
 
--- this holds if the seconds in the trace are at most 3,600, because a log accepts no others
+-- `Took` holds if the grace periods in the trace are at most 3,600 seconds, because a log accepts no longer ones
 abbrev pub Logs : LogState → LogState → List Event → List Event → Type 0
 Logs old new past now = IsTrue (are_short now) → Took old new past now
 
--- the seconds in the trace and in its opening goal are at most 3,600
+-- the grace periods in the trace and in its opening goal are at most 3,600 seconds
 abbrev pub are_seconds_short : Goal → List Event → Bool
 are_seconds_short goal past = is_seconds goal.grace && are_short past
 
@@ -93,51 +93,51 @@ are_seconds_short goal past = is_seconds goal.grace && are_short past
 abbrev pub gone_on : (List Event → List Event) → Point → Point
 gone_on more p = record p { past = more p.past }
 
--- init gave this step: it was the first due one, and the condition holds for the trace with the step's happening
+-- init took this step: it was the first due step, and the condition holds for the trace with the step's happening
 abbrev pub TookFirstDueStep : (Goal → Point → Type 0) → Step → Goal → Point → Type 0
 TookFirstDueStep fit step goal p = (first (due goal p.past) ≡ step) × fit goal (gone_on (with_step step) p)
 
--- the reader of requests has read these bytes of an incomplete block, of which it keeps the number and the first 16
+-- the reader of requests has read these bytes of an incomplete block; it keeps their number and the first 16 of them
 pub record HasReadBytes (blocks : PartialBlock) (over : List ℕ) : Type 0 where
   pub count : blocks.count ≡ length over
   pub front : blocks.front ≡ take 16 over
 
--- init's core tracks the record: it fits the trace, its seconds are at most 3,600, and its generation is that of the
--- record
+-- init's core tracks the point: it fits the trace, its grace periods are at most 3,600 seconds, and its generation is
+-- the generation of the point
 pub record Tracks (core : CoreState) (goal : Goal) (p : Point) : Type 0 where
   pub fits : FitsWithLastStatuses core goal p.past
   pub short : range.has_short_seconds core ≡ true
   pub own : core.fields.generation ≡ p.generation
 
--- the change preserves that the seconds are at most 3,600, and the generation
+-- the change preserves the generation, and the fact that the grace periods are at most 3,600 seconds
 pub record KeepsSecondsAndGeneration (c new : CoreState) : Type 0 where
   pub short : range.has_short_seconds c ≡ true → range.has_short_seconds new ≡ true
   pub same : new.fields.generation ≡ c.fields.generation
 
--- the core tracks the record, and the reader of requests has read the bytes left over in it
+-- the core tracks the point, and the reader of requests has read the point's bytes of an incomplete block
 abbrev pub TracksPoint : CoreState → PartialBlock → Goal → Point → Type 0
 TracksPoint core blocks goal p = Tracks core goal p × HasReadBytes blocks p.over
 
--- this many late answers were asked for since the clock was read
+-- init asked for this many late answers since it read the clock
 abbrev pub Counted : ℕ → Goal → Point → Type 0
 Counted lates goal p = p.lates ≡ lates
 
--- Take any point whose trace is sound and which meets the condition, such that the answers to these calls were
--- possible. Then each text that was carried is that of init's state; and if these texts came back in a permitted way,
+-- Take any point that meets the condition and has a sound trace, such that the answers to these calls were possible.
+-- Then each text handed to the host represents init's state; and if the host returned these texts in a permitted way,
 -- the property holds.
 abbrev pub IfPossibleFrom : (Goal → Point → Type 0) → (Goal → Point → List HostCall → Type 0) → List HostCall → Type 0
 IfPossibleFrom fitted P calls = (goal : Goal) (p : Point) → IsTrue (is_sound goal p.past) → fitted goal p
     → IsTrue (is_allowed goal (point_after calls p).past)
     → AreTexts goal calls p × (IsTrue (are_carried calls p) → P goal p calls)
 
--- each call was permitted where it was made, and the trace with the calls is sound and breaks no law
+-- init was allowed to make each call at its point, and the trace with the calls is sound and breaks no law
 pub record CallsWereInPlace (goal : Goal) (p : Point) (calls : List HostCall) : Type 0 where
   pub in_place : IsTrue (has_trace goal calls p)
   pub sound : IsTrue (is_sound goal (point_after calls p).past)
   pub unbroken : first_breach (point_after calls p).past ≡ None
 
--- The calls went well and the condition holds after them. If the seconds so far were at most 3,600, a log that had been
--- given the part `from` of the trace took everything that came since.
+-- `CallsWereInPlace` holds for the calls, and the condition holds after them. If the grace periods so far were at most
+-- 3,600 seconds, a log that had received the part `from` of the trace accepted everything since, as `Logs` states.
 pub record Went (from : Point → List Event) (fit : Goal → Point → Type 0) (old new : LogState) (goal : Goal) (p : Point)
     (calls : List HostCall) : Type 0 where
   pub well : CallsWereInPlace goal p calls
@@ -148,18 +148,17 @@ pub record Went (from : Point → List Event) (fit : Goal → Point → Type 0) 
 abbrev pub past_of : Point → List Event
 past_of p = p.past
 
--- the calls lead from the first condition to the second one, with a log that had been given the whole trace of the
--- point
+-- the calls lead from the first condition to the second, with a log that had received the whole trace of the point
 abbrev pub CallsLead : (Goal → Point → Type 0) → (Goal → Point → Type 0) → LogState → LogState → List HostCall → Type 0
 CallsLead fitted fit old new = IfPossibleFrom fitted (Went past_of fit old new)
 
--- the effect of what needs no call: an answer, a round, a request
+-- the effect of an event that needs no call: an answer, a round, a request
 pub record Heard (fit : Goal → Point → Type 0) (old new : LogState) (goal : Goal) (p now : Point) : Type 0 where
   pub sound : IsTrue (is_sound goal now.past)
   pub fits : fit goal now
   pub log : Logs old new p.past now.past
 
--- the step from the first condition to the second one without a call, if what came was possible
+-- the event leads from the first condition to the second without a call, if it was possible
 abbrev pub Hears : (Goal → Point → Type 0) → (Goal → Point → Type 0) → LogState → LogState
     → (List Event → List Event) → Type 0
 Hears fitted fit old new more = (goal : Goal) (p : Point) → IsTrue (is_sound goal p.past) → fitted goal p

@@ -1,5 +1,4 @@
--- What is left of a run whose init is killed during a call to its host (SIGKILL, kill(2)): the trace so far, and the
--- children.
+-- The trace and the children that remain if init is killed by SIGKILL during a call to its host (kill(2)).
 use Rattle.std.specs.Prelude.{◌≡◌, ◌⊎◌, ℕ, Bool, true, false, IsTrue, List, Option, Some, None}
 use Rattle.init_words.specs.declared.orders.OrderKind.{OrderKind}
 use Rattle.init_words.specs.declared.orders.OrderKind.TheVariants as ask
@@ -13,7 +12,7 @@ use Rattle.trace_events.specs.Sound.{is_sound}
 use Rattle.host_calls.specs.declared.calls.Call.TheVariants.{Start, Look, Signal, Late}
 use Rattle.host_calls.specs.Calls.{HostCall}
 
--- the id that the call is about: that of its order, or of the late answer that it returns
+-- the id that the call concerns: the id of its order, or of the late answer that it returns
 abbrev pub subject_of : HostCall → Option (List ℕ)
 subject_of (Start id command reply) = Some id
 subject_of (Look id reply) = Some id
@@ -21,14 +20,14 @@ subject_of (Signal id sent reply) = Some id
 subject_of (Late (Some late)) = Some late.0
 subject_of _ = None
 
--- the call is about this id, and this order of the id is open in the trace
+-- the call concerns this id, and this order for the id is open in the trace
 abbrev pub IsOpenOrderOfCall : HostCall → OrderKind → List ℕ → List Event → Type 0
 IsOpenOrderOfCall call order id front = (subject_of call ≡ Some id) × (open_of id front ≡ Some order)
 
 -- `front` is the trace at the call. `world` is the trace after the call, with its answer; its unreaped children are the
--- ones that exist. `front` is sound and lawful. Each unreaped child of the world is unreaped in the trace, or the call
--- is about its id, whose Start is open in the trace. Each unreaped child of the trace is unreaped in the world, or the
--- call is about its id, whose Look is open in the trace.
+-- ones that exist. `front` is sound and lawful. Each unreaped child in `world` is unreaped in `front`, or the call
+-- concerns its id, whose Start is open in `front`. Each unreaped child in `front` is unreaped in `world`, or the call
+-- concerns its id, whose Look is open in `front`.
 pub record LeftByCrash (call : HostCall) (goal : Goal) (front world : List Event) : Type 0 where
   pub sound : IsTrue (is_sound goal front)
   pub lawful : IsTrue (is_lawful front)
@@ -37,15 +36,15 @@ pub record LeftByCrash (call : HostCall) (goal : Goal) (front world : List Event
   pub none_else : (id : List ℕ) (n : ℕ) → is_unreaped id n front ≡ true
       → (is_unreaped id n world ≡ true) ⊎ IsOpenOrderOfCall call ask.Look id front
 
--- the happening may come from a look that found nothing to reap
+-- a look that found nothing to reap can produce this happening
 abbrev pub is_of_idle_look : Event → Bool
 is_of_idle_look (Asked id ask.Look) = true
 is_of_idle_look (Still id) = true
 is_of_idle_look (Told id) = true
 is_of_idle_look _ = false
 
--- The same for a trace file that lacks the newest happenings of that trace, if these come from looks that found nothing
--- and were not written yet. The look of the call itself may be one of them, so its Look need not be open in the file.
+-- The same for a trace file that lacks the newest happenings of the trace, if looks that found nothing produced them
+-- and they were not written yet. The call itself may be such a look, so its Look need not be open in the file.
 pub record LeftByCrashInFile (call : HostCall) (goal : Goal) (file world : List Event) : Type 0 where
   pub sound : IsTrue (is_sound goal file)
   pub lawful : IsTrue (is_lawful file)

@@ -1,4 +1,4 @@
--- What an edge records: each call of its host, and the state of its log at that moment, newest call first.
+-- The record of an edge: each call to its host, with the state of its log at that moment, newest call first.
 use Rattle.std.specs.Prelude.{◌≡◌, false, IsTrue, List, [], ◌∷◌, map, reverse, Option, Some, None, IfSome}
 use Rattle.std.specs.Option.{option_map}
 use Rattle.init_words.specs.declared.orders.OrderKind.TheVariants as ask
@@ -16,22 +16,22 @@ abbrev pub calls_of : {L : Type 0} → List (Made L) → List HostCall
 calls_of [] = []
 calls_of (made ∷ made_calls) = made.call ∷ calls_of made_calls
 
--- an edge of a host and a log, and the calls so far, if the host records them
+-- an edge: a host, a log, and the calls so far, if the host records them
 pub record EdgeState (H L : Type 0) : Type 0 where
   pub host : H
   pub log : L
   pub told : Option (List (Made L))
 
--- if the edge records its calls now, it recorded them before, and this call with this log was added
+-- if the edge records its calls now, it recorded them before, and has added this call with this log
 abbrev pub AddsStamped : {L : Type 0} → Option (List (Made L)) → Option (List (Made L)) → HostCall → L → Type 0
 AddsStamped old new call log = IfSome new (λ all. (before : List (Made _)) × (old ≡ Some before)
     × (all ≡ record { call = call; log = log } ∷ before))
 
--- the calls that a host records, each made with this log
+-- the calls that a host records, each stamped with this log
 abbrev pub first_told : {L : Type 0} → Option (List HostCall) → L → Option (List (Made L))
 first_told calls log = option_map (map (λ call. record { call = call; log = log })) calls
 
--- the newest call that the host records was made with this log, and the earlier ones with theirs
+-- the record with the host's newest call added, stamped with this log
 abbrev pub newest_told : {L : Type 0} → Option (List HostCall) → L → Option (List (Made L)) → Option (List (Made L))
 newest_told (Some (call ∷ calls)) log told =
     option_map (λ made_calls. record { call = call; log = log } ∷ made_calls) told
@@ -46,8 +46,8 @@ trace_at (Signal id sent reply) past = Asked id (order_for sent) ∷ past
 trace_at (Announce happening) past = announced happening past
 trace_at _ past = past
 
--- when the call was made after the earlier ones, the log had taken everything that came since `from`, including the
--- order that the call carries out; or the log had failed
+-- when init made the call, after the earlier ones, the log had accepted everything since `from`, including the order
+-- that the call carries out; or the log had failed
 abbrev pub KeptAt : (Point → List Event) → (Goal → Point → Type 0) → LogState → LogState → HostCall → List HostCall
     → Type 0
 KeptAt from fitted old now call = IfPossibleFrom fitted (λ goal p earlier. IsTrue (are_seconds_short goal p.past)
@@ -60,8 +60,8 @@ Kept state from fitted old [] = Unit {0}
 Kept state from fitted old (made ∷ earlier) =
     KeptAt from fitted old (state made.log) made.call (calls_of earlier) × Kept state from fitted old earlier
 
--- when the call was made after the earlier ones, a log that had not failed had taken the whole trace up to that moment,
--- including the order that the call carries out, provided that the answers so far were possible
+-- when init made the call, after the earlier ones, the log had failed or had accepted the whole trace up to that
+-- moment, including the order that the call carries out, provided that the answers so far were possible
 abbrev pub HadTaken : (Goal → Point → Type 0) → LogState → HostCall → List HostCall → Type 0
 HadTaken fitted log call = IfPossibleFrom fitted (λ goal p earlier. IsTrue (are_seconds_short goal p.past)
     → log.failed ≡ false → log.taken (reverse (trace_at call (point_after earlier p).past)))
@@ -72,7 +72,7 @@ HadEach state fitted [] = Unit {0}
 HadEach state fitted (made ∷ earlier) =
     HadTaken fitted (state made.log) made.call (calls_of earlier) × HadEach state fitted earlier
 
--- these calls were made, each with a log, and when each was made, its log had taken everything up to that moment
+-- init made these calls, each with a log that had accepted everything up to that moment, as `HadTaken` states
 pub record HadAll {L : Type 0} (state : L → LogState) (fitted : Goal → Point → Type 0) (calls : List HostCall)
     : Type 0 where
   pub made_calls : List (Made L)

@@ -20,10 +20,9 @@ use Rattle.core_model.specs.Rules.{IsFit}
 use Rattle.host_calls.specs.declared.calls.HostFault.{HostFault}
 use Rattle.supervisor.specs.Fronts.{Fronts}
 
--- The calls made have this shape, and lead from points that meet the condition `fitted` to points that meet the
--- condition `fit`. Up to each call everything went well, if the answers so far were possible. When a call was made, the
--- log had taken everything that had come since `from`. If the edge records its calls, these calls are the ones that it
--- recorded.
+-- The calls have this shape, and lead from points that meet the condition `fitted` to points that meet the condition
+-- `fit`. `Fronts` holds up to each call, if the answers so far were possible. At each call, the log had accepted
+-- everything since `from`, or had failed. If the edge records its calls, these are the calls that it recorded.
 abbrev pub MadeCallsLeadFrom : {L : Type 0} → (Point → List Event) → (L → LogState) → Option (List (Made L))
     → Option (List (Made L)) → LogState → LogState → (List HostCall → Type 0) → (Goal → Point → Type 0)
     → (Goal → Point → Type 0) → Type 0
@@ -46,18 +45,18 @@ is_end _ = false
 abbrev pub IsReading : List HostCall → Type 0
 IsReading calls = (time : Result ℕ HostFault) × (calls ≡ Clock time ∷ [])
 
--- the only call asked for bytes, after this many had been taken, with room that a turn may use, and returned this many;
--- 0 if it failed
+-- the only call asked for bytes, after the turn had taken `before` bytes, with room within the limits of a turn; it
+-- returned `count` bytes, where a failure counts as 0 bytes
 abbrev pub IsBytesCall : ℕ → ℕ → List HostCall → Type 0
 IsBytesCall before count calls = (room : ℕ) × (taken : TextRead) × (calls ≡ TakeBytes room taken ∷ [])
     × (is_room room before ≡ true) × (bytes_in taken ≡ count)
 
--- the only call asked for a late answer, after this many such calls, and it was the last such call of the turn or not
+-- the only call asked for a late answer, after `before` such calls; `last` is true if it was the last one of the turn
 abbrev pub IsLateCall : ℕ → Bool → List HostCall → Type 0
 IsLateCall before last calls = (late : Option (List ℕ × Answer)) × (calls ≡ Late late ∷ [])
     × (last ≡ is_last late before)
 
--- the calls carry out one step that is not a reading of inittab
+-- the calls carry out one step other than a reading of inittab
 abbrev pub IsStep : List HostCall → Type 0
 IsStep calls = is_step calls ≡ true
 
@@ -70,26 +69,26 @@ abbrev pub IsStepUnlessIdle : Bool → Bool → List HostCall → Type 0
 IsStepUnlessIdle strict true calls = calls ≡ []
 IsStepUnlessIdle strict false calls = (is_step calls || is_reread strict calls) ≡ true
 
--- the calls carry out steps until nothing was due, or as many steps as a turn may take
+-- the calls carry out steps until nothing is due, or until the limit of steps in a turn is reached
 pub record AreAllSteps (strict done : Bool) (calls : List HostCall) : Type 0 where
   pub count : ℕ
   pub step_calls : AreSteps strict count calls
   pub most : count ≤ STEP_LIMIT
   pub ended : IsTrue done ⊎ (count ≡ STEP_LIMIT)
 
--- The outcome of a text that was carried: init's core is unchanged, and the text was taken over, or rejected like this.
--- This is so if the text is that of the core's state, the core keeps the rules, and the text came back in a permitted
--- way.
+-- The hand-over of a state text has this outcome, and leaves init's core unchanged: the text was taken over, or
+-- rejected for the reason that `how` names. This holds if the core obeys the rules, the text represents its state, and
+-- the host returned the text in a permitted way.
 abbrev pub HandOverYields : HandOver → List ℕ → TextRead → CoreState → CoreState → Type 0
 HandOverYields how text back old new = IsFit old → IsTextOf text (state_of old)
     → IsTrue (comes_back old.fields.generation text back) → (new ≡ old) × IsTrue (is_outcome how text back)
 
--- the outcome was announced, with this log, unless the text was taken over
+-- unless the text was taken over, init announced the outcome of the hand-over, with this log
 abbrev pub AnnouncesRefusal : {L : Type 0} → HandOver → Option (List (Made L)) → Option (List (Made L)) → L → Type 0
 AnnouncesRefusal handed.Whole told now_told log = now_told ≡ told
 AnnouncesRefusal how told now_told log = AddsStamped told now_told (Announce (Handed how)) log
 
--- nothing is due
+-- the step is Idle: nothing is due
 abbrev pub is_idle : Step → Bool
 is_idle step.Idle = true
 is_idle _ = false
@@ -98,24 +97,24 @@ is_idle _ = false
 abbrev pub FitsAndRestsIf : Bool → (Goal → Point → Type 0) → Goal → Point → Type 0
 FitsAndRestsIf done fit goal p = fit goal p × (IsTrue done → first (due goal p.past) ≡ step.Idle)
 
--- The step is carried out by announcing its happening: the step adds exactly that happening to a trace, the happening
--- can be announced, and it may be announced when the step is the first due one.
+-- Init carries out the step by announcing its happening: the step adds exactly that happening to a trace, the happening
+-- can be announced, and it may be announced when the step is the first due step.
 pub record AnnouncesStep (made : Step) (happening : Event) : Type 0 where
   pub step : (past : List Event) → with_step made past ≡ happening ∷ past
   pub said : is_announcement happening ≡ true
   pub position : (goal : Goal) (earlier : List HostCall) (past : List Event) → first (due goal past) ≡ made
       → may_announce goal happening earlier past ≡ true
 
--- What holds after a turn: init's core tracks the trace, and the reader of requests has read the bytes left over; the
--- unreaped children of the trace are the children of the records, corrected by the answers under way; and if the turn
--- was done, nothing is due.
+-- The condition after a turn: init's core tracks the trace, and the reader of requests has read the bytes of an
+-- incomplete block; the unreaped children of the trace are the children in the records, corrected for the answers not
+-- yet told to init; and if the turn was done, nothing is due.
 pub record HoldsAfterTurn (done : Bool) (core : CoreState) (blocks : PartialBlock) (goal : Goal) (p : Point) : Type 0
   where
     pub at : TracksPoint core blocks goal p
     pub children : (id : List ℕ) (n : ℕ) → is_unreaped id n p.past ≡ is_recorded id n core p.past
     pub rests : IsTrue done → first (due goal p.past) ≡ step.Idle
 
--- what holds after all turns: the same of the core and the children, whatever the reader of requests has read
+-- the condition after all turns: the same for the core and the children, whatever the reader of requests has read
 abbrev pub HoldsAfterTurns : CoreState → Goal → Point → Type 0
 HoldsAfterTurns core goal p =
     Tracks core goal p × ((id : List ℕ) (n : ℕ) → is_unreaped id n p.past ≡ is_recorded id n core p.past)
@@ -129,7 +128,7 @@ abbrev pub is_listed : List Entry → Step → Bool
 is_listed table (step.Order id ask.Start) = is_some (entry_of id table)
 is_listed table _ = true
 
--- if the step has seconds, they are at most 3,600
+-- if the step has a grace period, it is at most 3,600 seconds
 abbrev pub is_short_step : Step → Bool
 is_short_step (step.Enter stage grace) = is_seconds grace
 is_short_step _ = true

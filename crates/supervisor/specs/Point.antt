@@ -1,4 +1,4 @@
--- How the calls of a host determine a trace; see init(8). Calls, like happenings, are given newest first.
+-- How the calls to a host determine a trace; see init(8). Calls, like happenings, are listed newest first.
 use Rattle.std.specs.Prelude.{ℕ, Bool, true, false, not, ◌&&◌, ◌||◌, ◌+◌, ◌==◌, nat_lt, if◌then◌else◌, List, [], ◌∷◌}
 use Rattle.std.specs.Prelude.{◌++◌, length, Option, Some, None, is_none, Result, Ok, Err}
 use Rattle.std.specs.List.{starts_with}
@@ -29,8 +29,8 @@ use Rattle.core_text.specs.Reading.{generation_of}
 use Rattle.host_calls.specs.declared.calls.Reply.{Reply}
 use Rattle.supervisor.specs.declared.TheConstants.{LATE_LIMIT}
 
--- the state that a record of calls has reached: the bytes of an incomplete block, the number of late answers asked for
--- since the clock was read, the generation of init's state, and the trace
+-- the state after some calls: the bytes of an incomplete request block, how often init asked for late answers since it
+-- read the clock, the generation of init's state, and the trace
 pub record Point : Type 0 where
   pub over : List ℕ
   pub lates : ℕ
@@ -43,7 +43,7 @@ last_birth id [] = 0
 last_birth id (happened.Birth i number ∷ past) = if same_id id i then number else last_birth id past
 last_birth id (_ ∷ past) = last_birth id past
 
--- the act that an answer stands for; an end stands for the death and the reaping of the child that was born last
+-- the trace with the act that an answer reports; an end reports the death and the reaping of the last child born
 abbrev pub acted : List ℕ → Answer → List Event → List Event
 acted id (answer.Born number) past = happened.Birth id number ∷ past
 acted id answer.NotBorn past = happened.NoBirth id ∷ past
@@ -54,22 +54,21 @@ acted id answer.NoLook past = happened.NoLook id ∷ past
 acted id answer.Hit past = happened.Hit id ∷ past
 acted id answer.Miss past = happened.Miss id ∷ past
 
--- the id has an open order of the answer's kind; init takes no other answer
+-- the id has an open order of the answer's kind; init accepts no other answer
 abbrev pub is_asked_for : List ℕ → Answer → List Event → Bool
 is_asked_for id given past = option_map_or (answers given) (open_of id past) false
 
--- an answer that was asked for adds its act and a `told` to the trace; any other adds nothing
+-- an answer to an open order adds its act and a `told` to the trace; any other answer adds nothing
 abbrev pub answered : List ℕ → Answer → List Event → List Event
 answered id given past =
     if is_asked_for id given past then happened.Told id ∷ acted id given past else past
 
--- a reply to an order: an answer, or nothing yet; an order whose answer comes later is carried out when the answer
--- arrives
+-- the trace after a reply to an order: the reply is an answer, or `Later`, which adds nothing until the answer arrives
 abbrev pub replied : List ℕ → Reply → List Event → List Event
 replied id (Now given) past = answered id given past
 replied id Later past = past
 
--- an order and its reply
+-- the trace after an order and its reply
 abbrev pub ordered : List ℕ → OrderKind → Reply → List Event → List Event
 ordered id ask reply past = replied id reply (happened.Asked id ask ∷ past)
 
@@ -78,12 +77,12 @@ abbrev pub order_for : SignalKind → OrderKind
 order_for signal.Term = ask.Term
 order_for signal.Kill = ask.Kill
 
--- a late answer adds to the trace what any answer does
+-- a late answer adds the same happenings to the trace as any other answer
 abbrev pub come : Option (List ℕ × Answer) → List Event → List Event
 come (Some late) past = answered late.0 late.1 past
 come None past = past
 
--- no late answer was left, or this call was the last that a turn may make
+-- this is the last call for late answers in the turn: it returned none, or it reached the limit
 abbrev pub is_last : Option (List ℕ × Answer) → ℕ → Bool
 is_last late lates = is_none late || lates + 1 == LATE_LIMIT
 
@@ -92,7 +91,7 @@ abbrev pub nudged_if : Bool → List Event → List Event
 nudged_if true past = happened.Nudge ∷ past
 nudged_if false past = past
 
--- a reading of the clock; one that failed adds nothing
+-- the trace after a reading of the clock; a failed reading adds nothing
 abbrev pub clocked : Result ℕ HostFault → List Event → List Event
 clocked (Ok reading) past = happened.Clock reading ∷ past
 clocked (Err fault) past = past
@@ -103,28 +102,27 @@ filled over p =
     if length over == BLOCK then record p { over = []; past = happened.Got (heard_of over) ∷ p.past }
     else record p { over = over }
 
--- one more byte
+-- the point after one more byte of requests
 abbrev pub byte_after : ℕ → Point → Point
 byte_after byte p = filled (p.over ++ byte ∷ []) p
 
--- more bytes, in order, first byte first
+-- the point after more bytes, in order
 abbrev pub bytes_after : List ℕ → Point → Point
 bytes_after [] p = p
 bytes_after (byte ∷ bytes) p = bytes_after bytes (byte_after byte p)
 
--- the bytes that a call took; a call that failed took none
+-- the point after the bytes that a call returned; a failed call returned none
 abbrev pub taken_after : TextRead → Point → Point
 taken_after (Ok bytes) p = bytes_after bytes p
 taken_after (Err fault) p = p
 
--- a reading of inittab adds its table, or `notread` if reading failed, or if there are too many files or they are too
--- long
+-- a reading of inittab adds its table, or `notread` if it failed or the files are too many or too long
 abbrev pub reading : PartsRead → Event
 reading (Ok parts) =
     if are_readable (texts_of parts) then happened.NewTable (table_of_texts (texts_of parts)) else happened.NotRead
 reading (Err fault) = happened.NotRead
 
--- the past without a reading of inittab that is its newest happening
+-- the trace without its newest happening, if that is a reading of inittab
 abbrev pub before_reading : List Event → List Event
 before_reading (happened.NewTable table ∷ past) = past
 before_reading (happened.NotRead ∷ past) = past
@@ -134,27 +132,27 @@ before_reading past = past
 abbrev pub same_text : List ℕ → List ℕ → Bool
 same_text = pointwise ◌==◌
 
--- the text of init's state that was carried came back unchanged
+-- the host returned the state text unchanged
 abbrev pub came_whole : List ℕ → TextRead → Bool
 came_whole text (Ok back) = same_text text back
 came_whole text (Err fault) = false
 
--- the text came back cut: what came is a proper prefix of it
+-- the host returned the state text cut short: a proper prefix of it
 abbrev pub came_cut : List ℕ → TextRead → Bool
 came_cut text (Ok back) = starts_with ◌==◌ text back && nat_lt (length back) (length text)
 came_cut text (Err fault) = false
 
--- a state text that came back unchanged is taken over: `handed whole` is added
+-- if a state text came back unchanged, init takes it over, which adds `handed whole` to the trace
 abbrev pub handed_if : Bool → List Event → List Event
 handed_if true past = happened.Handed handed.Whole ∷ past
 handed_if false past = past
 
--- the past without a hand-over that is its newest happening
+-- the trace without its newest happening, if that is a hand-over
 abbrev pub before_handing : List Event → List Event
 before_handing (happened.Handed how ∷ past) = past
 before_handing past = past
 
--- the happening is announced when it happens
+-- init announces this kind of happening
 abbrev pub is_announcement : Event → Bool
 is_announcement (happened.Enter stage grace) = true
 is_announcement (happened.Call letter) = true
@@ -163,14 +161,14 @@ is_announcement (happened.Hold id) = true
 is_announcement (happened.Settle level) = true
 is_announcement _ = false
 
--- What an announcement adds to the trace. Steps of init are added. `notread` replaces the reading, whose table was not
--- taken. A hand-over that failed replaces the hand-over, which was not taken over.
+-- The trace after an announcement. A step of init is added. `notread` replaces the reading of a table that init did not
+-- adopt. A hand-over that failed replaces the hand-over whose text was not taken over.
 abbrev pub announced : Event → List Event → List Event
 announced happened.NotRead past = happened.NotRead ∷ before_reading past
 announced (happened.Handed how) past = happened.Handed how ∷ before_handing past
 announced happening past = if is_announcement happening then happening ∷ past else past
 
--- how a call changes the point; a text that is carried is of the next generation
+-- how a call changes the point; handing over a text begins the next generation
 abbrev pub after : HostCall → Point → Point
 after (Start id command reply) p = record p { past = ordered id ask.Start reply p.past }
 after (Look id reply) p = record p { past = ordered id ask.Look reply p.past }
@@ -204,8 +202,8 @@ was_reading _ = false
 abbrev pub is_of_generation : ℕ → List ℕ → Bool
 is_of_generation generation text = option_map_or (λ g. g == generation) (generation_of text) false
 
--- The outcome of a text that was carried and not taken over: it came back cut, to this number of bytes; or as a text of
--- this other generation; or it was rejected for a reason other than that it came back cut.
+-- The outcome `how` is right for a state text that was not taken over: it came back cut to `bytes` bytes; or as a text
+-- of another generation; or the outcome is `Failed`, and the text did not come back cut.
 abbrev pub is_refusal : HandOver → List ℕ → TextRead → Bool
 is_refusal (handed.Cut bytes) text (Ok back) = came_cut text (Ok back) && length back == bytes
 is_refusal (handed.Older generation) text (Ok back) =
@@ -213,35 +211,35 @@ is_refusal (handed.Older generation) text (Ok back) =
 is_refusal handed.Failed text back = not (came_cut text back)
 is_refusal _ text back = false
 
--- the calls by which a text was carried and its outcome announced; `handed whole` is not announced
+-- the calls that hand over a text and announce the outcome; `handed whole` is not announced
 abbrev pub carrying : HandOver → List ℕ → TextRead → List HostCall
 carrying handed.Whole text back = Carry text back ∷ []
 carrying how text back = Announce (happened.Handed how) ∷ Carry text back ∷ []
 
--- the outcome of a text is right: it came back unchanged and was taken over, or it was rejected like this
+-- the outcome `how` is right for a state text: it came back unchanged and was taken over, or `is_refusal` holds
 abbrev pub is_outcome : HandOver → List ℕ → TextRead → Bool
 is_outcome handed.Whole text back = came_whole text back
 is_outcome how text back = is_refusal how text back
 
--- the step is the first due one
+-- the step is the first due step
 abbrev pub is_first : Goal → Step → List Event → Bool
 is_first goal step past = same_step step (first (due goal past))
 
--- the happening is a step of init, which is the first due one
+-- the happening is the first due step of init
 abbrev pub is_first_step : Goal → Event → List Event → Bool
 is_first_step goal happening past = option_map_or (λ step. is_first goal step past) (step_in happening) false
 
--- The happening may be announced: it is a step of init that is the first due one, or reports that such a step came to
--- nothing. For `notread`, the call before read inittab. For a hand-over, the call before carried the state text, which
--- was rejected like this; or a re-execution was due and no text was made.
+-- Init may announce the happening: it is the first due step, or it reports that such a step failed. For `notread`, the
+-- previous call read inittab. For a hand-over, the previous call handed over the state text, with this outcome; or a
+-- re-execution was due and init could not make the text.
 abbrev pub may_announce : Goal → Event → List HostCall → List Event → Bool
 may_announce goal happened.NotRead earlier past = was_reading earlier
 may_announce goal (happened.Handed how) (Carry text back ∷ earlier) past = is_refusal how text back
 may_announce goal (happened.Handed handed.Failed) earlier past = is_first goal step.Reexec past
 may_announce goal happening earlier past = is_announcement happening && is_first_step goal happening past
 
--- The call may be made at this point: it carries out the step that is the first due one, and a start uses the id's
--- command in the table in force.
+-- Init may make the call at this point: it carries out the first due step, and a start uses the command of the id in
+-- the table in force.
 abbrev pub is_in_place : Goal → HostCall → List HostCall → List Event → Bool
 is_in_place goal (Start id command reply) earlier past =
     is_first goal (step.Order id ask.Start) past && is_command id command past
@@ -252,20 +250,20 @@ is_in_place goal (Carry text back) earlier past = is_first goal step.Reexec past
 is_in_place goal (Announce happening) earlier past = may_announce goal happening earlier past
 is_in_place goal _ earlier past = true
 
--- each call was made at a point where it may be made
+-- init made each call at a point at which it was allowed
 abbrev pub are_in_place : Goal → List HostCall → Point → Bool
 are_in_place goal [] p = true
 are_in_place goal (call ∷ calls) p =
     is_in_place goal call calls (point_after calls p).past && are_in_place goal calls p
 
--- the outcome of each text that was carried is known: it came back unchanged, or the next call announces its outcome
+-- the calls show the outcome of each hand-over: the text came back unchanged, or the next call announces the outcome
 abbrev pub tells_outcomes : List HostCall → Bool
 tells_outcomes [] = true
 tells_outcomes (Announce (happened.Handed how) ∷ Carry text back ∷ calls) = tells_outcomes calls
 tells_outcomes (Carry text back ∷ calls) = came_whole text back && tells_outcomes calls
 tells_outcomes (_ ∷ calls) = tells_outcomes calls
 
--- the calls determine a trace: each was made at a point where it may be made, and the outcome of each text that was
--- carried is known
+-- the calls determine a trace: init made each at a point at which it was allowed, and they show the outcome of each
+-- hand-over
 abbrev pub has_trace : Goal → List HostCall → Point → Bool
 has_trace goal calls p = tells_outcomes calls && are_in_place goal calls p

@@ -1,4 +1,4 @@
--- Which requests the calls bring into the trace: those of the blocks that the bytes taken complete (initreq.h).
+-- The requests that the calls add to the trace: one for each block that the bytes read complete (initreq.h).
 use Rattle.std.specs.Prelude.{◌≡◌, ℕ, List, [], ◌∷◌, ◌++◌, Ok}
 use Rattle.initctl_frame.specs.declared.requests.HeardRequest.{HeardRequest as Request}
 use Rattle.supervisor.specs.EdgeWords.{requests_in_blocks, remainder_of, Got, Event, TakeBytes, HostCall}
@@ -9,8 +9,8 @@ abbrev pub requested : List Request → List Event → List Event
 requested [] past = past
 requested (request ∷ requests) past = requested requests (Got request ∷ past)
 
--- These bytes come after others, of which the point has the incomplete block. The requests of the blocks that they
--- complete in the whole list are added in order, and the bytes left over are those of the whole list.
+-- `bytes` follow the bytes `before`, whose incomplete block is in the point. The requests of the blocks that they
+-- complete are added in order, and the bytes left over are those left over of all bytes together.
 pub record Continues (before bytes : List ℕ) (p : Point) : Type 0 where
   pub requests : List Request
   pub gots : requests_in_blocks (before ++ bytes) ≡ requests_in_blocks before ++ requests
@@ -28,7 +28,8 @@ bytes_of [] = []
 bytes_of (TakeBytes room (Ok bytes) ∷ calls) = bytes_of calls ++ bytes
 bytes_of (_ ∷ calls) = bytes_of calls
 
--- the requests of these calls, whose bytes come after others, are those of all bytes without those of the earlier ones
+-- the calls, whose bytes follow the bytes `before`, add the requests of all these bytes, except the requests of
+-- `before`
 pub record Brings (before : List ℕ) (calls : List HostCall) (p : Point) : Type 0 where
   pub requests : List Request
   pub gots : requests_in_blocks (before ++ bytes_of calls) ≡ requests_in_blocks before ++ requests

@@ -1,21 +1,21 @@
--- What comes back of the texts that a host was given to carry; see telinit(8), `u`.
+-- How a host returns the state texts that init hands over; see telinit(8), `u`.
 use Rattle.std.specs.Prelude.{ℕ, Bool, true, ◌&&◌, ◌||◌, ◌==◌, List, [], ◌∷◌, Ok, Err}
 use Rattle.std.specs.List.{list_any, starts_with}
 use Rattle.supervisor.specs.EdgeWords.{Carry, HostCall, TextRead}
 use Rattle.supervisor.specs.Point.{same_text}
 
--- the texts that were carried, newest first
+-- the state texts that the calls hand over, newest first
 abbrev pub texts_in : List HostCall → List (List ℕ)
 texts_in [] = []
 texts_in (Carry text back ∷ calls) = text ∷ texts_in calls
 texts_in (_ ∷ calls) = texts_in calls
 
--- the text comes back unchanged, or cut, or replaced by one that was carried before it, or not at all
+-- the host returns the text unchanged, or cut short, or replaced by an earlier text, or not at all
 abbrev pub is_given_back : List (List ℕ) → List ℕ → TextRead → Bool
 is_given_back before text (Ok back) = starts_with ◌==◌ text back || list_any (same_text back) before
 is_given_back before text (Err fault) = true
 
--- each text comes back like this
+-- the host returns each text in one of these ways
 abbrev pub are_given_back : List HostCall → Bool
 are_given_back [] = true
 are_given_back (Carry text back ∷ calls) = is_given_back (texts_in calls) text back && are_given_back calls

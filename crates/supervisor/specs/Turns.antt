@@ -1,5 +1,5 @@
--- Which calls a turn of init makes to its host, and which calls several turns make; see init(8). Calls are given newest
--- first.
+-- The calls that one turn of init makes to its host, and the calls that several turns make; see init(8). Calls are
+-- listed newest first.
 use Rattle.std.specs.Prelude.{◌≡◌, ◌≤◌, ◌⊎◌, ◌+◌, ℕ, zero, suc, Bool, true, false, ◌&&◌, ◌||◌, ◌==◌, not, nat_le}
 use Rattle.std.specs.Prelude.{nat_lt, IsTrue, List, [], ◌∷◌, ◌++◌, drop, length, Option, Some, None, Result, Ok, Err}
 use Rattle.std.specs.List.{list_all}
@@ -20,18 +20,18 @@ abbrev pub takes_no_bytes : HostCall → Bool
 takes_no_bytes (TakeBytes room taken) = false
 takes_no_bytes _ = true
 
--- the number of bytes that a call took
+-- the number of bytes that a call returned
 abbrev pub bytes_in : TextRead → ℕ
 bytes_in (Ok bytes) = length bytes
 bytes_in (Err fault) = 0
 
--- the number of bytes that the calls took
+-- the number of bytes that the calls returned
 abbrev pub bytes_taken : List HostCall → ℕ
 bytes_taken [] = 0
 bytes_taken (TakeBytes room taken ∷ calls) = bytes_taken calls + bytes_in taken
 bytes_taken (_ ∷ calls) = bytes_taken calls
 
--- the room is at least one byte, at most one piece, and at most what the turn may still take after this many bytes
+-- the room is at least one byte, at most one piece, and at most the bytes that the turn may still read
 abbrev pub is_room : ℕ → ℕ → Bool
 is_room room before = nat_le 1 room && nat_le room PIECE && nat_le (before + room) BYTE_LIMIT
 
@@ -42,7 +42,7 @@ are_full (TakeBytes room taken ∷ calls) =
     is_room room (bytes_taken calls) && nat_le 1 (bytes_in taken) && are_full calls
 are_full _ = false
 
--- bytes were asked for until a call returned none or failed, or all bytes were taken that a turn may take
+-- the calls asked for bytes until one returned none or failed, or the turn reached its limit of bytes
 abbrev pub are_byte_readings : List HostCall → Bool
 are_byte_readings (TakeBytes room taken ∷ calls) =
     is_room room (bytes_taken calls) && are_full calls
@@ -54,13 +54,13 @@ abbrev pub has_come : HostCall → Bool
 has_come (Late (Some late)) = true
 has_come _ = false
 
--- late answers were asked for until there was none, or as often as a turn may ask
+-- the calls asked for late answers until there was none, or the turn reached its limit of such calls
 abbrev pub are_late_answers : List HostCall → Bool
 are_late_answers (Late None ∷ calls) = list_all has_come calls && nat_lt (length calls) LATE_LIMIT
 are_late_answers calls = list_all has_come calls && length calls == LATE_LIMIT
 
--- The calls that carry out one step, except a reading of inittab: an order, an announcement, or the carrying of the
--- state text, followed by the announcement of its outcome if it was not taken over.
+-- The calls carry out one step other than a reading of inittab: an order, an announcement, or a hand-over of the state
+-- text, followed by the announcement of its outcome if the text was not taken over.
 abbrev pub is_step : List HostCall → Bool
 is_step (Start id command reply ∷ []) = true
 is_step (Look id reply ∷ []) = true
@@ -70,26 +70,26 @@ is_step (Announce happening ∷ []) = true
 is_step (Announce (Handed how) ∷ Carry text back ∷ []) = true
 is_step _ = false
 
--- the table of these files may be taken: they are not too many or too long, and with `--strict` no line is faulty
+-- init may adopt the table of these files: they are not too many or too long, and with `--strict` no line is faulty
 abbrev pub may_take : Bool → PartsRead → Bool
 may_take strict (Ok parts) =
     are_readable (texts_of parts) && (not strict || length (faults_of_parts (texts_of parts)) == 0)
 may_take strict (Err fault) = false
 
--- inittab was read and its table taken, or it was read and `notread` was announced
+-- init read inittab and adopted its table, or read it and announced `notread`
 abbrev pub is_reread : Bool → List HostCall → Bool
 is_reread strict (ReadTables parts ∷ []) = may_take strict parts
 is_reread strict (Announce NotRead ∷ ReadTables parts ∷ []) = true
 is_reread strict _ = false
 
--- the calls of this number of steps, one after the other, of an init that is strict or not
+-- the calls carry out this number of steps, one after the other; `strict` is true if init runs with `--strict`
 abbrev pub AreSteps : Bool → ℕ → List HostCall → Type 0
 AreSteps strict zero calls = calls ≡ []
 AreSteps strict (suc n) calls = (last before : List HostCall) × (calls ≡ last ++ before)
     × IsTrue (is_step last || is_reread strict last) × AreSteps strict n before
 
--- A turn reads the clock, takes bytes, takes late answers, and takes steps until it is done or has taken as many as a
--- turn may.
+-- A turn reads the clock, reads bytes of requests, receives late answers, and takes steps until nothing is due or it
+-- reaches the limit of steps.
 pub record IsTurn (strict done : Bool) (calls : List HostCall) : Type 0 where
   pub time : Result ℕ HostFault
   pub takes : List HostCall
@@ -103,9 +103,9 @@ pub record IsTurn (strict done : Bool) (calls : List HostCall) : Type 0 where
   pub most : count ≤ STEP_LIMIT
   pub ended : IsTrue done ⊎ (count ≡ STEP_LIMIT)
 
--- The core is init's after a turn that followed the calls before. The trace is sound and the core tracks it; if the
--- turn was done, nothing is due; and if the seconds at the beginning were at most 3,600, the turn only added to the
--- trace.
+-- The state after a turn that followed the calls `before`. The trace is sound and the core tracks it; if the turn was
+-- done, nothing is due; and if the grace periods at the beginning were at most 3,600 seconds, the turn only added to
+-- the trace.
 pub record Turned (done : Bool) (core : CoreState) (before : List HostCall) (goal : Goal) (p : Point)
     (calls : List HostCall) : Type 0 where
   pub sound : IsTrue (is_sound goal (point_after calls p).past)
@@ -121,12 +121,12 @@ AreTurns strict fitted (core ∷ cores) calls = (done : Bool) × (last before : 
     × (calls ≡ Pause ∷ (last ++ before)) × IsTurn strict done last
     × IfPossibleFrom fitted (Turned done core before) (last ++ before) × AreTurns strict fitted cores before
 
--- something is left to do, or something runs
+-- init has something left to do, or has a child
 abbrev pub is_busy : CoreState → Bool
 is_busy core = not (is_drained core)
 
--- This number of turns were made, and an observer saw the core after each. If they end when init is drained, only the
--- last one left it drained.
+-- Init made this number of turns, and an observer saw the core after each. With `drain`, only the last turn can have
+-- left init drained.
 abbrev pub MadeTurns : Bool → Bool → (Goal → Point → Type 0) → ℕ → Option (List CoreState) → Option (List CoreState)
     → List HostCall → Type 0
 MadeTurns strict drain fitted turns saw now_saw calls = NewCallsSatisfy saw now_saw (λ cores. (length cores ≡ turns)

@@ -1,4 +1,4 @@
-//! Handling a host's answers: their happenings are written to the log, and the core receives them.
+//! Handles the answers of the host: writes their happenings to the log, and passes them to the core.
 
 ghost use Rattle.std.specs.Prelude.{◌≡◌, ◌∷◌, true, List, Some};
 ghost use Rattle.std.specs.Option.{option_and_then};
@@ -14,7 +14,7 @@ use std::alloc::Allocator;
 use trace_events::Happening;
 use trace_log::Log;
 
-/// Writes that a child ended: its death, and its reaping.
+/// Writes the death and the reaping of a child that ended.
 fn write_end<H: Host, L: Log>(
     edge: &mut Edge<H, L>,
     id: Id,
@@ -34,7 +34,7 @@ fn write_end<H: Host, L: Log>(
     edge.note(Happening::Reaped(id, number, status));
 }
 
-/// Writes the happening that an answer about the id stands for. If the child ended, `number` is its number.
+/// Writes the happening that an answer for the id reports. If the child ended, `number` is its number.
 fn write_act<H: Host, L: Log>(
     edge: &mut Edge<H, L>,
     id: Id,
@@ -59,7 +59,7 @@ fn write_act<H: Host, L: Log>(
     }
 }
 
-/// Writes an answer: the happening that it stands for, and that it was told.
+/// Writes an answer: the happening that it reports, and a `told`.
 fn write_answer<H: Host, L: Log>(
     edge: &mut Edge<H, L>,
     id: Id,
@@ -96,7 +96,7 @@ fn number_for<A: Allocator>(core: &Core<A>, id: Id, answer: &Answer) -> Option<C
     }
 }
 
-/// Passes an answer about the id to the core, and writes it to the log. An answer that was not asked for is ignored.
+/// Passes an answer for the id to the core, and writes it to the log. Ignores an answer without an open order.
 pub(crate) fn hear_answer<A: Allocator, H: Host, L: Log>(
     core: &mut Core<A>,
     edge: &mut Edge<H, L>,
@@ -117,7 +117,7 @@ pub(crate) fn hear_answer<A: Allocator, H: Host, L: Log>(
     }
 }
 
-/// Handles the host's reply to an order about the id: an answer, or nothing yet.
+/// Handles the host's reply to an order for the id: an answer, or `Later`.
 pub(crate) fn hear_reply<A: Allocator, H: Host, L: Log>(
     core: &mut Core<A>,
     edge: &mut Edge<H, L>,

@@ -1,4 +1,4 @@
-//! Laws about the requests, the texts and the children in the calls of a host.
+//! Laws about the requests, the state texts and the children in the calls to a host.
 
 ghost use Rattle.std.specs.Prelude.{◌≡◌, ◌+◌, ◌++◌, ℕ, IsTrue, List, [], length};
 ghost use Rattle.supervisor.specs.EdgeWords.{remainder_of, Goal, unreaped_children, HostCall, CallsLeaveHeld, HeldChildren};
@@ -8,10 +8,10 @@ ghost use Rattle.supervisor.specs.CallsLead.{AreTexts, are_carried, is_allowed};
 ghost use Rattle.supervisor.specs.Requests.{Brings};
 ghost use Rattle.supervisor.specs.Texts.{are_given_back, texts_in};
 
-/// States in its contract which requests the calls bring into the trace. The function itself does nothing.
+/// States in its contract which requests the calls add to the trace. The function itself does nothing.
 ///
-/// They are exactly the requests of the blocks that the bytes taken complete, after the bytes that came before, in
-/// order; and the bytes left over are those of the whole list.
+/// They are exactly the requests of the blocks that the bytes read complete, together with the bytes before them, in
+/// order. The bytes left over are those left over of all bytes together.
 pub fn law_of_requests()
     ensures { (calls : List HostCall) (before : List ℕ) (p : Point) → p.over ≡ remainder_of before
         → Brings before calls p }
@@ -33,10 +33,12 @@ pub fn law_of_parts()
         → IsTrue (are_carried later (point_after earlier p)) × IsTrue (are_carried earlier p) }
 {}
 
-/// States in its contract what holds of the texts that a host was given to carry. The function itself does nothing.
+/// States a law in its contract about the state texts that init hands over to the host. The function itself does
+/// nothing.
 ///
-/// Each text is of the next generation. Suppose that each is the text of init's state, and comes back unchanged, or
-/// cut, or replaced by one that was carried before it. Then the texts came back in a way that a turn can handle.
+/// Each text is of the next generation. Suppose that each represents init's state, and that the host returns it
+/// unchanged, cut short, or replaced by an earlier text. Then the host returned the texts in a way that a turn can
+/// handle.
 pub fn law_of_texts()
     ensures generation { (calls : List HostCall) (p : Point)
         → (point_after calls p).generation ≡ p.generation + length (texts_in calls) }
@@ -44,12 +46,12 @@ pub fn law_of_texts()
         → IsTrue (are_given_back calls) → IsTrue (are_carried calls p) }
 {}
 
-/// States in its contract what holds of a host that holds its children and never answers later. The function itself
+/// States a law in its contract about a host that holds its children and never replies `Later`. The function itself
 /// does nothing.
 ///
-/// The calls begin at a trace without unreaped children. If up to some call no child is born with the number of one
-/// that is held at the time, each answer up to that call was possible, whatever is answered later; and the host holds
-/// the unreaped children of the trace.
+/// The calls begin at a trace without unreaped children. If up to some call no child is born with the number of a child
+/// that the host holds at the time, then each answer up to that call was possible, whatever the later answers; and the
+/// host holds the unreaped children of the trace.
 pub fn law_of_children()
     ensures possible { (goal : Goal) (later earlier : List HostCall) (held : HeldChildren)
         (p : Point) → unreaped_children p.past ≡ [] → CallsLeaveHeld (later ++ earlier) held

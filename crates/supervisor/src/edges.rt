@@ -1,5 +1,5 @@
-//! The edge of init, which is its host and its log together, so that the calls of the host and the contents of the log
-//! are ordered in time.
+//! The edge of init: its host and its log together, so that calls to the host and additions to the log are ordered in
+//! time.
 
 ghost use Rattle.std.specs.Prelude.{◌≡◌, ◌∷◌, ◌≤◌, List, IfOk, length, true};
 ghost use Rattle.std.specs.Option.{option_map};
@@ -19,9 +19,9 @@ use trace_log::Log;
 
 /// A host and the log of its run.
 ///
-/// No call of the host changes the log, and only the edge gives the log happenings. A contract sees the calls that the
-/// host records, and the state of the log when each of them was made. This exists in proofs only: it has no bytes, and
-/// costs nothing when a program runs.
+/// No call to the host changes the log, and only the edge writes happenings to the log. Contracts see the calls that
+/// the host records, and the state of the log at each of them. This record exists only in proofs: it takes no memory
+/// and no time when a program runs.
 #[derive(Drop)]
 pub struct Edge<H: Host, L: Log> {
     host: H,
@@ -42,7 +42,7 @@ impl<H: Host, L: Log> Model for Edge<H, L> {
 }
 
 impl<H: Host, L: Log> Edge<H, L> {
-    /// Creates the edge of a host and a log. Calls made before count as made with the log in its present state.
+    /// Creates the edge of a host and a log. Earlier calls to the host are stamped with the log in its current state.
     pub fn new(host: H, log: L) -> Edge<H, L>
         ensures { result
             ≡ record { host = host; log = log; told = first_told (H.told host) log } }
@@ -77,8 +77,8 @@ impl<H: Host, L: Log> Edge<H, L> {
         &self.log
     }
 
-    /// States in its contract that the recorded calls are those that the host records. The function itself does
-    /// nothing.
+    /// States in its contract that the calls in the record are the calls that the host records. The function itself
+    /// does nothing.
     pub fn law_of_calls(&self)
         ensures { option_map calls_of self.now.told ≡ H.told self.now.host }
     {
@@ -97,7 +97,7 @@ impl<H: Host, L: Log> Edge<H, L> {
         reply
     }
 
-    /// Looks whether the id's child has ended.
+    /// Checks whether the id's child has ended.
     pub fn look(&mut self, id: Id) -> Reply
         ensures adds { AddsStamped self.old.told self.new.told (Call.Look id result) self.old.log }
         ensures log { self.new.log ≡ self.old.log }
@@ -142,7 +142,7 @@ impl<H: Host, L: Log> Edge<H, L> {
         reading
     }
 
-    /// Takes the next bytes of requests into the front of the buffer. Returns the number of bytes.
+    /// Reads the next bytes of requests into the front of the buffer, and returns their number.
     pub fn take_bytes(&mut self, buffer: &mut [u8]) -> Result<usize, HostFault>
         ensures within { IfOk result (λ count. count ≤ length buffer.old) }
         ensures adds { AddsStamped self.old.told self.new.told
@@ -170,7 +170,7 @@ impl<H: Host, L: Log> Edge<H, L> {
         parts
     }
 
-    /// Hands the text of init's state over to a new init, and returns what reaches it.
+    /// Hands the text of init's state over to a new init, and returns the text that reaches it.
     pub fn carry<A: Allocator + Copy>(
         &mut self,
         alloc: A,
@@ -207,7 +207,7 @@ impl<H: Host, L: Log> Edge<H, L> {
         self.told = and_call(&self.told, &self.host, &self.log);
     }
 
-    /// Gives the log a happening, unless the log has failed.
+    /// Writes a happening to the log, unless the log has failed.
     pub fn write<A: Allocator>(&mut self, happening: &HappeningIn<A>)
         ensures logs { (past : List Event)
             → Logs (L.state self.old.log) (L.state self.new.log) past (happening.now ∷ past) }

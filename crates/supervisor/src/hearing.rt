@@ -1,4 +1,4 @@
-//! What a turn reads first: the clock, requests, and late answers.
+//! Reads the input of a turn: the clock, requests, and late answers.
 
 ghost use Rattle.std.specs.Prelude.{◌≡◌, ◌<◌, ◌≤◌, ◌+◌, ◌∷◌, [], ℕ, IsTrue, true, false, length, take, Ok};
 ghost use Rattle.supervisor.specs.Words.{is_request, TakeBytes, BYTE_LIMIT, LATE_LIMIT, PIECE, come, is_last, ExtendsLogFromCore, ExtendsLogFromReader, TracksPoint, Counted, Hears, CallsLead, Tracks, are_late_answers, are_byte_readings, is_room};
@@ -16,7 +16,7 @@ use std::alloc::Allocator;
 use trace_events::Happening;
 use trace_log::Log;
 
-/// Reads the clock. A reading that fails is ignored.
+/// Reads the clock. Ignores a failure.
 pub(crate) fn hear_clock<A: Allocator, H: Host, L: Log>(core: &mut Core<A>, edge: &mut Edge<H, L>)
     ensures makes { MadeCallsLead L.state edge.old edge.new IsReading
         (Tracks core.old) (λ goal p. Tracks core.new goal p × Counted 0 goal p) }
@@ -48,8 +48,8 @@ fn hear_request<A: Allocator, H: Host, L: Log>(
     edge.note(Happening::Got(request));
 }
 
-/// Reads bytes up to the end of the current block, or all of them, and returns how many. If the block is complete, its
-/// request is received.
+/// Reads bytes up to the end of the current block, or all of them, and returns how many. If this completes the block,
+/// handles its request.
 fn hear_front<A: Allocator, H: Host, L: Log>(
     core: &mut Core<A>,
     edge: &mut Edge<H, L>,
@@ -75,7 +75,7 @@ fn hear_front<A: Allocator, H: Host, L: Log>(
     count
 }
 
-/// Reads all these bytes, and receives the requests of the blocks that they complete.
+/// Reads all these bytes, and handles the requests of the blocks that they complete.
 fn hear_bytes<A: Allocator, H: Host, L: Log>(
     core: &mut Core<A>,
     edge: &mut Edge<H, L>,
@@ -97,7 +97,7 @@ fn hear_bytes<A: Allocator, H: Host, L: Log>(
     }
 }
 
-/// Takes bytes of requests into the buffer, reads them, and returns how many; 0 if the call failed.
+/// Gets bytes of requests from the host, handles them, and returns how many; 0 if the call failed.
 fn take_into<A: Allocator, H: Host, L: Log>(
     core: &mut Core<A>,
     edge: &mut Edge<H, L>,
@@ -121,7 +121,7 @@ fn take_into<A: Allocator, H: Host, L: Log>(
     count
 }
 
-/// Returns the room for the next piece, after this many bytes were taken in this turn.
+/// Returns the maximum size of the next piece, given the number of bytes that the turn has read.
 fn room_for(taken: usize) -> usize
     requires { taken < BYTE_LIMIT }
     ensures room { is_room result taken ≡ true }
@@ -131,8 +131,8 @@ fn room_for(taken: usize) -> usize
     PIECE.min(BYTE_LIMIT - taken)
 }
 
-/// Takes a piece of the bytes of requests, after this many were taken in this turn, and returns its length; 0 if the
-/// call failed.
+/// Reads one piece of the bytes of requests, given the number of bytes that the turn has read, and returns its length;
+/// 0 if the call failed.
 fn take_piece<A: Allocator, H: Host, L: Log>(
     core: &mut Core<A>,
     edge: &mut Edge<H, L>,
@@ -153,7 +153,7 @@ fn take_piece<A: Allocator, H: Host, L: Log>(
     take_into(core, edge, blocks, taken, &mut buffer[..room])
 }
 
-/// Takes the bytes of requests, until none have come or the turn may take no more.
+/// Reads the bytes of requests until there are none or the turn reaches its limit.
 pub(crate) fn hear_requests<A: Allocator, H: Host, L: Log>(
     core: &mut Core<A>,
     edge: &mut Edge<H, L>,
@@ -176,7 +176,7 @@ pub(crate) fn hear_requests<A: Allocator, H: Host, L: Log>(
     }
 }
 
-/// Begins a round: each child is to be looked at.
+/// Begins a round, so a look at each child becomes due.
 fn nudge<A: Allocator, H: Host, L: Log>(core: &mut Core<A>, edge: &mut Edge<H, L>)
     ensures hears { Hears (Tracks core.old) (Tracks core.new)
         (L.state edge.old.log) (L.state edge.new.log) (λ past. happening.Nudge ∷ past) }
@@ -207,7 +207,7 @@ fn hear_come<A: Allocator, H: Host, L: Log>(
     }
 }
 
-/// Returns whether no more late answers are asked for in this turn, after `asked` earlier calls.
+/// Returns whether the turn asks for no more late answers, after `asked` earlier calls.
 fn is_last(late: &Option<(Id, Answer)>, asked: usize) -> bool
     requires { asked < LATE_LIMIT }
     ensures { result ≡ is_last late.now asked }
@@ -215,8 +215,8 @@ fn is_last(late: &Option<(Id, Answer)>, asked: usize) -> bool
     late.is_none() || asked + 1 == LATE_LIMIT
 }
 
-/// Asks for a late answer, after `asked` earlier calls in this turn. After the last call the round begins. Returns
-/// whether it was the last.
+/// Asks for a late answer, after `asked` earlier calls in this turn. Begins the round after the last call, and
+/// returns whether this was the last.
 fn hear_late<A: Allocator, H: Host, L: Log>(
     core: &mut Core<A>,
     edge: &mut Edge<H, L>,
@@ -240,7 +240,7 @@ fn hear_late<A: Allocator, H: Host, L: Log>(
     last
 }
 
-/// Takes the late answers, and begins the round.
+/// Handles the late answers, and then begins the round.
 pub(crate) fn hear_lates<A: Allocator, H: Host, L: Log>(core: &mut Core<A>, edge: &mut Edge<H, L>)
     ensures makes { MadeCallsLead L.state edge.old edge.new
         (λ calls. are_late_answers calls ≡ true)

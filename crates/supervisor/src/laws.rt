@@ -1,4 +1,4 @@
-//! Laws about openings, and about what a crash leaves.
+//! Laws about the start of a run, and about the state after a crash.
 
 ghost use Rattle.std.specs.Prelude.{◌≡◌, ◌∷◌, ◌++◌, List, Option, IsTrue, true};
 ghost use Rattle.std.specs.List.{list_all};
@@ -19,11 +19,11 @@ pub fn law_of_openings()
         (start_point table) }
 {}
 
-/// States what is left of a run from its opening on if init is killed during one of its calls.
+/// States which trace and which children remain if init is killed during one of the calls of a run.
 ///
 /// If the answers up to that call were possible, the trace at the call is sound and lawful. Each child that exists is
-/// in the trace, except at most one, whose start is open there. Each unreaped child of the trace exists, except at most
-/// one, whose look is being answered. The function does nothing: its contract is the law.
+/// in the trace, except at most one, whose start is open in the trace. Each unreaped child of the trace exists, except
+/// at most one, whose look the call was answering. The function does nothing: its contract is the law.
 pub fn law_of_a_crash()
     ensures { (level : Option Level) (table : List Entry) (later earlier : List HostCall)
         (next call : HostCall) → is_distinct table ≡ true
@@ -37,8 +37,8 @@ pub fn law_of_a_crash()
         (point_after (call ∷ earlier) (start_point table)).past }
 {}
 
-/// States that what holds of the trace at a call also holds of a file that lacks its newest happenings, if these come
-/// from looks that found nothing. The function does nothing: its contract is the law.
+/// States that the law of a crash also holds for a trace file that lacks the newest happenings, if these come from
+/// looks that found nothing. The function does nothing: its contract is the law.
 pub fn law_of_held_looks()
     ensures { (call : HostCall) (goal : Goal) (held past world : List Event) (last : Event)
         → IsTrue (list_all is_of_idle_look held) → LeftByCrash call goal (held ++ last ∷ past) world

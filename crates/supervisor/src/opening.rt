@@ -1,4 +1,4 @@
-//! A run from its opening on.
+//! A run from its start.
 
 ghost use Rattle.std.specs.Prelude.{◌≡◌, ◌≤◌, ◌<◌, List, Option, not, true, IfOk};
 ghost use Rattle.supervisor.specs.Words.{is_drained, opening_goal, opening_state, Entry, Level};
@@ -16,8 +16,8 @@ use std::marker::Model;
 use trace_events::{Happening, HappeningIn};
 use trace_log::Log;
 
-/// Init at its opening: its core, and the table in force as the log receives it. The core is on the heap, so that an
-/// opening costs its owner little.
+/// Init at the start of a run: its core, and the first happening for the log, which is the table in force. The core is
+/// on the heap, so an `Opening` is small.
 #[derive(Drop)]
 pub struct Opening<A: Allocator = Global> {
     core: Box<Core<A>, A>,
@@ -33,8 +33,8 @@ impl<A: Allocator> Model for Opening<A> {
 }
 
 impl<A: Allocator + Copy> Opening<A> {
-    /// Creates an opening with this table in force. The goal is the given level, if there is one, otherwise the table's
-    /// own. All memory that an opening needs is allocated here.
+    /// Creates an opening with this table in force. The goal is the given level, or else the default level of the
+    /// table, or else S. This allocates all the memory that an opening needs.
     pub fn new(alloc: A, table: Table<A>, level: Option<Level>) -> Result<Opening<A>, Memory>
         ensures { IfOk result (IsStartOver level table) }
     {
@@ -44,11 +44,10 @@ impl<A: Allocator + Copy> Opening<A> {
         Ok(Opening { core, told })
     }
 
-    /// Makes the given number of turns from the opening on, and returns how they ended, and init's core.
+    /// Makes up to the given number of turns from the start of the run, and returns how the run ended, and init's core.
     ///
-    /// The log receives the table in force first. With `drain`, the run ends after the first turn that leaves nothing
-    /// to do and nothing running. With `strict`, init rejects an inittab that is read again if one of its lines is
-    /// faulty.
+    /// The log receives the table in force first. With `drain`, the run ends after the first turn that leaves init
+    /// nothing to do and no child. With `strict`, a reread of inittab fails if one of its lines is faulty.
     pub fn serve<H: Host, L: Log, W: TurnObserver<A>>(
         self,
         alloc: A,
@@ -58,23 +57,22 @@ impl<A: Allocator + Copy> Opening<A> {
         strict: bool,
         watch: &mut W,
     ) -> (Served, Box<Core<A>, A>)
-        // The calls made to the host are those of `result.0.turns` turns from the opening on; if the host records its
-        // calls, they are the recorded ones. Suppose that the answers were possible (`is_allowed`). Then each text that
-        // was carried is that of init's state. Suppose also that these texts came back in a permitted way: unchanged,
-        // cut, replaced by one of another generation, or not at all. Then each call was permitted where it was made,
-        // and the trace is sound and breaks no law; this also holds up to each single call whose outcome the next call
-        // does not announce, whatever was answered later. The core observed after each turn tracks the trace so far.
-        // The returned core tracks the whole trace, and its records, corrected by the answers under way, are the
-        // unreaped children. The log took the trace from the opening on, or, if it failed, the part before its failure;
-        // when each call was made, it had taken everything up to that moment, or had failed. The level is settled after
-        // rounds of turns in which init receives no request that counts and reads no table, if as many of the rounds
-        // were undisturbed as were to come (`Arrives`).
+        // The calls to the host form `result.0.turns` turns from the start of the run; if the host records its calls,
+        // these are the recorded ones. Suppose that the answers were possible (`is_allowed`). Then each text handed
+        // over represents init's state. Suppose also that the host returned these texts in a permitted way: unchanged,
+        // cut short, replaced by a text of another generation, or not at all. Then init was allowed to make each call
+        // at its point, and the trace is sound and breaks no law; this also holds up to each single call, unless the
+        // next call announces its outcome, whatever the later answers. The core observed after each turn tracks the
+        // trace so far. The returned core tracks the whole trace, and the children in its records, corrected for the
+        // answers not yet told to init, are the unreaped children. The log accepted the trace from its start, or, if it
+        // failed, the part before its failure; at each call, it had accepted everything up to that moment, or had
+        // failed. The level is settled after rounds of turns in which init reads no table and receives no request that
+        // it does not ignore, if at least as many rounds were undisturbed as were to come (`SettlesWithin`).
         ensures trace { (level : Option Level) (table : List Entry) → IsStartOver level table self
             → MadeTurnsFromStart L.state edge.old edge.new
             level table (AreObservedTurns strict drain level table result.0.turns (W.seen watch.old)
             (W.seen watch.new)) result.1.value }
-        // It makes the given number of turns, and fewer only if it was to end when init is drained, and init is
-        // drained.
+        // The number of turns is the given one, or less only if `drain` is set and init is drained.
         ensures most { result.0.turns ≤ turns }
         ensures fewer { result.0.turns < turns → (drain ≡ true) × (result.0.drained ≡ true) }
         ensures drained { result.0.drained ≡ is_drained result.1.value }

@@ -77,7 +77,7 @@ fn signal<A: Allocator, H: Host, L: Log>(
     hear_reply(core, edge, id, &reply);
 }
 
-/// Gives the host an order about the id, and handles its reply.
+/// Gives the host an order for the id, and handles its reply.
 pub(crate) fn order<A: Allocator + Copy, H: Host, L: Log>(
     alloc: A,
     core: &mut Core<A>,

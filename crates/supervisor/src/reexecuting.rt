@@ -1,4 +1,4 @@
-//! Re-executing init (telinit(8), `u`): its state is handed over as a text, carried, and taken over.
+//! Re-executes init (telinit(8), `u`): hands its state over as a text, and takes over the text that comes back.
 
 ghost use Rattle.std.specs.Prelude.{◌≡◌, ◌∷◌, ℕ, IsTrue, true, List, Some, Ok};
 ghost use Rattle.trace_events.specs.declared.happenings.Happening.TheVariants as happening;
@@ -18,8 +18,8 @@ use std::alloc::Allocator;
 use trace_events::{Handed, Happening};
 use trace_log::Log;
 
-/// Returns the outcome of a text that did not come back unchanged: `Cut` if what came back is a proper prefix of the
-/// text, otherwise `Failed`.
+/// Returns the outcome for a text that did not come back unchanged: `Cut` if a proper prefix of it came back, and
+/// otherwise `Failed`.
 fn cut_back(text: &[u8], back: &[u8]) -> Handed
     ensures { IsTrue (is_outcome result text.now (Ok back.now)) }
 {
@@ -30,7 +30,7 @@ fn cut_back(text: &[u8], back: &[u8]) -> Handed
     }
 }
 
-/// Returns the outcome if what came back is a text of another generation.
+/// Returns the outcome if a text of another generation came back.
 fn older_back(back: &[u8]) -> Handed
     ensures { (text : List ℕ) (generation : ℕ) → generation_of text ≡ Some generation
         → IsOther back.now generation → IsTrue (is_outcome result text (Ok back.now)) }
@@ -41,8 +41,8 @@ fn older_back(back: &[u8]) -> Handed
     }
 }
 
-/// Returns the outcome if what came back was rejected for the reason `why`. A text that came back cut is rejected
-/// because it is cut.
+/// Returns the outcome if the returned text `back` was rejected for the reason `why`. A text that came back cut short
+/// is rejected because it is cut.
 fn refused(text: &[u8], back: &[u8], why: StateFault) -> Handed
     ensures { (state : SavedState) → IsTextOf text.now state
         → NotTaken back.now state.fields.generation why → (IsCut back.now → why ≡ fault.Cut)
@@ -55,7 +55,7 @@ fn refused(text: &[u8], back: &[u8], why: StateFault) -> Handed
     }
 }
 
-/// Takes over what came back of the text, and returns the outcome. If it is rejected, the core is unchanged.
+/// Takes over the state in the returned text `back`, and returns the outcome. If it is rejected, the core is unchanged.
 fn take_back<A: Allocator + Copy>(alloc: A, core: &mut Core<A>, text: &[u8], back: &[u8]) -> Handed
     ensures comes { HandOverYields result text.now (Ok back.now) core.old core.new }
     ensures short { has_short_seconds core.old ≡ true → has_short_seconds core.new ≡ true }
@@ -69,7 +69,7 @@ fn take_back<A: Allocator + Copy>(alloc: A, core: &mut Core<A>, text: &[u8], bac
     }
 }
 
-/// Carries the text of the core's state, takes over what comes back, and returns the outcome.
+/// Hands over the text of the core's state, takes over the text that comes back, and returns the outcome.
 fn carry<A: Allocator + Copy, H: Host, L: Log>(
     alloc: A,
     core: &mut Core<A>,
@@ -105,7 +105,7 @@ fn tell<H: Host, L: Log>(edge: &mut Edge<H, L>, how: Handed)
     }
 }
 
-/// Handles a re-execution for which no text was made: init continues unchanged.
+/// Handles a re-execution for which init could not make a text: init continues unchanged.
 fn not_handed<A: Allocator, H: Host, L: Log>(core: &mut Core<A>, edge: &mut Edge<H, L>)
     ensures makes { MadeCallsLead L.state edge.old edge.new
         IsStep (TookFirstDueStep (Tracks core.old) step.Reexec) (Tracks core.new) }
@@ -117,7 +117,7 @@ fn not_handed<A: Allocator, H: Host, L: Log>(core: &mut Core<A>, edge: &mut Edge
     tell(edge, Handed::Failed);
 }
 
-/// Re-executes init. If no text is made, or what comes back is rejected, init continues unchanged.
+/// Re-executes init. If init cannot make the text, or rejects the text that comes back, it continues unchanged.
 pub(crate) fn reexec<A: Allocator + Copy, H: Host, L: Log>(
     alloc: A,
     core: &mut Core<A>,

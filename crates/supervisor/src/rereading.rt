@@ -1,4 +1,4 @@
-//! Reading the inittab again while init runs (telinit(8), `q`).
+//! Reads inittab again while init runs (telinit(8), `q`).
 
 ghost use Rattle.std.specs.Prelude.{◌≡◌, ◌∷◌, [], true, false, List, Ok};
 ghost use Rattle.init_words.specs.Parts.{texts_of};

@@ -16,17 +16,17 @@ use trace_log::Log;
 
 /// Observes init's core after each turn, before the pause.
 pub trait TurnObserver<A: Allocator> {
-    /// The cores that it observed, newest first. `None` from the first observation on that is not recorded.
+    /// The cores observed so far, newest first, or `None` if some observation was not recorded.
     ghost seen: { Self → Option (List CoreState) };
 
     /// Observes init's core after a turn.
     fn look(&mut self, core: &Core<A>)
-        // it records that it observed this core, or records nothing from here on
+        // records that it observed this core, or records nothing from this point on
         ensures seen { NewCallsSatisfy (seen self.old) (seen self.new)
             (λ cores. cores ≡ core.now ∷ []) };
 }
 
-/// Observes nothing.
+/// An observer that ignores all cores.
 pub struct IgnoringObserver {}
 
 impl<A: Allocator> TurnObserver<A> for IgnoringObserver {
@@ -40,22 +40,22 @@ impl<A: Allocator> TurnObserver<A> for IgnoringObserver {
 /// How a run of turns ended.
 #[derive(Clone, Copy, PartialEq, Eq)]
 pub struct Served {
-    /// The number of turns that were made.
+    /// The number of turns made.
     pub turns: u64,
-    /// Whether nothing is left to do and nothing runs.
+    /// Whether init has nothing left to do and no child.
     pub drained: bool,
-    /// Whether the log took the whole trace.
+    /// Whether the log accepted the whole trace.
     pub logged: bool,
 }
 
 /// Makes one turn of init, and returns whether nothing is due after it.
 ///
-/// A turn reads the clock, takes up to 4,096 bytes of requests and up to 4,096 late answers, begins a round, and
-/// carries out init's steps until none is due, at most 10,000.
+/// A turn reads the clock, up to 4,096 bytes of requests and up to 4,096 late answers, begins a round, and carries out
+/// init's steps until none is due, at most 10,000.
 ///
-/// If the clock, the bytes, an announcement or the log fails, the turn continues without it. A start, look or signal
-/// that fails is answered as failed. If inittab cannot be read, or its table cannot be put in force, the table in force
-/// stays; with `strict`, also if a line is faulty.
+/// If the clock, the bytes, an announcement or the log fails, the turn continues without it. The answer to a start,
+/// look or signal that fails says so. If inittab cannot be read, or its table cannot be put in force, the table in
+/// force stays; with `strict`, also if a line is faulty.
 pub fn turn<A: Allocator + Copy, H: Host, L: Log>(
     alloc: A,
     core: &mut Core<A>,
@@ -63,15 +63,16 @@ pub fn turn<A: Allocator + Copy, H: Host, L: Log>(
     blocks: &mut Blocks,
     strict: bool,
 ) -> bool
-    // The calls made to the host are those of a turn; if the host records its calls, they are the recorded ones.
-    // Suppose that init's core tracked a sound trace, and that the answers were possible (`is_allowed`). Then each text
-    // that was carried is that of init's state. Suppose also that these texts came back in a permitted way: unchanged,
-    // cut, replaced by one of another generation, or not at all. Then each call was permitted where it was made, and
-    // the trace is sound and breaks no law; this also holds up to each single call whose outcome the next call does not
-    // announce, whatever was answered later. Init's core tracks the new trace, its records, corrected by the answers
-    // under way, are the unreaped children, and if the result is true, nothing is due. If the seconds in the trace are
-    // at most 3,600, the log took what the turn added to it, or, if it failed, the part before its failure; when each
-    // call was made, it had taken everything up to that moment, or had failed.
+    // The calls to the host form a turn; if the host records its calls, these are the recorded ones. Suppose that
+    // init's core tracked a sound trace, and that the answers were possible (`is_allowed`). Then each text handed over
+    // represents init's state. Suppose also that the host returned these texts in a permitted way: unchanged, cut
+    // short, replaced by a text of another generation, or not at all. Then init was allowed to make each call at its
+    // point, and the trace is sound and breaks no law; this also holds up to each single call, unless the next call
+    // announces its outcome, whatever the later answers. Init's core tracks the new trace; the children in its records,
+    // corrected for the answers not yet told to init, are the unreaped children; and if the result is true, nothing is
+    // due. If the grace periods in the trace are at most 3,600 seconds, the log accepted what the turn added to the
+    // trace, or, if it failed, the part before its failure; at each call, it had accepted everything up to that moment,
+    // or had failed.
     ensures makes { MadeCallsLead L.state edge.old edge.new
         (IsTurn strict result) (TracksPoint core.old blocks.old)
         (HoldsAfterTurn result core.new blocks.new) }
@@ -86,7 +87,7 @@ pub fn turn<A: Allocator + Copy, H: Host, L: Log>(
     take_steps(alloc, core, edge, strict)
 }
 
-/// Returns whether the run is to end when init is drained, and init is drained.
+/// Returns whether `drain` is set and init is drained, so the run ends.
 fn is_over<A: Allocator>(core: &Core<A>, drain: bool) -> bool
     ensures { result ≡ (drain && is_drained core.now) }
 {
@@ -109,9 +110,9 @@ fn served_so_far<A: Allocator, H: Host, L: Log>(
     }
 }
 
-/// Makes the given number of turns, with an observation and a pause after each.
+/// Makes up to the given number of turns, with an observation and a pause after each.
 ///
-/// With `drain`, the run ends after the first turn that leaves nothing to do and nothing running. With `strict`, init
+/// With `drain`, the run ends after the first turn that leaves init nothing to do and no child. With `strict`, init
 /// rejects an inittab that has a faulty line.
 pub fn serve<A: Allocator + Copy, H: Host, L: Log, W: TurnObserver<A>>(
     alloc: A,
@@ -122,24 +123,25 @@ pub fn serve<A: Allocator + Copy, H: Host, L: Log, W: TurnObserver<A>>(
     strict: bool,
     watch: &mut W,
 ) -> Served
-    // The calls made to the host are those of `result.turns` turns; if the host records its calls, they are the
-    // recorded ones. With `drain`, only the last turn left init drained. Suppose that init's core tracked a sound trace
-    // in which no block of requests was incomplete, and that the answers were possible (`is_allowed`). Then each text
-    // that was carried is that of init's state. Suppose also that these texts came back in a permitted way: unchanged,
-    // cut, replaced by one of another generation, or not at all. Then each call was permitted where it was made, and
-    // the trace is sound and breaks no law; this also holds up to each single call whose outcome the next call does not
-    // announce, whatever was answered later. The core observed after each turn tracks the trace so far. The core at the
-    // end tracks the whole trace, and its records, corrected by the answers under way, are the unreaped children. If
-    // the seconds in the trace are at most 3,600, the log took what the turns added to it, or, if it failed, the part
-    // before its failure; when each call was made, it had taken everything up to that moment, or had failed.
+    // The calls to the host form `result.turns` turns; if the host records its calls, these are the recorded ones. With
+    // `drain`, only the last turn can have left init drained. Suppose that init's core tracked a sound trace, that no
+    // block of requests was incomplete, and that the answers were possible (`is_allowed`). Then each text handed over
+    // represents init's state. Suppose also that the host returned these texts in a permitted way: unchanged, cut
+    // short, replaced by a text of another generation, or not at all. Then init was allowed to make each call at its
+    // point, and the trace is sound and breaks no law; this also holds up to each single call, unless the next call
+    // announces its outcome, whatever the later answers. The core observed after each turn tracks the trace so far. The
+    // core at the end tracks the whole trace; the children in its records, corrected for the answers not yet told to
+    // init, are the unreaped children. If the grace periods in the trace are at most 3,600 seconds, the log accepted
+    // what the turns added to the trace, or, if it failed, the part before its failure; at each call, it had accepted
+    // everything up to that moment, or had failed.
     ensures trace { MadeCallsLead L.state edge.old edge.new
         (MadeTurns strict drain (TracksAtBlockStart core.old) result.turns (W.seen watch.old)
         (W.seen watch.new))
         (TracksAtBlockStart core.old) (HoldsAfterTurns core.new) }
-    // the requests in the trace are exactly those of all bytes that were taken, in order
+    // the requests in the trace are exactly the requests in all bytes read, in order
     ensures requests { NewCallsSatisfy edge.old.told edge.new.told (λ made_calls. (p : Point)
         → p.over ≡ [] → Brings [] (calls_of made_calls) p) }
-    // It makes the given number of turns, and fewer only if it was to end when init is drained, and init is drained.
+    // The number of turns is the given one, or less only if `drain` is set and init is drained.
     ensures most { result.turns ≤ turns }
     ensures fewer { result.turns < turns → (drain ≡ true) × (result.drained ≡ true) }
     ensures drained { result.drained ≡ is_drained core.new }

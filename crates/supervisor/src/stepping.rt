@@ -21,7 +21,7 @@ fn is_idle(step: &Step) -> bool
     matches!(step, Step::Idle)
 }
 
-/// Carries out a step that is only written to the log and announced.
+/// Carries out a step that init only writes to the log and announces.
 fn tell<H: Host, L: Log>(edge: &mut Edge<H, L>, happening: Happening)
     ensures makes { (core : CoreState) (made : Step) → AnnouncesStep made happening
         → MadeCallsLead L.state edge.old edge.new
@@ -82,7 +82,7 @@ fn take_step<A: Allocator + Copy, H: Host, L: Log>(
     is_idle(&step)
 }
 
-/// Carries out init's steps until nothing is due, or as many as a turn may take, and returns whether nothing is due.
+/// Carries out init's steps until nothing is due or the limit of a turn is reached, and returns whether nothing is due.
 pub(crate) fn take_steps<A: Allocator + Copy, H: Host, L: Log>(
     alloc: A,
     core: &mut Core<A>,
