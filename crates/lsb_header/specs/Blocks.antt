@@ -36,7 +36,7 @@ block_of (line ∷ lines) = if is_end line then [] else line ∷ block_of lines
 abbrev pub block_in : List ℕ → List (List ℕ)
 block_in body = block_of (lines_of body)
 
--- a keyword that occurred before is a fault
+-- the fault of a repeated keyword
 abbrev pub twice_fault : List Keyword → Option (Keyword × List ℕ) → Option HeaderFault
 twice_fault seen None = None
 twice_fault seen (Some known) = if list_any (same_keyword known.0) seen then Some (fault.Twice known.0) else None
@@ -46,7 +46,7 @@ abbrev pub line_fault : List Keyword → ℕ → List ℕ → Option HeaderFault
 line_fault seen number line =
     if not (is_line line) then Some (fault.BadLine number) else twice_fault seen (known_of line)
 
--- the keywords, with that of a line appended if it has one
+-- the keywords, followed by the keyword of a line if it has one
 abbrev pub with_known : List Keyword → Option (Keyword × List ℕ) → List Keyword
 with_known seen None = seen
 with_known seen (Some known) = seen ++ known.0 ∷ []
@@ -55,7 +55,7 @@ with_known seen (Some known) = seen ++ known.0 ∷ []
 abbrev pub seen_after : List Keyword → List ℕ → List Keyword
 seen_after seen line = with_known seen (known_of line)
 
--- the first fault of the lines, of which the first has this number
+-- the first fault of the lines; the first line has this number
 abbrev pub block_fault : List Keyword → ℕ → List (List ℕ) → Option HeaderFault
 block_fault seen number [] = None
 block_fault seen number (line ∷ lines) =
@@ -66,7 +66,7 @@ abbrev pub args_of : Keyword → List (List ℕ) → Option (List ℕ)
 args_of keyword [] = None
 args_of keyword (line ∷ lines) = option_or (args_in keyword line) (args_of keyword lines)
 
--- the runlevel that a word stands for, if it is a single character that names a runlevel
+-- the runlevel that a word names, if it is a single character that names a runlevel
 abbrev pub level_in : List ℕ → Option Level
 level_in [] = None
 level_in (code ∷ []) = level_read code
@@ -85,7 +85,7 @@ continued (line ∷ lines) =
     else if is_indented line then 32 ∷ (trim (drop 1 line) ++ continued lines)
     else []
 
--- the description that begins here, or otherwise the one of the later lines
+-- the description that begins in this line, or else the description in the later lines
 abbrev pub described : Option (List ℕ) → List ℕ → List ℕ → List ℕ
 described None more later = later
 described (Some text) more later = trim text ++ more

@@ -4,11 +4,11 @@ use Rattle.lsb_header.specs.declared.faults.HeaderFault.{HeaderFault}
 use Rattle.lsb_header.specs.declared.faults.HeaderFault.TheVariants as fault
 use Rattle.lsb_header.specs.Keywords.{word_of}
 
--- the fault that was found is the one that is due, unless memory ran out
+-- the fault found is the expected one, unless memory ran out
 abbrev pub IsDue : Option HeaderFault → HeaderFault → Type 0
 IsDue due found = found ≢ fault.Memory → due ≡ Some found
 
--- the message: the reason, the number of the line if the fault has one, and what is expected there
+-- the message: the reason, the number of the line if the fault has one, and what that line should be
 abbrev pub fault_text : HeaderFault → List ℕ
 fault_text fault.NoBegin = codes "no line \"### BEGIN INIT INFO\""
 fault_text fault.NoEnd = codes "no line \"### END INIT INFO\" after \"### BEGIN INIT INFO\""

@@ -14,8 +14,8 @@ pub record HeaderText : Type 0 where
   pub short_description : List ℕ
   pub description : List ℕ
 
--- the header of a facility: it provides these names, has no runlevels, and comes after some names at the start and
--- before others at the stop, if they are present
+-- the header of a facility: it provides these names, has no runlevels, starts after some names and stops before others,
+-- if they are present
 abbrev pub facility_header : (provides should_start should_stop : List (List ℕ)) → HeaderText
 facility_header provides should_start should_stop = record {
   provides = provides;

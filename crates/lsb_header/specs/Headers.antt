@@ -37,7 +37,7 @@ header_of block = record {
   description = description_of block;
 }
 
--- the header of these lines, unless one of them has a fault
+-- the header in these lines, unless one of them has a fault
 abbrev pub checked : Option HeaderFault → List (List ℕ) → Result HeaderText HeaderFault
 checked (Some found) block = Err found
 checked None block = if is_empty (header_of block).provides then Err fault.NoProvides else Ok (header_of block)

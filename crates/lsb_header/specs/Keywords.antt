@@ -21,7 +21,7 @@ keywords =
     keyword.Provides ∷ keyword.RequiredStart ∷ keyword.RequiredStop ∷ keyword.ShouldStart ∷ keyword.ShouldStop
     ∷ keyword.DefaultStart ∷ keyword.DefaultStop ∷ keyword.ShortDescription ∷ keyword.Description ∷ []
 
--- the keyword that a word stands for, in any ASCII case
+-- the keyword that a word names, in any ASCII case
 unfoldable pub keyword_read : List ℕ → Option Keyword
 keyword_read word = find (λ k. str_eq_ignore_ascii_case (word_of k) word) keywords
 

@@ -18,7 +18,7 @@ fn is_seen(seen: &[Keyword], keyword: Keyword) -> bool
     seen.iter().any(|other| keyword.is(*other))
 }
 
-/// Checks a line after others that had these keywords, and returns its text.
+/// Checks a line, given the keywords of the lines before it, and returns its text.
 fn check_line<'t, A: Allocator>(
     seen: &mut Vec<Keyword, A>,
     number: usize,

@@ -6,7 +6,8 @@ use std::alloc::AllocFailed;
 use std::error::Error;
 use std::fmt;
 
-/// Why a header was not read. These are the checks, in order; the first that fails is the fault.
+/// The reason why a header was rejected. The variants are in the order of the checks; the first check that fails
+/// determines the fault.
 #[derive(Clone, Copy, Debug, PartialEq, Eq)]
 pub enum HeaderFault {
     /// No line is `### BEGIN INIT INFO`.

@@ -116,8 +116,8 @@ impl<A: Allocator> Header<A> {
 }
 
 impl<A: Allocator + Copy> Header<A> {
-    /// Creates the header of a facility: it provides these names, has no runlevels, and comes after some names at the
-    /// start and before others at the stop, if they are present.
+    /// Creates the header of a facility: it provides these names, has no runlevels, starts after some names and stops
+    /// before others, if they are present.
     pub fn facility(
         alloc: A,
         provides: Vec<String<A>, A>,
@@ -185,7 +185,7 @@ pub fn read<A: Allocator + Copy>(alloc: A, text: &[u8]) -> Result<Header<A>, Hea
     ensures header { IfOk result (λ header. header_read text.now ≡ Ok header) }
     ensures fault { IfErr result (λ fault.
         fault ≢ HeaderFault.Memory → header_read text.now ≡ Err fault) }
-    // If the first or the last line of the header is missing, no memory is needed to report that.
+    // Reporting that the first or the last line of the header is missing needs no memory.
     ensures frame { IfSome (frame_fault text.now) (λ fault. result ≡ Err fault) }
 {
     let Some((number, body)) = find_header(text) else {

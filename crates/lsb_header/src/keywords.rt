@@ -57,7 +57,7 @@ impl Keyword {
         self == other
     }
 
-    /// Returns the keyword that a word stands for, in any ASCII case.
+    /// Returns the keyword that a word names, in any ASCII case.
     #[tactic(auto, unfolding(crate::specs::Keywords::keyword_read))]
     pub fn read(word: &[u8]) -> Option<Keyword>
         ensures { result ≡ keyword_read word.now }

@@ -1,5 +1,5 @@
-//! Reads the comment block at the beginning of an init script (LSB Core 5.0, System Initialization): what the script
-//! provides, what it needs, the runlevels in which it is started and stopped, and its two descriptions.
+//! Reads the comment block at the beginning of an init script (LSB Core 5.0, System Initialization): the names
+//! that the script provides and needs, the runlevels in which it is started and stopped, and its two descriptions.
 #![tactic(auto)]
 
 mod blocks;

@@ -39,7 +39,7 @@ pub(crate) fn words_of<A: Allocator + Copy>(
     Ok(words)
 }
 
-/// Returns the runlevel that a word stands for, if it is a single character that names a runlevel.
+/// Returns the runlevel that a word names, if it is a single character that names a runlevel.
 fn level_in(word: &str) -> Option<Level>
     ensures { result ≡ level_in word.now }
 {

@@ -1,4 +1,4 @@
--- `$all` as a facility: scripts that name it come after all others at the start, and before them at the stop.
+-- `$all` as a facility: scripts that name it start after all other scripts, and stop before them.
 use Rattle.std.specs.Prelude.{ℕ, Bool, ◌||◌, if◌then◌else◌, List, [], ◌∷◌, codes}
 use Rattle.std.specs.List.{flat_map, list_any}
 use Rattle.lsb_header.specs.HeaderText.{facility_header}
@@ -19,7 +19,7 @@ names_all phase.Stop s = has_all s.header.required_stop || has_all s.header.shou
 abbrev pub other_names : Phase → ScriptText → List (List ℕ)
 other_names turn s = if names_all turn s then [] else s.header.provides
 
--- these names of all scripts, if one of them names `$all`
+-- the names provided by the scripts that do not name `$all`, if some script names it
 abbrev pub others : Phase → List ScriptText → List (List ℕ)
 others turn scripts = if list_any (names_all turn) scripts then flat_map (other_names turn) scripts else []
 
@@ -30,6 +30,6 @@ all_facility scripts = record {
   header = facility_header (codes "$all" ∷ []) (others phase.Start scripts) (others phase.Stop scripts);
 }
 
--- the scripts that are planned: if those that name `$all` are to come last, with the facility before all others
+-- the scripts to plan: with `last`, the facility that provides `$all` comes first, so scripts that name it come last
 abbrev pub with_all : Bool → List ScriptText → List ScriptText
 with_all last scripts = if last then all_facility scripts ∷ scripts else scripts

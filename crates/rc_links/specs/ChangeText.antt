@@ -3,7 +3,7 @@ use Rattle.init_words.specs.declared.levels.Level.{Level}
 use Rattle.rc_links.specs.EntryText.{EntryText}
 use Rattle.rc_links.specs.declared.folders.LinkAction.{LinkAction}
 
--- an entry of the folder is removed or created
+-- the removal or creation of an entry of the folder
 pub record ChangeText : Type 0 where
   pub act : LinkAction
   pub level : Level

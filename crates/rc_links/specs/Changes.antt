@@ -1,4 +1,4 @@
--- The entries of a folder that are removed and created so that it holds exactly the links of the plan.
+-- The changes to a folder after which it holds exactly the links of the plan.
 use Rattle.std.specs.Prelude.{ℕ, Vec, Bool, false, not, ◌==◌, ◌&&◌, ◌||◌, List, ◌∷◌, ◌++◌, map}
 use Rattle.std.specs.Char.{is_ascii_digit}
 use Rattle.std.specs.List.{filter, list_any}
@@ -32,11 +32,11 @@ is_taken targets planned e = has_name e.name planned && not (is_ours targets e)
 abbrev pub is_stale : List (List ℕ) → List EntryText → EntryText → Bool
 is_stale targets planned e = is_ours targets e && not (list_any (same_entry e) planned)
 
--- such a link with the name of a link of the plan, so it has to be removed before that is created
+-- a stale link with the name of a link of the plan, so it must be removed before that link is created
 abbrev pub is_in_way : List (List ℕ) → List EntryText → EntryText → Bool
 is_in_way targets planned e = is_stale targets planned e && has_name e.name planned
 
--- such a link that can stay until the links of the plan are created
+-- a stale link that can stay until the links of the plan are created
 abbrev pub is_left_over : List (List ℕ) → List EntryText → EntryText → Bool
 is_left_over targets planned e = is_stale targets planned e && not (has_name e.name planned)
 
@@ -50,16 +50,16 @@ removal level e = change_of Remove level e
 abbrev pub making : Level → EntryText → ChangeText
 making level e = change_of Make level e
 
--- the changes of a folder: links in the way are removed, then the missing links are created, and then the other stale
--- links are removed
+-- the changes to a folder: remove the links in the way, then create the missing links, and then remove the other stale
+-- links
 abbrev pub changes_of : List (List ℕ) → FolderText → List ChangeText
 changes_of targets f =
     map (removal f.level) (filter (is_in_way targets f.planned) f.held)
     ++ map (making f.level) (filter (is_missing f.held) f.planned)
     ++ map (removal f.level) (filter (is_left_over targets f.planned) f.held)
 
--- what a folder holds after the changes: its entries without the stale links, and then the links of the plan that were
--- missing
+-- the entries of a folder after the changes: its entries without the stale links, and then the links of the plan that
+-- were missing
 abbrev pub settled : List (List ℕ) → List EntryText → List EntryText → List EntryText
 settled targets planned held =
     filter (λ e. not (is_stale targets planned e)) held ++ filter (is_missing held) planned

@@ -1,4 +1,4 @@
--- The faults of the steps of planning.
+-- The faults that planning can report.
 use Rattle.std.specs.Prelude.{string_bytes, ◌≡◌, ◌⊎◌, ℕ, ◌<◌, List, Option, Some, None, IfSome, map}
 use Rattle.rc_links.specs.declared.planning.TheConstants.{NUMBER_LIMIT}
 use Rattle.rc_links.specs.declared.needs.Phase.{Phase}
@@ -7,14 +7,14 @@ use Rattle.rc_links.specs.declared.faults.PlanFault.TheVariants as fault
 use Rattle.rc_links.specs.ScriptText.{ScriptText}
 use Rattle.rc_links.specs.Plans.{IsCycleOf, IsDeep}
 
--- what is wrong with scripts
+-- the errors that scripts can have
 pub data Wrong : Type 0 where
   Double : List ℕ → Wrong
   Missing : List ℕ → Wrong
   Round : List (List ℕ) → Wrong
   Deep : Wrong
 
--- what a fault says is wrong; nothing if memory ran out
+-- the error in the scripts that a fault reports; none if memory ran out
 abbrev pub wrong_of : {A : Type 0} → PlanFault A → Option Wrong
 wrong_of (fault.DoubleProvide name) = Some (Double (string_bytes name))
 wrong_of (fault.Missing name) = Some (Missing (string_bytes name))
@@ -22,11 +22,11 @@ wrong_of (fault.Cycle names) = Some (Round (map string_bytes names.items))
 wrong_of fault.TooDeep = Some Deep
 wrong_of fault.Memory = None
 
--- the fault says something wrong for which the property holds, or memory ran out
+-- the fault reports an error for which the property holds, or memory ran out
 abbrev pub FaultSatisfies : {A : Type 0} → (Wrong → Type 0) → PlanFault A → Type 0
 FaultSatisfies P found = IfSome (wrong_of found) P
 
--- the names are those of a cycle
+-- the error is a cycle of scripts with these names
 abbrev pub IsRound : Phase → List ScriptText → Wrong → Type 0
 IsRound turn scripts wrong = (names : List (List ℕ)) × (wrong ≡ Round names) × IsCycleOf turn scripts names
 
@@ -38,10 +38,10 @@ IsTooDeep start stop wrong = (wrong ≡ Deep) × ((NUMBER_LIMIT < start) ⊎ (NU
 abbrev pub IsAnyDeep : List ℕ → List ℕ → Wrong → Type 0
 IsAnyDeep starts stops wrong = (wrong ≡ Deep) × (IsDeep starts ⊎ IsDeep stops)
 
--- the name that is due is provided twice
+-- the error is that the expected name is provided twice
 abbrev pub IsDouble : Option (List ℕ) → Wrong → Type 0
 IsDouble due wrong = (name : List ℕ) × (due ≡ Some name) × (wrong ≡ Double name)
 
--- the name that is due is missing
+-- the error is that the expected name is missing
 abbrev pub IsMissing : Option (List ℕ) → Wrong → Type 0
 IsMissing due wrong = (name : List ℕ) × (due ≡ Some name) × (wrong ≡ Missing name)

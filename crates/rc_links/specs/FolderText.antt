@@ -3,7 +3,7 @@ use Rattle.std.specs.Prelude.{List}
 use Rattle.init_words.specs.declared.levels.Level.{Level}
 use Rattle.rc_links.specs.EntryText.{EntryText}
 
--- the links that the plan has in it, and the entries that it holds
+-- the runlevel, the links that the plan puts in the folder, and the entries that the folder holds
 pub record FolderText : Type 0 where
   pub level : Level
   pub planned : List EntryText

@@ -23,7 +23,7 @@ target_in leads = if bytes_eq (take 10 leads) (codes "../init.d/") then drop 10 
 abbrev pub is_link_of : ℕ → List ℕ → EntryText → Bool
 is_link_of letter name e = begins_with letter e.name && (is_numbered e.name && bytes_eq (target_in e.leads) name)
 
--- the runlevels of the folders that hold such a link
+-- the runlevels of the folders that hold a link with the letter to the script of this name
 abbrev pub levels_in : ℕ → List ℕ → List FolderText → List Level
 levels_in letter name folders =
     map (λ (f : FolderText). f.level) (filter (λ (f : FolderText). list_any (is_link_of letter name) f.held) folders)
@@ -33,7 +33,7 @@ abbrev pub is_nowhere : List Level → List Level → Bool
 is_nowhere [] [] = true
 is_nowhere _ _ = false
 
--- a script that is started and stopped in these runlevels, if there are any
+-- the script, with its runlevels replaced by these, if there are any
 abbrev pub with_levels : List Level → List Level → PlannedText → PlannedText
 with_levels starts stops s = if is_nowhere starts stops then s else record s { starts = starts; stops = stops }
 
@@ -45,6 +45,6 @@ kept_script folders s = with_levels (levels_in (byte "S") s.name folders) (level
 abbrev pub kept_plan : List FolderText → List PlannedText → List PlannedText
 kept_plan folders plan = map (kept_script folders) plan
 
--- the entry points to an init script that is none of these
+-- the entry is a link to an init script that is not among these
 abbrev pub is_gone : List EntryText → EntryText → Bool
 is_gone scripts e = is_name (target_in e.leads) && not (has_name (target_in e.leads) scripts)

@@ -1,4 +1,4 @@
--- What folders hold when only some of their changes were made, and what the next run makes of that.
+-- The entries of folders after only some of the changes were made, and the effect of the next run on them.
 use Rattle.std.specs.Prelude.{◌≡◌, ℕ, false, not, ◌&&◌, if◌then◌else◌, List, [], ◌∷◌, ◌++◌}
 use Rattle.std.specs.List.{AllByRecursion, filter, list_any}
 use Rattle.std.specs.Str.{byte}
@@ -13,12 +13,12 @@ use Rattle.rc_links.specs.Kept.{is_link_of}
 use Rattle.rc_links.specs.declared.folders.LinkAction.{LinkAction}
 use Rattle.rc_links.specs.declared.folders.LinkAction.TheVariants.{Make, Remove}
 
--- the entries after this one was removed or created
+-- the entries after the removal or creation of this entry
 abbrev pub changed : LinkAction → EntryText → List EntryText → List EntryText
 changed Remove e es = filter (λ other. not (same_entry e other)) es
 changed Make e es = es ++ e ∷ []
 
--- what the folder of a runlevel holds after changes, of which each applies only to the folder of its runlevel
+-- the entries of the folder of a runlevel after changes; each change applies only to the folder of its runlevel
 abbrev pub held_behind : List ChangeText → Level → List EntryText → List EntryText
 held_behind [] level es = es
 held_behind (c ∷ changes) level es =
@@ -44,7 +44,7 @@ abbrev pub IsMended : List (List ℕ) → List ChangeText → FolderText → Typ
 IsMended targets changes f =
     HoldSame (settled targets f.planned (behind changes f).held) (settled targets f.planned f.held)
 
--- the plan and the folder both have a link with the letter to the script, or neither has; and no such link of the
+-- the plan and the folder both have a link with the letter to the script, or neither has one; and no such link in the
 -- folder is in the way
 pub record StaysIn (targets : List (List ℕ)) (letter : ℕ) (name : List ℕ) (f : FolderText) : Type 0 where
   pub both : list_any (is_link_of letter name) f.planned ≡ list_any (is_link_of letter name) f.held

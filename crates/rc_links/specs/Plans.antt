@@ -1,4 +1,4 @@
--- The plan for scripts, and why there is none (LSB Core 5.0).
+-- The plan for scripts, and the reasons why scripts have no plan (LSB Core 5.0).
 use Rattle.std.specs.Prelude.{string_bytes, ◌≡◌, ◌⊎◌, ℕ, ◌<◌, ◌≤◌, List, [], ◌∷◌, map, find, get_or, length, Option}
 use Rattle.std.specs.Prelude.{Some, None}
 use Rattle.std.specs.List.{AllByRecursion}
@@ -45,7 +45,7 @@ pub record IsPlan (scripts : List ScriptText) (plan : List PlannedText) : Type 0
 abbrev pub planned_named : List ℕ → List PlannedText → Option PlannedText
 planned_named name plan = find (λ s. bytes_eq s.name name) plan
 
--- a script with these numbers
+-- a script with its runlevels and these numbers
 abbrev pub planned : ScriptText → ℕ → ℕ → PlannedText
 planned s start stop = record {
   name = s.name;
@@ -66,7 +66,7 @@ planned_all (s ∷ scripts) (start ∷ starts) (stop ∷ stops) = planned s star
 abbrev pub names_at : List ScriptText → List ℕ → List (List ℕ)
 names_at scripts places = map (λ position. get_or (map (λ s. s.name) scripts) position []) places
 
--- the names are those of a cycle, and there is no numbering
+-- the names form a cycle, so there is no numbering
 pub record IsCycleOf (turn : Phase) (scripts : List ScriptText) (names : List (List ℕ)) : Type 0 where
   pub places : List ℕ
   pub named : names ≡ names_at scripts places

@@ -1,4 +1,5 @@
--- What scripts provide and need (LSB Core 5.0). A script is represented by its position in the list, counted from 0.
+-- The names that scripts provide and need (LSB Core 5.0). A script is represented by its position in the list, counted
+-- from 0.
 use Rattle.std.specs.Prelude.{ℕ, ◌+◌, Bool, false, not, ◌==◌, ◌&&◌, if◌then◌else◌, List, [], ◌∷◌, ◌++◌, map, find}
 use Rattle.std.specs.Prelude.{Option, Some, None, is_some}
 use Rattle.std.specs.List.{list_any, filter_map}
@@ -27,8 +28,8 @@ place_of scripts name = position_from 0 scripts name
 abbrev pub has_script : List ScriptText → List ℕ → Bool
 has_script scripts name = list_any (λ (s : ScriptText). bytes_eq s.name name) scripts
 
--- the first name that this script provides although an earlier one does; otherwise its own name, if an earlier script
--- has it
+-- the first name that this script and an earlier one both provide; otherwise the script's name, if an earlier script
+-- has the same name
 abbrev pub doubled : List ScriptText → ScriptText → Option (List ℕ)
 doubled before s =
     option_or (find (λ name. is_some (place_of before name)) s.header.provides)
@@ -62,12 +63,12 @@ missing_from all (s ∷ scripts) = option_or (missing_of all s) (missing_from al
 abbrev pub places_of : List ScriptText → List (List ℕ) → List ℕ
 places_of scripts names = filter_map (place_of scripts) names
 
--- the names that a header gives for the start, or for the stop
+-- the names that a header lists for the start, or for the stop
 abbrev pub named : Phase → HeaderText → List (List ℕ)
 named phase.Start header = header.required_start ++ header.should_start
 named phase.Stop header = header.required_stop ++ header.should_stop
 
--- the need if a script names another one: at the start it needs the other; at the stop the other needs it
+-- the need when a script names another script: at the start it needs the other; at the stop the other needs it
 abbrev pub need : Phase → ℕ → ℕ → ℕ × ℕ
 need phase.Start position other = (position, other)
 need phase.Stop position other = (other, position)

@@ -53,19 +53,19 @@ HasEntries set entries = (e : EntryText) → is_entry_of set e ≡ list_any (sam
 abbrev pub leads_among : {S : Type 0} → NameSet S → EntryText → Bool
 leads_among targets e = is_numbered e.name && is_among targets e.leads
 
--- an entry that has one of the names and is not such a link
+-- an entry that has one of the names and is not a numbered link with one of the targets
 abbrev pub is_taken_by : {R S : Type 0} → NameSet R → NameSet S → EntryText → Bool
 is_taken_by targets names e = is_among names e.name && not (leads_among targets e)
 
--- the entry points to an init script with none of the names
+-- the entry is a link to an init script with none of the names
 abbrev pub is_gone_by : {S : Type 0} → NameSet S → EntryText → Bool
 is_gone_by names e = is_name (target_in e.leads) && not (is_among names (target_in e.leads))
 
--- such a link that is not in the plan
+-- a numbered link with one of the targets that is not in the plan
 abbrev pub is_stale_by : {R S : Type 0} → NameSet R → EntrySet S → EntryText → Bool
 is_stale_by targets planned e = leads_among targets e && not (is_entry_of planned e)
 
--- it is to be removed: with `true`, if some link of the plan has its name; with `false`, if none has
+-- the entry must be removed: with `true`, if some link of the plan has its name; with `false`, if none has it
 abbrev pub is_removed_by : {R S T : Type 0} → Bool → NameSet R → EntrySet S → NameSet T → EntryText → Bool
 is_removed_by true targets planned names e = is_stale_by targets planned e && is_among names e.name
 is_removed_by false targets planned names e = is_stale_by targets planned e && not (is_among names e.name)
@@ -88,10 +88,10 @@ abbrev pub HasLinks : {S : Type 0} → LinkSet S → List EntryText → Type 0
 HasLinks links entries = (letter : ℕ) (name : List ℕ)
     → has_link letter name links ≡ list_any (is_link_of letter name) entries
 
--- the runlevels whose set has such a link
+-- the runlevels whose set has a link with the letter to the script of this name
 abbrev pub levels_by : {S : Type 0} → ℕ → List ℕ → List (Level × LinkSet S) → List Level
 levels_by letter name links = map (λ pair. pair.0) (filter (λ pair. has_link letter name pair.1) links)
 
--- the sets are those of the folders
+-- the sets contain exactly the links in the folders
 abbrev pub AreLinksOf : {S : Type 0} → List (Level × LinkSet S) → List FolderText → Type 0
 AreLinksOf links folders = (letter : ℕ) (name : List ℕ) → levels_by letter name links ≡ levels_in letter name folders

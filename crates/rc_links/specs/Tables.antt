@@ -39,7 +39,7 @@ abbrev pub AddsPlaces : {S : Type 0} → PlaceTable S → PlaceTable S → List 
 AddsPlaces old new given position =
     (name : List ℕ) → position_in new name ≡ (if has_name name given then Some position else position_in old name)
 
--- the first of a script's provided names that is known; otherwise its own name, if another script has it
+-- the first of a script's provided names that is known; otherwise the script's name, if another script has it
 abbrev pub known_again : {S T : Type 0} → PlaceTable S → PlaceTable T → ScriptText → Option (List ℕ)
 known_again provided names script =
     option_or (find (λ name. is_known provided name) script.header.provides)
@@ -55,6 +55,6 @@ unknown_of table script =
     option_or (find (λ name. is_unknown table name) script.header.required_start)
     (find (λ name. is_unknown table name) script.header.required_stop)
 
--- the needs for these names, which the script at this position gives
+-- the needs of the script at this position for these names
 abbrev pub needs_by : {S : Type 0} → Phase → ℕ → PlaceTable S → List (List ℕ) → List (ℕ × ℕ)
 needs_by turn position table names = map (need turn position) (filter_map (position_in table) names)

@@ -1,7 +1,7 @@
-//! `$all` as a facility: scripts that name it come after all others at the start, and before them at the stop.
+//! `$all` as a facility: scripts that name it start after all other scripts, and stop before them.
 //!
-//! It is tested by `tools/pages.d/rclinks`. The contract of each function is its definition in `specs/AllLast`, so that
-//! its body can be changed freely.
+//! `tools/pages.d/rclinks` tests this module. The contract of each function is its definition in `specs/AllLast`, so
+//! you can change its body freely.
 
 ghost use Rattle.std.specs.Prelude.{◌≡◌, ◌++◌, ◌∷◌, map, string_bytes, IfOk, IfErr, OnOk};
 ghost use Rattle.std.specs.List.{list_any};
@@ -111,8 +111,8 @@ fn all_facility<A: Allocator + Copy>(alloc: A, scripts: &[Script<A>]) -> Result<
     Ok(Script::new(String::from_str(alloc, "$all")?, header))
 }
 
-/// Inserts the facility that provides `$all` before the scripts, so that those which name it come last: after all
-/// others at the start, and before them at the stop. If memory allocation fails, the scripts are unchanged.
+/// Inserts the facility that provides `$all` before the scripts, so that scripts that name it start after all others
+/// and stop before them. If memory allocation fails, the scripts are unchanged.
 pub fn add_all<A: Allocator + Copy>(alloc: A, scripts: &mut Vec<Script<A>, A>) -> Result<(), Memory>
     ensures added { OnOk result
         (scripts.new.items ≡ all_facility scripts.old.items ∷ scripts.old.items) }

@@ -1,4 +1,4 @@
-//! The changes after which the folders hold exactly the links of the plan, and the names that other entries occupy.
+//! Computes the changes after which the folders hold exactly the links of the plan, and finds entries in their way.
 
 ghost use Rattle.std.specs.Prelude.{◌≡◌, ◌++◌, ℕ, List, not, map, flat_map, take, IfOk, OnOk};
 ghost use Rattle.std.specs.List.{AllByRecursion, filter};
@@ -14,7 +14,7 @@ use crate::sets::{Entries, Names, entries_in, is_among, is_entry_of, names_in, t
 use init_words::Memory;
 use std::alloc::Allocator;
 
-/// Reports whether a name is that of a numbered link: `S` or `K`, two digits and at least one more byte.
+/// Reports whether a name has the form of a numbered link: `S` or `K`, two digits and at least one more byte.
 pub(crate) fn is_numbered(name: &[u8]) -> bool
     ensures { result ≡ is_numbered name.now }
 {
@@ -67,8 +67,8 @@ pub fn taken<'a, A: Allocator + Copy>(
     Ok(found)
 }
 
-/// Reports whether an entry is to be removed: it is a numbered link to a planned script but not a link of the plan, and
-/// some link of the plan has its name, or none has, as requested.
+/// Reports whether an entry must be removed: it is a numbered link to a planned script but not a link of the plan, and
+/// some link of the plan has its name, or none has it, as requested.
 fn is_removed<A: Allocator, B: Allocator>(
     targets: &Names<'_, A>,
     planned: &Entries<'_, A>,
@@ -83,7 +83,7 @@ fn is_removed<A: Allocator, B: Allocator>(
         && is_among(names, entry.name()) == named
 }
 
-/// Adds the removals of such entries.
+/// Adds the removals of the entries for which `is_removed` holds.
 fn add_removals<A: Allocator + Copy>(
     alloc: A,
     targets: &Names<'_, A>,
@@ -141,10 +141,9 @@ fn add_folder<A: Allocator + Copy>(
     Ok(())
 }
 
-/// Returns the changes after which, of all numbered links to a planned script, the folders hold exactly those of the
-/// plan. In each folder the links that occupy a name of the plan are removed first, then those of the plan are created,
-/// and then the other ones are removed. So, wherever the changes are interrupted, a script has a link in each folder in
-/// which it had one and is to have one. The scripts' paths are given as links point to them.
+/// Returns the changes after which the numbered links to planned scripts in the folders are exactly the links of the
+/// plan. In each folder, they first remove the old links that occupy a name of the plan, then create the links of the
+/// plan, and then remove the other old links. The scripts' paths are the targets of the links.
 pub fn changes<A: Allocator + Copy>(
     alloc: A,
     targets: &[Vec<u8, A>],
@@ -152,8 +151,8 @@ pub fn changes<A: Allocator + Copy>(
 ) -> Result<Vec<LinkChange<A>, A>, Memory>
     ensures changes { IfOk result (λ found.
         found.items ≡ flat_map (changes_of (targets_of targets.now)) folders.now) }
-    // If only the first changes are made, however many, the next run with the plan changes each folder to what it is to
-    // be,
+    // If only some of the changes, in order, are made, the next run with the same plan brings each folder to its final
+    // state,
     ensures mended { IfOk result (λ found. AreApart folders.now → (count : ℕ)
         → AllByRecursion (IsMended (targets_of targets.now) (take count found.items)) folders.now) }
     // and a script whose links stay in the same runlevels has these runlevels according to the folders at any time.

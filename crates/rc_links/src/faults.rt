@@ -5,13 +5,14 @@ use std::alloc::{AllocFailed, Allocator, Global};
 use std::error::Error;
 use std::fmt;
 
-/// Why scripts have no plan. These are the checks, in order; the first that fails is the fault.
+/// The reason why scripts have no plan. The variants are in the order of the checks; the first check that fails
+/// determines the fault.
 #[derive(Drop)]
 #[derive_where(Debug, PartialEq, Eq)]
 pub enum PlanFault<A: Allocator = Global> {
-    /// A script provides this name, which an earlier one provides, or has the name of an earlier one.
+    /// A script provides a name that an earlier script also provides, or has the same name as an earlier script.
     DoubleProvide(String<A>),
-    /// A script requires this name, and none provides it.
+    /// A script requires this name, and no script provides it.
     Missing(String<A>),
     /// Each script with one of these names needs the next, and the last needs the first, which is the earliest.
     Cycle(Vec<String<A>, A>),

@@ -1,4 +1,4 @@
-//! The present and the planned contents of a runlevel's folder, and changes of it.
+//! The current and the planned contents of a runlevel's folder, and changes to it.
 
 ghost use Rattle.std.specs.Prelude.{◌≡◌};
 ghost use Rattle.rc_links.specs.Folders.{change_of, folder_text};
@@ -29,7 +29,7 @@ impl<A: Allocator> Model for Folder<A> {
 }
 
 impl<A: Allocator> Folder<A> {
-    /// Creates the folder of a runlevel, from the links that the plan has there and the entries that it holds.
+    /// Creates the folder of a runlevel, given the links that the plan puts in it and the entries that it holds.
     pub fn new(
         level: Level,
         planned: Vec<FolderEntry<A>, A>,
@@ -66,7 +66,7 @@ impl<A: Allocator> Folder<A> {
     }
 }
 
-/// What is done with an entry.
+/// The action of a change: remove or create an entry.
 #[derive(Clone, Copy, PartialEq, Eq, Debug)]
 pub enum LinkAction {
     /// Remove it.
@@ -75,7 +75,7 @@ pub enum LinkAction {
     Make,
 }
 
-/// A change of a runlevel's folder.
+/// A change to a runlevel's folder.
 #[derive(Drop)]
 pub struct LinkChange<A: Allocator = Global> {
     act: LinkAction,
@@ -92,14 +92,14 @@ impl<A: Allocator> Model for LinkChange<A> {
 }
 
 impl<A: Allocator> LinkChange<A> {
-    /// Creates a change of the folder of a runlevel.
+    /// Creates a change to the folder of a runlevel.
     pub(crate) fn new(act: LinkAction, level: Level, entry: FolderEntry<A>) -> LinkChange<A>
         ensures { result ≡ change_of act level entry }
     {
         LinkChange { act, level, entry }
     }
 
-    /// Returns what is done.
+    /// Returns the action.
     pub fn act(&self) -> LinkAction
         ensures { result ≡ self.now.act }
     {

@@ -1,4 +1,5 @@
-//! Plans that use the runlevels of existing links instead of those in the headers; and links whose script is gone.
+//! Plans that use the runlevels of existing links instead of the runlevels in the headers; and links to missing
+//! scripts.
 
 ghost use Rattle.std.specs.Prelude.{◌≡◌, List, map, IfOk, OnOk};
 ghost use Rattle.std.specs.List.{filter};

@@ -1,12 +1,12 @@
--- Needs among places, their numberings and their cycles. A place is a natural number, and each edge is a need.
+-- Numberings and cycles of a graph. A place (node) is a natural number, and an edge (a, b) means that a needs b.
 use Rattle.std.specs.Prelude.{◌≡◌, ℕ, ◌<◌, ◌≤◌, List, [], ◌∷◌, get_or, length, ◌⊎◌, Option, Some, None}
 
--- the first place of some edge is `a` and its second is `b`: `a` needs `b`
+-- `a` needs `b`: there is an edge from `a` to `b`
 abbrev pub Needs : List (ℕ × ℕ) → ℕ → ℕ → Type 0
 Needs [] a b = ⊥
 Needs (edge ∷ edges) a b = ((edge.0 ≡ a) × (edge.1 ≡ b)) ⊎ Needs edges a b
 
--- each number is at least 1, and greater than that of each place that is needed
+-- each number is at least 1, and greater than the number of each place that its place needs
 pub record IsNumbering (edges : List (ℕ × ℕ)) (number : ℕ → ℕ) : Type 0 where
   pub some : (a : ℕ) → 1 ≤ number a
   pub rises : (a b : ℕ) → Needs edges a b → number b < number a
@@ -15,18 +15,18 @@ pub record IsNumbering (edges : List (ℕ × ℕ)) (number : ℕ → ℕ) : Type
 abbrev pub HasNoNumbering : List (ℕ × ℕ) → Type 0
 HasNoNumbering edges = (number : ℕ → ℕ) → IsNumbering edges number → ⊥
 
--- at every place the number is at most that of any numbering
+-- at every place, the number is at most the number in any numbering
 abbrev pub AtMostAny : List (ℕ × ℕ) → List ℕ → Type 0
 AtMostAny edges numbers =
     (number : ℕ → ℕ) → IsNumbering edges number → (a : ℕ) → get_or numbers a 0 ≤ number a
 
--- a numbering of the places below the count whose number at every place is at most that of any numbering
+-- the least numbering of the places below the count: at every place, any other numbering has at least this number
 pub record IsLeast (count : ℕ) (edges : List (ℕ × ℕ)) (numbers : List ℕ) : Type 0 where
   pub some : (a : ℕ) → a < count → 1 ≤ get_or numbers a 0
   pub rises : (a b : ℕ) → Needs edges a b → get_or numbers b 0 < get_or numbers a 0
   pub least : AtMostAny edges numbers
 
--- a walk from one place through others to a last one, each needing the next
+-- a walk from one place through others to a last one; each place needs the next
 abbrev pub Walk : List (ℕ × ℕ) → ℕ → List ℕ → ℕ → Type 0
 Walk edges a [] b = Needs edges a b
 Walk edges a (x ∷ xs) b = Needs edges a x × Walk edges x xs b
@@ -41,7 +41,7 @@ abbrev pub Earliest : ℕ → List ℕ → Type 0
 Earliest a [] = Unit {0}
 Earliest a (x ∷ xs) = (a ≤ x) × Earliest a xs
 
--- a ring whose first place is the least one
+-- a closed walk whose first place is its least place
 abbrev pub IsCycle : List (ℕ × ℕ) → List ℕ → Type 0
 IsCycle edges [] = ⊥
 IsCycle edges (a ∷ xs) = Walk edges a xs a × Earliest a xs

@@ -1,4 +1,4 @@
--- How numbers are given, pass by pass. 0 means no number.
+-- How the algorithm assigns numbers, pass by pass. 0 means no number.
 use Rattle.std.specs.Prelude.{◌≡◌, ℕ, ◌+◌, ◌<◌, ◌≤◌, ◌==◌, ◌||◌, ◌&&◌, max, if◌then◌else◌, List, [], ◌∷◌, get_or}
 use Rattle.std.specs.Prelude.{length}
 use Rattle.rc_numbers.specs.Numbering.{Needs, AtMostAny}
@@ -7,13 +7,13 @@ use Rattle.rc_numbers.specs.Numbering.{Needs, AtMostAny}
 abbrev pub raised : ℕ → ℕ → ℕ
 raised height number = if height == 0 || number == 0 then 0 else max height (number + 1)
 
--- a height after those of the edges that are needs of the place
+-- a height after the edges that start at the place
 abbrev pub height_from : List ℕ → ℕ → ℕ → List (ℕ × ℕ) → ℕ
 height_from numbers a height [] = height
 height_from numbers a height (edge ∷ edges) =
     height_from numbers a (if edge.0 == a then raised height (get_or numbers edge.1 0) else height) edges
 
--- the last of these edges' needs of the place that has no number
+-- the last place without a number that the place needs, among these edges
 abbrev pub need_from : List ℕ → ℕ → ℕ → List (ℕ × ℕ) → ℕ
 need_from numbers a found [] = found
 need_from numbers a found (edge ∷ edges) =

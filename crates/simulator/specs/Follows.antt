@@ -13,7 +13,7 @@ simulated_child_of number past child = record { id = child.id; is_dead = is_dead
 abbrev pub child_with : ℕ → List Event → Option SimulatedChild
 child_with number past = option_map (simulated_child_of number past) (find (has_number number) (unreaped_children past))
 
--- each part of the state is what the trace says
+-- each part of the state agrees with the trace
 pub record Follows (side : SystemState) (past : List Event) : Type 0 where
   pub orders : (id : List ℕ) → order_in id side ≡ undone_of id past
   pub answers : (id : List ℕ) → answer_in id side ≡ answered_of id past

@@ -1,5 +1,4 @@
--- Hand-overs of init's state in a run: the state that init keeps, the text that is made of it, and which hand-overs may
--- come.
+-- Hand-overs of init's state in a run: the state that init keeps, its text, and which hand-overs are possible.
 use Rattle.std.specs.Prelude.{ℕ, Bool, true, ◌&&◌, ◌+◌, ◌-◌, ◌^◌, if◌then◌else◌, nat_le, nat_lt, List, [], ◌∷◌, ◌++◌}
 use Rattle.std.specs.Prelude.{get_or, length, take, Option, Some, None}
 use Rattle.initctl_frame.specs.declared.requests.HeardRequest.TheVariants as got
@@ -15,15 +14,15 @@ use Rattle.simulator.specs.declared.objections.Objection.{Objection}
 use Rattle.simulator.specs.declared.objections.Objection.TheVariants as objection
 use Rattle.simulator.specs.Objections.{unless}
 
--- the number of state texts that were made: one by each hand-over that did not fail
+-- the number of state texts made so far: one for each hand-over that did not fail
 abbrev pub made_in : List Event → ℕ
 made_in [] = 0
 made_in (Handed handed.Failed ∷ past) = made_in past
 made_in (Handed how ∷ past) = made_in past + 1
 made_in (_ ∷ past) = made_in past
 
--- the goal that init keeps: the last level requested outside the run levels, or requested in one and then carried out;
--- otherwise the opening goal
+-- the goal that init keeps: the last request for a level, not counting requests still pending in a runlevel; if there
+-- is none, the initial goal
 abbrev pub kept_goal : Goal → List Event → Goal
 kept_goal opening [] = opening
 kept_goal opening (Enter stage grace ∷ past) = wished (level_wish past) (kept_goal opening past)
@@ -35,7 +34,7 @@ kept_goal opening (_ ∷ past) = kept_goal opening past
 abbrev pub kept_at : Goal → List Event → CoreState
 kept_at opening past = core_read (last_statuses_of past) past (kept_goal opening past) (made_in past)
 
--- the text that is made of the state: that of the state handed on, one generation later
+-- the text that init hands over: the text of its state, one generation later
 abbrev pub handed_over_text : CoreState → List ℕ
 handed_over_text core = state_text (state_of (after_handed_on core))
 
@@ -43,37 +42,37 @@ handed_over_text core = state_text (state_of (after_handed_on core))
 abbrev pub text_at : Goal → List Event → List ℕ
 text_at opening past = handed_over_text (kept_at opening past)
 
--- there is another generation after this one
+-- the next generation number is not too large
 abbrev pub has_next : ℕ → Bool
 has_next generation = nat_lt (generation + 1) (2 ^ 64)
 
--- the generation is that of one of the texts made, of which there are this many
+-- one of the `made` texts so far has this generation
 abbrev pub is_made : ℕ → ℕ → Bool
 is_made generation made = nat_le 1 generation && nat_le generation made
 
--- The hand-over may be made. A generation must be left; a text that is cut must have more bytes than arrive; an older
--- text must have been made before. A hand-over that failed makes nothing and may always come.
+-- The hand-over is possible. There must be a next generation; a text that is cut must be longer than the bytes that
+-- arrive; an older text must have been made before. A hand-over that failed makes no text and is always possible.
 abbrev pub may_be_handed : Goal → HandOver → List Event → Bool
 may_be_handed opening handed.Failed past = true
 may_be_handed opening handed.Whole past = has_next (made_in past)
 may_be_handed opening (handed.Cut bytes) past = has_next (made_in past) && nat_lt bytes (length (text_at opening past))
 may_be_handed opening (handed.Older generation) past = has_next (made_in past) && is_made generation (made_in past)
 
--- the happening is not a hand-over, or the hand-over may be made
+-- the happening is not a hand-over, or the hand-over is possible
 abbrev pub may_hand : Goal → Event → List Event → Bool
 may_hand opening (Handed how) past = may_be_handed opening how past
 may_hand opening _ past = true
 
--- each hand-over in the trace could be made
+-- each hand-over in the trace was possible
 abbrev pub are_handed : Goal → List Event → Bool
 are_handed opening [] = true
 are_handed opening (happening ∷ past) = may_hand opening happening past && are_handed opening past
 
--- the objection, if there is another generation; otherwise the objection that there is none
+-- the objection, if there is a next generation; otherwise the objection `Worn`
 abbrev pub unless_worn : ℕ → Option Objection → Option Objection
 unless_worn generation other = if has_next generation then other else Some objection.Worn
 
--- the objection to a hand-over, given the number of texts made and the length of the next one; none if it may be made
+-- the objection to a hand-over, given the number of texts made and the length of the next one; none if it is possible
 abbrev pub objection_handed : ℕ → ℕ → HandOver → Option Objection
 objection_handed made size handed.Failed = None
 objection_handed made size handed.Whole = unless_worn made None
@@ -99,7 +98,7 @@ abbrev pub taken_of : HandOver → CoreState → Option CoreState
 taken_of handed.Whole core = Some core
 taken_of _ core = None
 
--- the texts kept after a hand-over: one more, unless it failed
+-- the texts made so far, after a hand-over: one more, unless the hand-over failed
 abbrev pub kept_texts : HandOver → CoreState → List (List ℕ) → List (List ℕ)
 kept_texts handed.Failed core made = made
 kept_texts how core made = made ++ handed_over_text core ∷ []

@@ -1,4 +1,4 @@
--- The moments of a simulated run, and how init's own steps lead from one to the next.
+-- The moments of a simulated run, and how init's steps lead from one moment to the next.
 use Rattle.std.specs.Prelude.{◌≡◌, ◌⊎◌, ℕ, Bool, true, false, ◌+◌, List, [], ◌∷◌, ◌++◌, Option}
 use Rattle.std.specs.Io.KnownBytes.{Appends, Keeps}
 use Rattle.simulator.specs.Words.{Goal, Event, table_of_text, NewTable, event_text, are_in_range, newlines, due, first}
@@ -15,7 +15,8 @@ use Rattle.simulator.specs.Texts.{CanHand}
 use Rattle.simulator.specs.Said.{may_be_scripted, IsObjected, first_table, heard}
 use Rattle.simulator.specs.Simulation.{IsTooLong, RunOver, Scenario, goal_in, heard_text, past_text, table_in}
 
--- the core can be handed over: its seconds are short, and its generation and its goal are those of the run so far
+-- the core can be handed over: its grace periods are at most 3,600 seconds, and its generation and its goal agree with
+-- the run so far
 pub record CanHandOver (core : CoreState) (opening : Goal) (past : List Event) : Type 0 where
   pub short : has_short_seconds core ≡ true
   pub made : core.fields.generation ≡ made_in past
@@ -28,23 +29,23 @@ pub record Moment (goal : Goal) (past : List Event) (core : CoreState) (side : S
   pub lasts : CanHandOver core goal past
   pub follows : Follows side past
 
--- some run has this core and system at its end
+-- some run ends with this core and system
 abbrev pub SomeMoment : CoreState → SystemState → Type 0
 SomeMoment core side = (goal : Goal) × (past : List Event) × Moment goal past core side
 
--- the property holds of every run that has this core and system at its end
+-- the property holds for every run that ends with this core and system
 abbrev pub FromMoment : CoreState → SystemState → (Goal → List Event → Type 0) → Type 0
 FromMoment core side P = (goal : Goal) (past : List Event) → Moment goal past core side → P goal past
 
--- the trace continued from `past` to `next`: it begins with the same table, no line of the script was read, nothing was
--- handed over, and its text has grown by `more`
+-- the trace grew from `past` to `next` without reading a line of the script: it begins with the same table, there was
+-- no hand-over, and its text has grown by `more`
 pub record SimulationGoesOn (past next : List Event) (more : List ℕ) : Type 0 where
   pub opens : first_table next ≡ first_table past
   pub handed : (goal : Goal) → are_handed goal next ≡ are_handed goal past
   pub hears : heard next ≡ heard past
   pub text : past_text next ≡ past_text past ++ more
 
--- a moment at which init is at rest, and whether inittab is to be read then
+-- a moment at which init is at rest; `rereads` is true if the next step is to read inittab
 pub record AtRest (goal : Goal) (past : List Event) (rereads : Bool) (core : CoreState) (side : SystemState) : Type 0
   where
     pub moment : Moment goal past core side
@@ -55,18 +56,18 @@ pub record AtRest (goal : Goal) (past : List Event) (rereads : Bool) (core : Cor
 abbrev pub SomeRest : Bool → CoreState → SystemState → Type 0
 SomeRest rereads core side = (goal : Goal) × (past : List Event) × AtRest goal past rereads core side
 
--- the property holds of every run that is at rest with this core and system
+-- the property holds for every run that is at rest with this core and system
 abbrev pub FromRest : Bool → CoreState → SystemState → (Goal → List Event → Type 0) → Type 0
 FromRest rereads core side P =
     (goal : Goal) (past : List Event) → AtRest goal past rereads core side → P goal past
 
--- init continued until it was at rest, and what it did was written
+-- init continued until it was at rest, and its steps were written
 abbrev pub ComesToRest : Goal → List Event → Bool → CoreState → SystemState → Option (List ℕ) → Option (List ℕ) → Type 0
 ComesToRest goal past rereads core side old new =
     (next : List Event) × (more : List ℕ) × AtRest goal next rereads core side × SimulationGoesOn past next more
     × Appends old new more
 
--- init continued, and what it did was being written when the fault occurred
+-- init continued, and the fault occurred while its steps were being written
 abbrev pub Breaks : Goal → List Event → SimFault → Option (List ℕ) → Option (List ℕ) → Type 0
 Breaks goal past f old new =
     (next : List Event) × (more : List ℕ) × (is_run goal next ≡ true) × SimulationGoesOn past next more
@@ -79,8 +80,8 @@ IsReadyFor (NewTable table) core = is_quiet core.slots ≡ true
 IsReadyFor (Handed how) core = CanHand how core
 IsReadyFor _ core = Unit {0}
 
--- the trace continued from `past` to `next`: it begins with the same table, `said` was read of the script, any
--- hand-over could be made, and its text has grown by `more`
+-- the trace grew from `past` to `next` over the text `said` of the script: it begins with the same table, any hand-over
+-- was possible, and its text has grown by `more`
 pub record HearsLine (goal : Goal) (past next : List Event) (said more : List ℕ) : Type 0 where
   pub opens : first_table next ≡ first_table past
   pub handed : are_handed goal past ≡ true → are_handed goal next ≡ true
@@ -88,13 +89,13 @@ pub record HearsLine (goal : Goal) (past next : List Event) (said more : List �
   pub hears : heard_text next ≡ heard_text past ++ said
   pub text : past_text next ≡ past_text past ++ more
 
--- a happening of the script came, init continued until it was at rest, and all of it was written
+-- a happening of the script was processed, init continued until it was at rest, and all of this was written
 abbrev pub HeardOne : Goal → List Event → Event → Bool → CoreState → SystemState → Option (List ℕ) → Option (List ℕ)
     → Type 0
 HeardOne goal past happening rereads core side old new = (next : List Event) × (more : List ℕ)
     × AtRest goal next rereads core side × HearsLine goal past next (event_text happening) more × Appends old new more
 
--- a happening of the script came, and what followed was being written when the fault occurred
+-- a happening of the script was processed, and the fault occurred while the results were being written
 abbrev pub HeardBreaks : Goal → List Event → Event → SimFault → Option (List ℕ) → Option (List ℕ) → Type 0
 HeardBreaks goal past happening f old new = (next : List Event) × (more : List ℕ)
     × (is_run goal next ≡ true) × HearsLine goal past next (event_text happening) more × Leaves f old new more
@@ -110,7 +111,7 @@ HeardEnds goal past happening number fault.Write old new = HeardBreaks goal past
 HeardEnds goal past happening number fault.Memory old new =
     Keeps old new ⊎ HeardBreaks goal past happening fault.Memory old new
 
--- why reading an inittab gave no table
+-- the faults of reading an inittab
 abbrev pub TableEnds : List ℕ → SimFault → Type 0
 TableEnds inittab fault.Table = IsTooLong inittab
 TableEnds inittab fault.Memory = Unit {0}
@@ -120,7 +121,7 @@ TableEnds inittab _ = ⊥
 abbrev pub opening_text : List ℕ → List ℕ
 opening_text inittab = event_text (NewTable (table_of_text inittab))
 
--- the property holds of every run over this script whose table was written, and that has this core and system at its
+-- the property holds for every run over this script that has written its table and has this core and system at its
 -- first moment
 abbrev pub FromOpening : List ℕ → CoreState → SystemState → Option (List ℕ)
     → (Scenario → Option (List ℕ) → Type 0) → Type 0
@@ -129,7 +130,7 @@ FromOpening script core side now P =
     → Moment (goal_in s) (NewTable (table_in s) ∷ []) core side → Appends before now (opening_text s.inittab)
     → P s before
 
--- the run over the script up to this rest of it, whose first line has this number; init is at rest
+-- the run over the script up to the remaining text `rest`, whose first line has this number; init is at rest
 pub record SoFar (s : Scenario) (rest : List ℕ) (number : ℕ) (rereads : Bool) (core : CoreState) (side : SystemState)
     (old new : Option (List ℕ)) : Type 0 where
   pub past : List Event
@@ -138,8 +139,8 @@ pub record SoFar (s : Scenario) (rest : List ℕ) (number : ℕ) (rereads : Bool
   pub run : RunOver s rest past
   pub written : Appends old new (past_text past)
 
--- the property holds of every run at the beginning of its script that has this core and system, and of what had been
--- written before it
+-- the property holds for every run at the beginning of its script with this core and system, and for the text written
+-- before it
 abbrev pub FromScript : List ℕ → Bool → CoreState → SystemState → Option (List ℕ)
     → (Scenario → Option (List ℕ) → Type 0) → Type 0
 FromScript text rereads core side now P =

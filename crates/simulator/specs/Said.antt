@@ -1,4 +1,4 @@
--- What a script may say at which point, and which part of a trace came from the script.
+-- Which happenings a script may contain at each point, and which part of a trace came from the script.
 use Rattle.std.specs.Prelude.{◌≡◌, ℕ, Bool, true, ◌&&◌, if◌then◌else◌, List, [], ◌∷◌, length, Option, Some}
 use Rattle.simulator.specs.Words.{Entry, NewTable, NotRead, Goal, Event, due, first, is_next, is_reread, may_come}
 use Rattle.trace_events.specs.declared.happenings.Happening.TheVariants.{Handed}
@@ -10,21 +10,19 @@ use Rattle.simulator.specs.Objections.{unless, objection_to}
 use Rattle.simulator.specs.Follows.{Follows}
 use Rattle.simulator.specs.Handing.{made_in, text_at, may_hand, objection_handed}
 
--- the happening can come from a script: it is one of the system or of what lies between system and init, or another
--- table
+-- the happening can come from a script: the system or the edge between system and init causes it, or it is a new table
 abbrev pub is_scripted : Event → Bool
 is_scripted (NewTable table) = true
 is_scripted happening = is_script happening
 
 -- The happening may be the next line of a script: it can come from a script, it may come next in a sound trace, and if
--- it is a hand-over, it can be made. Init must be waiting for it: a table, or that inittab could not be read, only
--- comes if reading inittab is the first due step.
+-- it is a hand-over, it is possible. A table or `notread` may come only if reading inittab is the first due step.
 abbrev pub may_be_scripted : Goal → Event → List Event → Bool
 may_be_scripted goal happening past = is_scripted happening && may_hand goal happening past
     && is_next (first (due goal past)) happening && may_come goal happening past
 
--- the objection to a happening, given whether inittab is to be read now, the number of state texts made and the length
--- of the next one, and the state of the system; none if it may come
+-- the objection to a happening, given whether the next step reads inittab, the number of state texts made, the length
+-- of the next one, and the state of the system; none if the happening may come
 abbrev pub objection_in : Bool → ℕ → ℕ → SystemState → Event → Option Objection
 objection_in rereads made size side (NewTable table) = unless rereads objection.NotNow
 objection_in rereads made size side NotRead = unless rereads objection.NotNow
@@ -36,7 +34,7 @@ abbrev pub objection_now : Goal → List Event → SystemState → Event → Opt
 objection_now goal past side happening =
     objection_in (is_reread (first (due goal past))) (made_in past) (length (text_at goal past)) side happening
 
--- there is this objection to a happening after this trace, by a state of the system that follows the trace
+-- there is this objection to a happening after this trace, for a state of the system that follows the trace
 abbrev pub IsObjected : Goal → Event → List Event → Objection → Type 0
 IsObjected goal happening past why =
     (side : SystemState) × Follows side past × (objection_now goal past side happening ≡ Some why)
@@ -47,8 +45,8 @@ first_table [] = []
 first_table (NewTable table ∷ []) = table
 first_table (_ ∷ past) = first_table past
 
--- the happenings of a trace that came from its script, newest first: all that a script can have, except the first
--- happening
+-- the happenings of a trace that came from its script, newest first: all that can come from a script, except the first
+-- one of the trace
 abbrev pub heard : List Event → List Event
 heard [] = []
 heard (happening ∷ []) = []

@@ -1,4 +1,4 @@
--- A run of init over a script: what is written, and where it ends.
+-- A run of init over a script: the text that it writes, and where it ends.
 use Rattle.std.specs.Prelude.{◌≡◌, ◌≢◌, ℕ, true, false, ◌+◌, ◌<◌, List, [], ◌++◌, reverse, length, Option}
 use Rattle.std.specs.Io.KnownBytes.{Appends, Keeps}
 use Rattle.simulator.specs.Words.{Entry, Level, ended, newlines, table_of_text, Goal, Event, due, first, event_text}
@@ -12,7 +12,7 @@ use Rattle.simulator.specs.Faults.{Leaves}
 use Rattle.simulator.specs.Handing.{are_handed}
 use Rattle.simulator.specs.Said.{may_be_scripted, IsObjected, first_table, heard}
 
--- what is simulated: the level to go to, if one is given, an inittab and a script
+-- the input of a simulation: an inittab, a script, and optionally the level to go to
 pub record Scenario : Type 0 where
   pub level : Option Level
   pub inittab : List ℕ
@@ -41,8 +41,8 @@ past_text past = trace_text (reverse past)
 abbrev pub heard_text : List Event → List ℕ
 heard_text past = past_text (heard past)
 
--- A run over the script up to this rest of it. It begins with the inittab's table; init takes first due steps, and the
--- lines of the script come in order when it is at rest; each hand-over can be made.
+-- A run over the script up to the remaining text `rest`. It begins with the inittab's table; init takes the first due
+-- step each time; it processes the lines of the script in order, each at a rest; each hand-over is possible.
 pub record RunOver (s : Scenario) (rest : List ℕ) (past : List Event) : Type 0 where
   pub runs : is_run (goal_in s) past ≡ true
   pub handed : are_handed (goal_in s) past ≡ true
@@ -50,7 +50,7 @@ pub record RunOver (s : Scenario) (rest : List ℕ) (past : List Event) : Type 0
   pub are : are_in_range (heard past) ≡ true
   pub hears : heard_text past ++ rest ≡ script_in s
 
--- such a run after which init is at rest
+-- a run over the script up to `rest`, after which init is at rest
 pub record RunsToRest (s : Scenario) (rest : List ℕ) (past : List Event) : Type 0 where
   pub run : RunOver s rest past
   pub rests : is_rest (first (due (goal_in s) past)) ≡ true
@@ -65,17 +65,17 @@ SimulationEndsAt s n such old new =
     (rest : List ℕ) × (past : List Event) × (n ≡ newlines (heard_text past) + 1)
     × RunsToRest s rest past × Appends old new (past_text past) × such rest past
 
--- the rest is not empty, and no happening begins it
+-- the remaining text is not empty, and does not begin with a happening
 abbrev pub IsUnread : List ℕ → List Event → Type 0
 IsUnread rest past = (rest ≢ []) × BeginsNone rest
 
--- the rest begins with a happening that may not be the next line of a script, for this reason
+-- the remaining text begins with a happening that may not be the next line of a script, for this reason
 abbrev pub IsForbidden : Goal → Objection → List ℕ → List Event → Type 0
 IsForbidden goal why rest past =
     (happening : Event) × (more : List ℕ) × (is_in_range happening ≡ true) × (event_text happening ++ more ≡ rest)
     × (may_be_scripted goal happening past ≡ false) × IsObjected goal happening past why
 
--- a run over a first part of the script was being written when the fault occurred
+-- the fault occurred while a run over a first part of the script was being written
 abbrev pub Broken : Scenario → SimFault → Option (List ℕ) → Option (List ℕ) → Type 0
 Broken s f old new =
     (rest : List ℕ) × (past : List Event) × RunOver s rest past × Leaves f old new (past_text past)
@@ -84,9 +84,9 @@ Broken s f old new =
 abbrev pub IsTooLong : List ℕ → Type 0
 IsTooLong inittab = TEXT_LIMIT < length inittab
 
--- How a run ends that does not reach the end of its script. If the inittab is too long, nothing was written. If a line
--- is not read or not allowed, the run over the lines before it was written. If the writer or memory allocation failed,
--- a run over a first part of the script was being written.
+-- How a run ends before the end of its script. If the inittab is too long, nothing was written. If a line is invalid or
+-- not allowed, the run over the lines before it was written. If the writer or memory allocation failed, it was while a
+-- run over a first part of the script was being written.
 abbrev pub Ends : Scenario → SimFault → Option (List ℕ) → Option (List ℕ) → Type 0
 Ends s fault.Table old new = IsTooLong s.inittab × Keeps old new
 Ends s (fault.Script n) old new = SimulationEndsAt s n IsUnread old new

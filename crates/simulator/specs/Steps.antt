@@ -6,7 +6,7 @@ use Rattle.trace_events.specs.declared.happenings.Happening.TheVariants.{Handed}
 use Rattle.simulator.specs.declared.simulated.SimulatedChild.{SimulatedChild}
 use Rattle.simulator.specs.State.{without, with, with_child, with_death, without_child}
 
--- the happening is one of the system, or of what lies between system and init, that a script can have
+-- the happening can come from a script: the system, or the edge between system and init, causes it
 abbrev pub is_script : Event → Bool
 is_script (Birth id number) = true
 is_script (NoBirth id) = true
@@ -29,18 +29,18 @@ abbrev pub needs_memory : Event → Bool
 needs_memory (Asked id ask) = true
 needs_memory happening = is_some (act_in happening)
 
--- the id's order that is not carried out after the happening, given the one before
+-- the id's order not yet carried out after the happening, given the order before it
 abbrev pub order_after : Event → List ℕ → Option OrderKind → Option OrderKind
 order_after (Asked i ask) id before = with id i ask before
 order_after (Told i) id before = without id i before
 order_after happening id before = undone_by id (act_in happening) before
 
--- the answer under way to the id's order after the happening, given the one before
+-- the answer under way to the id's order after the happening, given the answer before it
 abbrev pub answer_after : Event → List ℕ → Option Answer → Option Answer
 answer_after (Told i) id before = without id i before
 answer_after happening id before = answered_by id (act_in happening) before
 
--- the unreaped child with this number after the happening, given the one before
+-- the unreaped child with this number after the happening, given the child before it
 abbrev pub child_after : Event → ℕ → Option SimulatedChild → Option SimulatedChild
 child_after (Birth i n) number before = with_child number n i before
 child_after (Death n) number before = with_death number n before

@@ -1,4 +1,4 @@
-//! The hand-overs of a script: init's state is written, passed on and taken over, as in a re-execution.
+//! Carries out the hand-overs of a script: writes init's state, passes it on and takes it over, as in a re-execution.
 
 ghost use Rattle.std.specs.Prelude.{◌≡◌, ◌+◌, ◌∷◌, length, map, true, IfOk, IfSome, None, OnOk, unwrap_or};
 ghost use Rattle.trace_events.specs.declared.happenings.Happening.TheVariants as happening;
@@ -17,7 +17,7 @@ use reexec_state::{StateFault, hand_over, take_over};
 use std::alloc::Allocator;
 use trace_events::Handed;
 
-/// Returns whether there is another generation after this one.
+/// Returns whether the next generation number is not too large.
 fn has_next(generation: u64) -> bool
     ensures { result ≡ has_next generation }
 {
@@ -90,7 +90,7 @@ fn make_text<A: Allocator + Copy>(alloc: A, core: &mut Core<A>) -> Result<Vec<u8
     }
 }
 
-/// Takes over the core from the text that came back. Returns `None` if it is not the text of a core of this generation.
+/// Takes over the core from the text that came back. Returns `None` if it represents no core of this generation.
 fn taken<A: Allocator + Copy>(
     alloc: A,
     back: &[u8],
@@ -142,8 +142,8 @@ fn go_on_as<A: Allocator>(core: &mut Core<A>, taken: Option<Core<A>>)
     }
 }
 
-/// Hands the core over as the script line says, and keeps the text that was made. If the text comes back whole, the
-/// core continues as the one taken over; otherwise the text is rejected and the old core continues.
+/// Hands the core over as the script line specifies, and keeps the text in `made`. If the text comes back whole, the
+/// run continues with the core taken over; otherwise the text is rejected and the old core continues.
 pub(crate) fn hand_core<A: Allocator + Copy>(
     alloc: A,
     core: &mut Core<A>,

@@ -1,4 +1,4 @@
-//! Simulates a run of init over a script that says what the system did.
+//! Simulates a run of init over a script of what the system does.
 #![tactic(auto)]
 
 mod handing;

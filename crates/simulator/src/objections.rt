@@ -19,17 +19,17 @@ pub enum Objection {
     NoneLiving(ChildNumber),
     /// The id has no dead child with this number.
     NoneDead(Id, ChildNumber),
-    /// Nothing was done for the id that was not told already.
+    /// The id has no answer that init was not told yet.
     NothingDone(Id),
-    /// This is a step that init takes itself.
+    /// The happening is a step of init.
     OwnStep,
-    /// Inittab is not to be read at this point.
+    /// Init does not read inittab at this point.
     NotNow,
     /// The state text of the hand-over has at most this number of bytes.
     NotCut(u64),
     /// No state text of this generation was made before.
     NoneOlder(u64),
-    /// No generation is left for another state text.
+    /// The generation number is at its maximum, so no other state text can be made.
     Worn,
 }
 

@@ -30,9 +30,9 @@ use trace_text::{first_happening, line_count, print_table};
 pub enum SimFault {
     /// The inittab is too long.
     Table,
-    /// No happening begins at the line of this number.
+    /// The line with this number does not begin a happening.
     Script(u64),
-    /// The happening at the line of this number may not come there, or not in a script at all, for this reason.
+    /// The happening at the line with this number is not allowed at this point, or in any script, for this reason.
     Forbidden(u64, Objection),
     /// The writer failed, or wrote no byte.
     Write,
@@ -133,7 +133,7 @@ fn write_happening<A: Allocator + Copy, W: Write, F: ScriptWriter<W>>(
     Ok(())
 }
 
-/// Takes init's steps and writes them until init is at rest. Returns whether inittab is to be read then.
+/// Takes init's steps and writes them until init is at rest. Returns whether the next step reads inittab.
 fn run_until_rest<A: Allocator + Copy, W: Write, F: ScriptWriter<W>>(
     alloc: A,
     core: &mut Core<A>,
@@ -162,8 +162,8 @@ fn run_until_rest<A: Allocator + Copy, W: Write, F: ScriptWriter<W>>(
     }
 }
 
-/// Returns the objection to a happening, if any. A table, or that inittab could not be read, may come only when inittab
-/// is to be read, and a hand-over only if it can be made.
+/// Returns the objection to a happening, if any. A table or `notread` may come only when the next step reads inittab,
+/// and a hand-over only if it is possible.
 fn objection_to<A: Allocator + Copy>(
     alloc: A,
     core: &Core<A>,
@@ -202,7 +202,7 @@ fn adopt<A: Allocator + Copy>(alloc: A, core: &mut Core<A>, table: &Table<A>) ->
     }
 }
 
-/// Passes a happening of the script on to the core. `made` has the state texts that were made so far.
+/// Passes a happening of the script to the core. `made` contains the state texts made so far.
 fn pass_on<A: Allocator + Copy>(
     alloc: A,
     core: &mut Core<A>,
@@ -239,7 +239,7 @@ fn pass_on<A: Allocator + Copy>(
     Ok(())
 }
 
-/// Writes a happening that may come next, and passes it on to the core and to the simulated system.
+/// Writes a happening that may come next, and passes it to the core and to the simulated system.
 fn hear<A: Allocator + Copy, W: Write, F: ScriptWriter<W>>(
     alloc: A,
     core: &mut Core<A>,
@@ -269,8 +269,8 @@ fn hear<A: Allocator + Copy, W: Write, F: ScriptWriter<W>>(
 }
 
 /// Processes a happening of the script, unless there is an objection to it, and takes init's steps until it is at rest.
-/// `number` is that of the happening's line, and `rereads` says whether inittab is to be read now. Returns whether it
-/// is to be read next.
+/// `number` is the line number of the happening, and `rereads` is true if the current step reads inittab. Returns
+/// whether the next step reads inittab.
 fn hear_next<A: Allocator + Copy, W: Write, F: ScriptWriter<W>>(
     alloc: A,
     core: &mut Core<A>,
@@ -352,8 +352,8 @@ fn write_table<A: Allocator + Copy, W: Write, F: ScriptWriter<W>>(
     Ok(())
 }
 
-/// Processes the happenings of a text in order, and takes init's steps after each until it is at rest. `rereads` says
-/// whether inittab is to be read at the beginning.
+/// Processes the happenings of a text in order, and takes init's steps after each until it is at rest. `rereads` is
+/// true if the first step reads inittab.
 fn hear_all<A: Allocator + Copy, W: Write, F: ScriptWriter<W>>(
     alloc: A,
     core: &mut Core<A>,
@@ -418,24 +418,24 @@ fn run_script<A: Allocator + Copy, W: Write, F: ScriptWriter<W>>(
 /// Runs init over an inittab(5) and a script, and writes the trace as it grows: first the table, then each step of init
 /// and each line of the script.
 ///
-/// The script says what the system did and what reached init from outside, one happening per line. After the opening
-/// and after each line, init takes its steps until none is due except reading inittab or a re-execution. Init goes to
+/// The script lists what the system did and which requests init received, one happening per line. At the start and
+/// after each line, init takes its steps until none is due except reading inittab or a re-execution. Init goes to
 /// `level`; the default is the table's `initdefault`, or S if there is none.
 ///
-/// If inittab is to be read, a table in the script (`use` and its lines) is what was read, and `notread` says that
-/// inittab could not be read. At other points neither may come.
+/// When init reads inittab, a table in the script (`use` and its lines) is the result, or `notread` if inittab could
+/// not be read. At other points neither is allowed.
 ///
-/// At `handed`, init's state is written, passed on and taken over, and a request for a re-execution counts as done. If
-/// the text came whole (`whole`), the core that was taken over continues. If it is cut after the given number of bytes,
-/// of which it must have more (`cut`), or an older text of the run comes in its place, which must have been made
-/// (`older`, with its generation), the text is rejected and the old core continues. Each of these three makes a text
-/// and raises the generation, and may not come if no generation is left. `handed none` makes nothing.
+/// A line `handed` hands init's state over and completes a request for re-execution. With `whole`, the text arrives
+/// unchanged, and the run continues with the core that was taken over. With `cut`, only the given number of bytes
+/// arrives, which must be less than its length; with `older`, an earlier text with the given generation arrives
+/// instead; in both cases the text is rejected and the old core continues. Each of these three makes a text and raises
+/// the generation, and is not allowed if the generation is at its maximum. `handed none` makes no text.
 ///
-/// The run ends at the end of the script, or before the first line that is not a line of a trace (`Script`) or may not
-/// come there (`Forbidden`, with the reason). Lines are counted from 1, including those of a table, which is named by
-/// its first line. An inittab of more than 1,048,576 bytes is rejected (`Table`). If the writer fails (`Write`), a
-/// proper prefix of the trace was written; no other fault is `Write`. If memory allocation fails (`Memory`), a prefix
-/// of the trace was written.
+/// The run ends at the end of the script, or before the first line that is not a line of a trace (`Script`) or is not
+/// allowed at this point (`Forbidden`, with the reason). Lines are counted from 1, including the lines of a table; a
+/// fault in a table names its first line. An inittab of more than 1,048,576 bytes is rejected (`Table`). If the writer
+/// fails (`Write`), a proper prefix of the trace was written; no other fault is `Write`. If memory allocation fails
+/// (`Memory`), a prefix of the trace was written.
 pub fn simulate<A: Allocator + Copy, W: Write, F: ScriptWriter<W>>(
     alloc: A,
     inittab: &[u8],
@@ -454,7 +454,7 @@ pub fn simulate<A: Allocator + Copy, W: Write, F: ScriptWriter<W>>(
     write_table::<A, W, F>(alloc, out, core.table())?;
     let mut side = SimulatedSystem::new(alloc);
     let ended = run_script::<A, W, F>(alloc, &mut core, &mut side, out, script);
-    // A single call each, because the prover would otherwise go through the fields of the dropped values one by one.
+    // Explicit drops, because the prover would otherwise go through the fields of the dropped values one by one.
     drop(side);
     drop(core);
     ended

@@ -18,8 +18,8 @@ pub struct SimulatedChild {
     pub is_dead: bool,
 }
 
-/// The state of the simulated system between two happenings: the orders that are not carried out, the acts that are not
-/// told, and the unreaped children.
+/// The state of the simulated system between two happenings: the orders not yet carried out, the answers not yet told,
+/// and the unreaped children.
 #[derive(Drop)]
 pub struct SimulatedSystem<A: Allocator = Global> {
     orders: IndexMap<Id, OrderKind, BuildHasherDefault<FoldHasher>, A>,
@@ -45,7 +45,7 @@ impl<A: Allocator + Copy> SimulatedSystem<A> {
     ghost use Rattle.simulator.specs.State.{SystemState, empty};
     ghost use Rattle.simulator.specs.Follows.{Follows};
 
-    /// Creates the system before init's first step, for a trace that has only a table. This does not allocate.
+    /// Creates the system before init's first step, for a trace that has only a table. This does not allocate memory.
     pub fn new(alloc: A) -> SimulatedSystem<A>
         ensures { (table : List Entry) → Follows result (NewTable table ∷ []) }
     {
@@ -73,8 +73,8 @@ impl<A: Allocator> SimulatedSystem<A> {
     ghost use Rattle.simulator.specs.Follows.{Follows};
 
     /// Returns whether the happening may come next and can come from a script: an act on an order, a death, a `told`, a
-    /// nudge, a reading of the clock, a request, a hand-over, or that inittab could not be read. A step of init is
-    /// never allowed.
+    /// nudge, a reading of the clock, a request, a hand-over, or a `notread`. A step of init is never
+    /// allowed.
     pub fn allows<B: Allocator>(&self, happening: &HappeningIn<B>) -> bool
         ensures may_come { (goal : Goal) (past : List Event)
             → IsTrue (is_sound goal past) → Follows self.now past
@@ -84,7 +84,7 @@ impl<A: Allocator> SimulatedSystem<A> {
         self.objection(happening).is_none()
     }
 
-    /// Returns the first reason why the happening may not come next, or not in a script, or `None` if it may.
+    /// Returns the first reason why the happening may not come next in a script, or `None` if it may.
     pub fn objection<B: Allocator>(&self, happening: &HappeningIn<B>) -> Option<Objection>
         ensures value { result ≡ objection_to self.now happening.now }
         ensures none { (goal : Goal) (past : List Event)
@@ -172,7 +172,7 @@ impl<A: Allocator> SimulatedSystem<A> {
         }
     }
 
-    /// Returns the answer that is under way to the id's order, that is, what was done for the id and not told yet.
+    /// Returns the answer under way to the id's order: the system has carried it out, and init was not told yet.
     pub fn answer(&self, id: &Id) -> Option<Answer>
         ensures { (past : List Event) → Follows self.now past → result ≡ answered_of id.now past }
     {
@@ -186,7 +186,7 @@ impl<A: Allocator> SimulatedSystem<A> {
     }
 
     /// Updates the state for a happening of any kind, so that it fits the longer trace. If memory allocation fails,
-    /// nothing changes; this is only possible for an order and for an act.
+    /// nothing changes. Only an order or an act allocates memory.
     pub fn take<B: Allocator>(&mut self, happening: &HappeningIn<B>) -> Result<(), Memory>
         ensures ok { OnOk result ((goal : Goal) (past : List Event)
             → IsTrue (is_sound goal (happening.now ∷ past)) → Follows self.old past
@@ -249,7 +249,7 @@ impl<A: Allocator> SimulatedSystem<A> {
         Ok(())
     }
 
-    /// Adds a child. The memory for its answer is reserved first.
+    /// Adds a child. Reserves the memory for its answer first.
     fn birth(&mut self, id: Id, number: ChildNumber) -> Result<(), Memory>
         ensures orders { OnOk result
             (OrdersAfterChange self.old self.new (λ other. without other id)) }

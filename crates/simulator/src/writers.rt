@@ -1,4 +1,4 @@
-//! Writers whose faults proofs can see.
+//! Writers whose failures are visible to proofs.
 
 ghost use Rattle.std.specs.Prelude.{◌≡◌, Bool, true, OnOk, OnErr};
 ghost use Rattle.std.specs.Io.KnownBytes.{Appends};
@@ -8,7 +8,7 @@ use program_io::write_text;
 use std::io;
 use std::io::Write;
 
-/// How a text is written to a `W`, and how proofs see that a `W` has failed.
+/// Writes texts to a `W`, and defines for proofs when a `W` has failed.
 pub trait ScriptWriter<W: Write> {
     // The writer refused a write, or wrote no byte of one.
     ghost has_failed: { W → Bool };
@@ -21,7 +21,7 @@ pub trait ScriptWriter<W: Write> {
         ensures failed { OnErr result (has_failed out.new ≡ true) };
 }
 
-/// Writes to a writer whose faults are visible only in the result of a write.
+/// Writes to a writer whose failures are visible only in the result of a write.
 pub struct Untold;
 
 impl<W: Write> ScriptWriter<W> for Untold {

@@ -76,7 +76,7 @@ pub fn turn<A: Allocator + Copy, H: Host, L: Log>(
     ensures makes { MadeCallsLead L.state edge.old edge.new
         (IsTurn strict result) (TracksPoint core.old blocks.old)
         (HoldsAfterTurn result core.new blocks.new) }
-    // whatever is answered: the log only takes more, and seconds that are at most 3,600 stay so
+    // whatever the answers: the log only grows, and grace periods of at most 3,600 seconds stay so
     ensures grows { ExtendsLogFromReader core.old core.new blocks.old blocks.new
         (L.state edge.old.log) (L.state edge.new.log) }
     ensures settings { H.settings edge.new.host ≡ H.settings edge.old.host }
@@ -146,7 +146,7 @@ pub fn serve<A: Allocator + Copy, H: Host, L: Log, W: TurnObserver<A>>(
     ensures fewer { result.turns < turns → (drain ≡ true) × (result.drained ≡ true) }
     ensures drained { result.drained ≡ is_drained core.new }
     ensures logged { result.logged ≡ not (L.state edge.new.log).failed }
-    // whatever is answered: the log only takes more, and seconds that are at most 3,600 stay so
+    // whatever the answers: the log only grows, and grace periods of at most 3,600 seconds stay so
     ensures grows { ExtendsLogFromCore core.old core.new (L.state edge.old.log)
         (L.state edge.new.log) }
     ensures settings { H.settings edge.new.host ≡ H.settings edge.old.host }
