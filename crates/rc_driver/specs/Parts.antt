@@ -29,12 +29,12 @@ ScriptProgresses limit before old now new pauses calls = (count_pauses calls ≡
     × ((command : List ℕ) (earlier : List HostCall) → RunsTo limit command before old earlier
     → RunsTo limit command now new (calls ++ earlier))
 
--- the same, without a change of its timer
+-- the same, with the timer unchanged
 abbrev pub ScriptContinues : Option ℕ → Progress → Progress → ℕ → List HostCall → Type 0
 ScriptContinues limit before now pauses calls = (time : Timer)
     → ScriptProgresses limit before time now time pauses calls
 
--- the calls from the start on brought the script to this progress; their pauses are those that are no longer available
+-- the calls since the start brought the script to this progress, and used the pauses by which `old` exceeds `new`
 abbrev pub GoneTo : Option ℕ → List ℕ → Progress → Timer → ℕ → ℕ → List HostCall → Type 0
 GoneTo limit command now time old new calls = RunsTo limit command now time calls × (old ≡ count_pauses calls + new)
 
@@ -52,17 +52,17 @@ EndsEarly way dir link command pauses told tells calls = (now : Progress) × (ti
     × RunsTo way.seconds command now time calls × (count_pauses calls ≡ pauses)
     × Tells told tells (time_lines way dir link time)
 
--- it has to be looked at
+-- the script was started, and a look at it is due
 abbrev pub is_born : Progress → Bool
 is_born progress.Born = true
 is_born _ = false
 
--- it may have to be sent a signal
+-- the script was found alive, and a signal to it may be due
 abbrev pub is_found : Progress → Bool
 is_found progress.Found = true
 is_found _ = false
 
--- the script that a command starts did not finish within the pauses, and is named; or its line was not written
+-- the script did not finish within the pauses, and the result names its link; or its line could not be written
 abbrev pub EndsCommand : ScriptOptions → List ℕ → List ℕ → ℕ → LinkRun → Output → RunEnd → Output → List HostCall
     → Type 0
 EndsCommand way dir command pauses s before (run_end.Limit link) after calls = (link.now ≡ s.0)
@@ -72,7 +72,7 @@ EndsCommand way dir command pauses s before run_end.Write after calls = (given :
     × AppendsPrefix before.lines after.lines (line_of s given)
 EndsCommand way dir command pauses s before _ after calls = ⊥
 
--- the next script was handed out and finished, and its lines were written
+-- the next script ran and finished, and its lines were written
 abbrev pub Advanced : ScriptOptions → List ℕ → ℕ → ℕ → Bool → Bool → RcState → Output → RcState → Output → List HostCall
     → Type 0
 Advanced way dir pauses still failed fails old before new after calls = (s : LinkRun) × (given : RcAnswer)

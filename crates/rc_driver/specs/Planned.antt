@@ -14,14 +14,14 @@ use Rattle.rc_driver.specs.Runs.{LinkRun, with_arg}
 abbrev pub AreNamed : List PlannedText → Type 0
 AreNamed plan = AllByRecursion (λ (s : PlannedText). is_name s.name ≡ true) plan
 
--- all links of a plan that stop services at the level, and then those of its links that start services there and are
--- not skipped
+-- the links of a plan that stop services at the level, then the links that start services at the level and are not
+-- skipped
 abbrev pub plan_run : List PlannedText → Level → List (List ℕ) → List (List ℕ) → List LinkRun
 plan_run plan level previous new =
     with_arg arg.Stop (ordered (stop_links level plan))
     ++ with_arg arg.Start (ordered (filter (λ link. not (is_skipped previous new link)) (start_links level plan)))
 
--- if a folder holds exactly the links of a plan, in any order, this is what is run
+-- if a folder holds exactly the links of a plan, in any order, rc runs the scripts of `plan_run`
 abbrev pub RunsPlans : List (List ℕ) → List (List ℕ) → List LinkRun → Type 0
 RunsPlans previous new runs = (plan : List PlannedText) (level : Level) → AreNamed plan
     → IsPermutation (links_at plan level) new → runs ≡ plan_run plan level previous new

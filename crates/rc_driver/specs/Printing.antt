@@ -1,4 +1,4 @@
--- A dry run, which prints what would be run.
+-- A dry run, which prints the commands instead of running them.
 use Rattle.std.specs.Prelude.{◌≡◌, ◌⊎◌, ℕ, true, false, List, [], ◌∷◌, ◌++◌, codes, Option}
 use Rattle.std.specs.Io.KnownBytes.{Appends}
 use Rattle.program_io.specs.Writing.{AppendsPrefix}
@@ -27,9 +27,8 @@ abbrev pub Printed : ScriptOptions → List ℕ → RcState → Option (List ℕ
 Printed way dir old before new after = (s : LinkRun) × (old.waits ≡ false) × (old.remaining ≡ s ∷ new.remaining)
     × (new.waits ≡ false) × Appends before after (command_line way dir s)
 
--- The lines of the remaining scripts were written: all of them if the dry run is complete, otherwise a prefix.
--- Otherwise it ends only at a failed write or for lack of memory, or, without a line, because a script that was handed
--- out earlier has no answer yet.
+-- The dry run wrote the lines of the remaining scripts: all of them if it is complete, otherwise a prefix. It is
+-- incomplete only if a write failed or memory ran out, or, without a line, if an earlier script has no answer yet.
 pub record PrintsLinks (way : ScriptOptions) (dir : List ℕ) (old : RcState) (before : Option (List ℕ)) (ended : RunEnd)
     (new : RcState) (after : Option (List ℕ)) : Type 0 where
   pub part : AppendsPrefix before after (command_lines way dir old.remaining)

@@ -1,4 +1,4 @@
--- The calls to a host that run one script, the newest first, and the progress of the script that they mean.
+-- The calls to a host that run one script, newest first, and the resulting progress of the script.
 use Rattle.std.specs.Prelude.{◌≡◌, ℕ, Bool, true, false, if◌then◌else◌, List, [], ◌∷◌, length, filter, codes, Option}
 use Rattle.std.specs.Prelude.{Some, None}
 use Rattle.init_words.specs.Ids.{same_id}
@@ -29,34 +29,34 @@ abbrev pub by_look : Option ℕ → Answer → Progress
 by_look limit (given.Ended how) = progress.Over (answer.Ended how)
 by_look limit _ = alive limit
 
--- the progress after the answer to the start: a child that was born is looked at before any pause
+-- the progress after the answer to the start: a look at a new child comes before any pause
 abbrev pub by_start : Option ℕ → Answer → Progress
 by_start limit (given.Born number) = progress.Born
 by_start limit given.NotBorn = progress.Over answer.NotStarted
 by_start limit said = by_look limit said
 
--- the progress after a reply: if the answer will come later, it is waited for
+-- the progress after a reply: if the reply is `Later`, the script waits for the answer
 abbrev pub by_reply : (Answer → Progress) → Reply → Progress
 by_reply by (Now said) = by said
 by_reply by Later = progress.Asked
 
--- the progress after a pause and the answer that came later, if any: an answer for this script counts if one is waited
--- for; a script that lives is looked at again
+-- the progress after a pause and a late answer, if any: an answer for the script counts if the script waits for one; if
+-- the script is alive, another look at it is due
 abbrev pub by_late : Option ℕ → Progress → Option (List ℕ × Answer) → Progress
 by_late limit progress.Living late = progress.Born
 by_late limit progress.Asked (Some late) = if same_id late.0 script_id then by_start limit late.1 else progress.Asked
 by_late limit before late = before
 
--- the script waits for an answer, or lives
+-- the script waits for an answer, or is alive
 abbrev pub is_waiting : Progress → Bool
 is_waiting progress.Asked = true
 is_waiting progress.Living = true
 is_waiting _ = false
 
 -- The calls run the script that this command starts, possibly with a time limit in seconds, and bring it to this
--- progress and this timer. It was started once, under the id of scripts. It is looked at after its birth and whenever
--- that is due again. If it was found alive and there is a limit, the clock is read, and the signal that is then due is
--- sent. While it waits for an answer or lives, there is a pause, after which the host is asked for a late answer.
+-- progress and this timer. They start it once, under the id of scripts. A look follows its birth, and each time that a
+-- look is due again. If a look finds it alive and there is a limit, they read the clock, and send a signal if one is
+-- due. While it waits for an answer or is alive, they pause, and then ask the host for a late answer.
 abbrev pub RunsTo : Option ℕ → List ℕ → Progress → Timer → List HostCall → Type 0
 RunsTo limit command now time (call.Start id text reply ∷ calls) = (id ≡ script_id) × (text ≡ command) × (calls ≡ [])
     × (now ≡ by_reply (by_start limit) reply) × (time ≡ timer.Unread)

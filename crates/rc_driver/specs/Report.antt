@@ -1,4 +1,4 @@
--- The lines of the scripts that were run, and how a run on a host ends.
+-- The lines written for the scripts that ran, and how a run on a host ends.
 use Rattle.std.specs.Prelude.{◌≡◌, ℕ, Bool, true, false, if◌then◌else◌, List, [], ◌∷◌, ◌++◌, length, codes, decimal}
 use Rattle.std.specs.Prelude.{Option, Some, None}
 use Rattle.std.specs.List.{list_any}
@@ -37,7 +37,7 @@ abbrev pub end_text : RcAnswer → List ℕ
 end_text (answer.Ended how) = status_text how
 end_text answer.NotStarted = codes " not started\n"
 
--- a line of a script: its link, its argument, and what happened
+-- a line about a script: its link, its argument, and its outcome
 abbrev pub script_line : LinkRun → List ℕ → List ℕ
 script_line s how = s.0 ++ (codes " " ++ (arg_word s.1 ++ how))
 
@@ -53,7 +53,7 @@ begin_line s = script_line s (codes " begins\n")
 abbrev pub lines_of : ScriptOptions → LinkRun → RcAnswer → List ℕ
 lines_of way s given = (if way.verbose then begin_line s else []) ++ line_of s given
 
--- what has been written to the output, and what has been reported, as far as these are known
+-- the lines written to the output, if they are known, and the messages reported
 pub record Output : Type 0 where
   pub lines : Option (List ℕ)
   pub told : ReportList
@@ -61,7 +61,7 @@ pub record Output : Type 0 where
 abbrev pub output : Option (List ℕ) → ReportList → Output
 output lines told = record { lines = lines; told = told }
 
--- the lines, of which the newest is first, were reported
+-- the lines, given newest first, were reported
 abbrev pub Tells : ReportList → ReportList → List (List ℕ) → Type 0
 Tells before after [] = after ≡ before
 Tells before after (line ∷ lines) =
@@ -81,7 +81,7 @@ abbrev pub before_code : Option Level → ℕ
 before_code (Some level) = level_code level
 before_code None = 78
 
--- env(1), which sets RUNLEVEL and PREVLEVEL for a script (init(8)), if scripts are given them
+-- the env(1) command that sets RUNLEVEL and PREVLEVEL for a script (init(8)), if rc sets them
 abbrev pub level_words : Option LevelChange → List ℕ
 level_words None = []
 level_words (Some change) =
@@ -97,7 +97,7 @@ abbrev pub report : ScriptOptions → List LinkRun → List RcAnswer → List �
 report way (s ∷ scripts) (given ∷ answers) = lines_of way s given ++ report way scripts answers
 report way _ _ = []
 
--- how a run ends in which all scripts are finished
+-- the end of a run in which all scripts are finished
 abbrev pub done_end : Bool → RunEnd
 done_end failed = if failed then run_end.Failed else run_end.Done
 
@@ -107,10 +107,10 @@ is_over run_end.Done = true
 is_over run_end.Failed = true
 is_over _ = false
 
--- The effect of a run on a host on the remaining scripts and the output. Lines of the remaining scripts were written,
--- each with an answer; that this is the host's answer is not said here. If the run is over, which shows whether a
--- script failed, these are the lines of all of them. Otherwise they are the lines up to where it ended, and the script
--- that was handed out last has no answer.
+-- The effect of a run on a host on the remaining scripts and the output. The run wrote the lines of the remaining
+-- scripts, each with an answer (other definitions state that it is the host's). If the run is over, it wrote the lines
+-- of all of them, and its end shows whether a script failed. Otherwise it wrote the lines up to the point at which it
+-- ended, and the last script that it began has no answer.
 pub record WritesEnds (way : ScriptOptions) (old : RcState) (before : Option (List ℕ)) (ended : RunEnd) (new : RcState)
     (after : Option (List ℕ)) : Type 0 where
   pub answers : List RcAnswer

@@ -1,5 +1,4 @@
--- The scripts that are run when a level is entered, and the progress of their run (LSB Core 5.0, System
--- Initialization).
+-- The scripts that rc runs when init enters a level, and the state of a run (LSB Core 5.0, System Initialization).
 use Rattle.std.specs.Prelude.{ℕ, Bool, true, not, ◌==◌, List, ◌++◌, map}
 use Rattle.std.specs.Borrow.{Bor}
 use Rattle.rc_driver.specs.declared.runs.Arg.{Arg}
@@ -33,7 +32,7 @@ abbrev pub is_failure : RcAnswer → Bool
 is_failure (answer.Ended (status.Exit code)) = not (code == 0)
 is_failure _ = true
 
--- the scripts that have not been handed out, and whether the one handed out last has no answer yet
+-- the scripts that the run has not begun, and whether the last one begun has no answer yet
 pub record RcState : Type 0 where
   pub remaining : List LinkRun
   pub waits : Bool

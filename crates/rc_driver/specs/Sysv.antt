@@ -1,4 +1,4 @@
--- The scripts that sysv-rc runs when a level is entered.
+-- The scripts that sysv-rc runs when init enters a level.
 use Rattle.std.specs.Prelude.{ℕ, Bool, true, false, not, ◌&&◌, List, [], ◌++◌, Option, Some, None}
 use Rattle.std.specs.List.{filter}
 use Rattle.std.specs.Str.{byte}
@@ -9,7 +9,7 @@ use Rattle.rc_driver.specs.declared.runs.LevelChange.{LevelChange}
 use Rattle.rc_driver.specs.Links.{has_link, is_link, ordered, start_links}
 use Rattle.rc_driver.specs.Runs.{LinkRun, rc_run, with_arg}
 
--- the previous level had stopped the link's service: it has a K link with the same part, and no S link
+-- the previous level had stopped the link's service: it has a K link to the same script, and no S link
 abbrev pub was_stopped : List (List ℕ) → List ℕ → Bool
 was_stopped previous link = has_link (byte "K") link previous && not (has_link (byte "S") link previous)
 

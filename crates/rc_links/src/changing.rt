@@ -143,7 +143,8 @@ fn add_folder<A: Allocator + Copy>(
 
 /// Returns the changes after which the numbered links to planned scripts in the folders are exactly the links of the
 /// plan. In each folder, they first remove the old links that occupy a name of the plan, then create the links of the
-/// plan, and then remove the other old links. The scripts' paths are the targets of the links.
+/// plan, and then remove the other old links. So if the changes are interrupted at any point, each script still has a
+/// link in every folder in which it had one and should have one. The scripts' paths are the targets of the links.
 pub fn changes<A: Allocator + Copy>(
     alloc: A,
     targets: &[Vec<u8, A>],

@@ -81,7 +81,7 @@ fn all_links<A: Allocator + Copy>(
     Ok(found)
 }
 
-/// Returns the runlevels in which there is such a link.
+/// Returns the runlevels that have a link with the letter to the script of this name.
 fn levels_in<A: Allocator>(
     alloc: A,
     letter: u8,
@@ -130,8 +130,8 @@ fn kept_script<A: Allocator + Copy>(
 }
 
 impl<A: Allocator + Copy> Plan<A> {
-    /// Returns a plan with the same numbers. A script that has numbered links in the folders has the runlevels of
-    /// these: it is started where it has an `S` link, and stopped where it has a `K` link.
+    /// Returns a plan with the same numbers. A script that has numbered links in the folders keeps their runlevels: it
+    /// is started in those with an `S` link, and stopped in those with a `K` link.
     pub fn kept(&self, alloc: A, folders: &[Folder<A>]) -> Result<Plan<A>, Memory>
         ensures { IfOk result (λ plan. plan ≡ kept_plan folders.now self.now) }
     {
@@ -144,7 +144,7 @@ impl<A: Allocator + Copy> Plan<A> {
     }
 }
 
-/// Returns the entries that point to an init script with none of the names.
+/// Returns the entries that are links to an init script with none of the names.
 fn gone_among<'a, A: Allocator>(
     alloc: A,
     names: &Names<'_, A>,
@@ -163,7 +163,7 @@ fn gone_among<'a, A: Allocator>(
     Ok(found)
 }
 
-/// Returns the entries of a folder that point to an init script which is none of these.
+/// Returns the entries of a folder that are links to an init script which is not among these.
 pub fn gone<'a, A: Allocator + Copy>(
     alloc: A,
     scripts: &[FolderEntry<A>],

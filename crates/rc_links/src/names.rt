@@ -17,7 +17,7 @@ fn has_name_bytes(name: &[u8]) -> bool
     name.iter().all(|byte| is_name_byte(*byte))
 }
 
-/// Reports whether a name can follow the digits of a link: one or more such bytes.
+/// Reports whether a name can follow the digits of a link: it has one or more bytes, all allowed.
 pub fn is_name(name: &[u8]) -> bool
     ensures { result ≡ is_name name.now }
 {

@@ -1,4 +1,4 @@
-//! Which scripts have to come before which, at the start and at the stop.
+//! The order constraints between scripts, at the start and at the stop.
 
 ghost use Rattle.std.specs.Prelude.{string_bytes, ◌≡◌, ◌++◌, OnOk, IfOk, length, map};
 ghost use Rattle.rc_numbers.specs.Numbering.{InRange};
@@ -10,15 +10,15 @@ use crate::tables::{Providers, position_at};
 use init_words::Memory;
 use std::alloc::Allocator;
 
-/// What scripts are ordered for.
+/// The phase for which scripts are ordered: the start or the stop.
 #[derive(Clone, Copy, PartialEq, Eq)]
 pub(crate) enum Phase {
     Start,
     Stop,
 }
 
-/// Returns the need if the script at this position names another one: at the start it needs the other; at the stop the
-/// other needs it.
+/// Returns the need when the script at this position names another script: at the start it needs the other; at the stop
+/// the other needs it.
 fn need(phase: Phase, position: usize, other: usize) -> (usize, usize)
     ensures { result ≡ need phase position other }
 {
@@ -28,7 +28,7 @@ fn need(phase: Phase, position: usize, other: usize) -> (usize, usize)
     }
 }
 
-/// Adds the needs for the names that the script at this position gives.
+/// Adds the needs for the names that the script at this position lists.
 fn add_names<A: Allocator, B: Allocator>(
     edges: &mut Vec<(usize, usize), A>,
     phase: Phase,

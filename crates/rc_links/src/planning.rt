@@ -1,4 +1,4 @@
-//! Gives each script its numbers, or says why that is impossible.
+//! Assigns numbers to scripts, or reports why that is impossible.
 
 ghost use Rattle.std.specs.Prelude.{◌≡◌, ◌≤◌, ◌<◌, IfOk, IfErr, IfSome, IfNone, None, length, map, string_bytes};
 ghost use Rattle.std.specs.List.{AllByRecursion};
@@ -54,7 +54,7 @@ fn numbered<A: Allocator + Copy>(
     }
 }
 
-/// Returns a number in the form of a link, if it is not too great.
+/// Returns a number as it appears in a link, if it is not too great.
 fn link_number(number: usize) -> Option<u8>
     ensures some { IfSome result (λ given. (given ≡ number) × (number ≤ NUMBER_LIMIT)) }
     ensures deep { IfNone result (NUMBER_LIMIT < number) }
@@ -123,7 +123,7 @@ fn planned_all<A: Allocator + Copy>(
     Ok(plan)
 }
 
-/// Gives each script its least numbers, or returns the first check that fails.
+/// Assigns each script its least numbers, or returns the first check that fails.
 pub fn plan<A: Allocator + Copy>(alloc: A, scripts: &[Script<A>]) -> Result<Plan<A>, PlanFault<A>>
     ensures planned { IfOk result (λ plan. IsPlan scripts.now plan) }
     ensures refused { IfErr result (λ fault. IsRefused scripts.now fault) }

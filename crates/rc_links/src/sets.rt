@@ -1,4 +1,4 @@
-//! Sets of names, and of folders' entries, which are searched in constant time.
+//! Sets of names, and of folders' entries, with lookup in constant time.
 
 ghost use Rattle.std.specs.Prelude.{◌≡◌, IfOk, OnOk};
 ghost use Rattle.rc_links.specs.Changes.{targets_of};

@@ -1,4 +1,4 @@
-//! Which script provides which name, and which names no script provides.
+//! Finds the script that provides a name, and names that no script provides.
 
 ghost use Rattle.std.specs.Prelude.{◌≡◌, [], string_bytes, Some, find, map, None, IfErr, IfOk, OnOk};
 ghost use Rattle.std.specs.Option.{option_map};
@@ -65,7 +65,7 @@ fn first_known<'s, A: Allocator, B: Allocator>(
     None
 }
 
-/// Returns the first of a script's provided names that is known, or otherwise its own name if another script has it.
+/// Returns the first of a script's provided names that is known, or else the script's name if another script has it.
 fn doubled<'s, A: Allocator>(
     script: &'s Script<A>,
     provided: &Providers<'_, A>,

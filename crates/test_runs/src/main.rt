@@ -1,5 +1,5 @@
-//! Runs init on the rows of standard input, each with an inittab, a script of what the system did, and the trace that
-//! must result. If init's state is handed over after any of the happenings, the rest of the trace is the same.
+//! Runs init on the rows of standard input, each with an inittab, a script of what the system does, and the expected
+//! trace. A hand-over of init's state after any of the happenings must not change the rest of the trace.
 #![tactic(auto)]
 
 mod runs;

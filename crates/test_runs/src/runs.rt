@@ -1,4 +1,4 @@
-//! Runs init on a row. A difference from the row is a text, which is empty if there is none.
+//! Runs init on a row. A difference from the row is a text, which is empty if the run matches the row.
 
 use init_words::Memory;
 use simulator::{SimFault, Untold, simulate};
@@ -10,20 +10,20 @@ use trace_text::first_happening;
 /// The line of a hand-over in a script and in a trace.
 const HANDED: &[u8] = b"handed whole\n";
 
-/// A run that was worked out by hand.
+/// A run with an expected result worked out by hand.
 #[derive(Drop)]
 pub(crate) struct Row<'t> {
     /// The inittab(5).
     pub(crate) inittab: &'t [u8],
-    /// What the system did.
+    /// The script of what the system does.
     pub(crate) script: &'t [u8],
     /// The expected trace.
     pub(crate) trace: &'t [u8],
-    /// Why the run ends before the script does; empty if it does not.
+    /// The reason why the run ends before the script; empty if it does not.
     pub(crate) fault: &'t [u8],
 }
 
-/// Returns why a run ended before its script; empty if it did not.
+/// Returns the reason why a run ended before its script; empty if it did not.
 fn end_text(alloc: Global, ended: Result<(), SimFault>) -> Result<String, AllocError> {
     match ended {
         Ok(()) => Ok(String::new(alloc)),
@@ -103,8 +103,8 @@ fn handed_difference(alloc: Global, row: &Row<'_>) -> Result<String, Memory> {
     Ok(String::new(alloc))
 }
 
-/// Runs the row, and then the row with each hand-over. None is inserted into a script that has some of its own, or does
-/// not reach its end.
+/// Runs the row, and then the row with each hand-over. Inserts no hand-over into a script that already contains one or
+/// that ends early.
 pub(crate) fn difference_of(alloc: Global, row: &Row<'_>) -> Result<String, Memory> {
     let told = run_over(alloc, row, row.script, false)?;
     if !told.is_empty() || !row.fault.is_empty() || has_handed(row.script) {

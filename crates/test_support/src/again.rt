@@ -1,25 +1,25 @@
-//! Runs a test again as a child, with its streams in files, and with or without programs in its path.
+//! Reruns a test as a child process, with its standard streams redirected to files, and a given PATH.
 
 use std::alloc::Global;
 use std::process::{Command, Processes};
 use std::rt::{Env, Files};
 use std::{env, fs, io};
 
-/// A run of a test as a child, and what it must write.
+/// A rerun of a test as a child process, and its expected output.
 pub struct Again {
-    /// The name of the test, after that of its crate.
+    /// The name of the test, without the name of its crate.
     pub test: &'static str,
-    /// The path in which programs are searched for.
+    /// The search path for programs (PATH).
     pub path: &'static str,
-    /// The files for its standard output and its standard error.
+    /// The files to which its standard output and its standard error go.
     pub out: &'static str,
     pub err: &'static str,
-    /// The files that are checked, with the lines that each begins with. A line may have one star, which stands for any
+    /// The files to check, with the lines with which each must begin. A line may have one star, which matches any
     /// characters.
     pub said: &'static [(&'static str, &'static str)],
 }
 
-/// Reports whether this run was started by a test.
+/// Reports whether a test started this run.
 pub fn is_again<R: Env + Alloc>(rt: &R) -> bool {
     env::var(rt, "AGAIN").is_ok()
 }
@@ -44,7 +44,7 @@ fn run_line<R: Processes>(rt: &R, command: &mut Command, line: &str) -> io::Resu
     Ok(())
 }
 
-/// Reports whether a line is the expected one, or begins and ends like it around its star.
+/// Reports whether a line matches the expected line, in which one star matches any characters.
 fn is_line(line: &str, want: &str) -> bool {
     match want.split_once('*') {
         Some((start, end)) => line.starts_with(start) && line.ends_with(end),

@@ -1,4 +1,4 @@
-//! Differences between texts and those of a row, for the reader of a failed test.
+//! Messages about differences between the actual and the expected texts of a test.
 
 use std::alloc::{AllocError, Global};
 use std::str;
@@ -49,8 +49,8 @@ pub fn difference(alloc: Global, texts: &[(&str, &[u8], &[u8])]) -> Result<Strin
     Ok(String::new(alloc))
 }
 
-/// Returns a difference from a row after the position of the row, counted from 0, and its first words; empty if there
-/// is none. `None` stands for a row that can't be parsed, or lack of memory.
+/// Returns a message with the position of the row, counted from 0, its first words and the difference; empty if there
+/// is no difference. `None` means that the row can't be parsed or memory ran out.
 pub fn row_difference(
     alloc: Global,
     position: usize,
@@ -72,7 +72,7 @@ pub fn row_difference(
     }
 }
 
-/// Returns the first row whose run differs from it, and the difference.
+/// Returns the first row whose run gives another result than expected, and the difference.
 pub fn first_difference<F: Fn(Global, &str) -> Option<String>>(
     alloc: Global,
     rows: &[&str],

@@ -1,4 +1,4 @@
-//! Fails allocations one after another, on heaps with more and more room.
+//! Makes allocations fail one after another, on heaps of increasing size.
 
 use init_words::Memory;
 use linked_list_allocator::LocalHeap;
@@ -7,7 +7,7 @@ use std::alloc::Global;
 /// The outcome of a call on a heap.
 #[derive(Clone, Copy, PartialEq, Eq)]
 pub enum Outcome {
-    /// There was no room for its arguments.
+    /// There was no room to create its arguments.
     Unmade,
     Refused,
     Done,
@@ -23,7 +23,7 @@ impl Outcome {
         }
     }
 
-    /// Returns the outcome of a call that answers whether its result is right.
+    /// Returns the outcome of a call that reports whether its result is right.
     pub fn of_answer(answer: Result<bool, Memory>) -> Option<Outcome> {
         match answer {
             Ok(true) => Some(Outcome::Done),

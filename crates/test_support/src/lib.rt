@@ -1,6 +1,9 @@
-//! Shared parts of tests: arguments of a command line, rows of texts and differences from them, programs that play the
-//! rows of standard input, the replies of a scripted host as text, values on the heap, heaps that are full except for some bytes, and a writer that accepts one
-//! byte per write until it is full, then fails or accepts none, and may fail to flush.
+//! Shared parts of tests:
+//!
+//! - command lines, rows of test data and differences from them, and programs that run the rows of standard input;
+//! - the replies of a scripted host as text;
+//! - values on the heap, and heaps that are full except for some bytes;
+//! - a writer that accepts one byte per write until it is full, then fails or accepts none, and may fail to flush.
 #![tactic(auto)]
 
 mod again;

@@ -1,8 +1,8 @@
-//! The replies that a scripted host is given, as text with items separated by ` / `: the name of the queue, and its
-//! item in the words of a trace; and the calls that were made, in words.
+//! The replies of a scripted host, as text with items separated by ` / `. Each item is the name of a queue and a reply
+//! in the notation of a trace. Also the calls made to the host, as text.
 //!
 //! `start`, `look` and `signal` have a reply: an answer, or `later`. `late` has the id before the answer, or nothing
-//! for the end of a round; `lates` has a number of answers that nobody asked for. `clock` has a reading. `table` has
+//! for the end of a round; `lates` has a number of answers that no order asked for. `clock` has a reading. `table` has
 //! the files of an inittab separated by ` + `, the lines of each separated by `|` and its name before an `@`; or
 //! `none`; or `long` for one file that is a byte too long; or `many` for 257 files. `carry` has the lines of the state
 //! text that comes back, and `bytes` the requests of a piece. A text after a `=` is taken literally. A reading, a
@@ -148,7 +148,7 @@ fn give_lates<A: Allocator + Copy>(host: &mut MemoryHost<A>, number: u32) -> Opt
     Some(())
 }
 
-/// Gives a host an item.
+/// Adds an item to a queue of a host.
 pub fn give<A: Allocator + Copy>(
     global: Global,
     alloc: A,
@@ -170,7 +170,7 @@ pub fn give<A: Allocator + Copy>(
     given.ok()
 }
 
-/// Gives a host all items of a text.
+/// Adds all items of a text to the queues of a host.
 fn give_all<A: Allocator + Copy>(
     global: Global,
     alloc: A,
@@ -185,7 +185,7 @@ fn give_all<A: Allocator + Copy>(
     Some(())
 }
 
-/// Creates a host that is given all items of a text.
+/// Creates a host with all items of a text in its queues.
 pub fn host_of<A: Allocator + Copy>(
     global: Global,
     alloc: A,
@@ -196,7 +196,7 @@ pub fn host_of<A: Allocator + Copy>(
     Some(host)
 }
 
-/// Returns the call in words, without its answer.
+/// Returns the call as text, without its answer.
 fn call_words(global: Global, call: &Call) -> Option<String> {
     match call {
         Call::Start(id, command, _) => {
@@ -227,8 +227,8 @@ fn call_words(global: Global, call: &Call) -> Option<String> {
     .ok()
 }
 
-/// Returns the calls that were made to a host, oldest first, a line each: the name of the call, with its id, and for a
-/// start the command. `None` if the host had no memory for its record.
+/// Returns the calls made to a host, oldest first, one per line: the name of the call, its id, and for a start the
+/// command. `None` if the host had no memory to record them.
 pub fn calls_of(global: Global, host: &MemoryHost) -> Option<String> {
     let mut lines = String::new(global);
     for call in host.calls()? {

@@ -1,4 +1,4 @@
-//! Programs of tests, which play the rows of standard input.
+//! Test programs that run the rows of standard input.
 //!
 //! A row is a name and fields, separated by `|`. A line that begins with two blanks belongs to the row before it: it
 //! begins the next field, or is another line of the field. A line that begins with `#` is a comment.
@@ -58,7 +58,7 @@ fn fields_of(alloc: Global, row: &Row) -> Result<Vec<&[u8]>, AllocError> {
     Ok(fields)
 }
 
-/// Reports whether a row has its result, and prints the difference if it has another one.
+/// Reports whether a row has the expected result, and prints the difference if not.
 fn has_result(
     rt: &HostRuntime,
     row: &Row,
@@ -100,9 +100,9 @@ fn are_played<F: Fn(Global, &[&[u8]]) -> Option<String>>(
     Ok(DONE)
 }
 
-/// Plays each row of standard input. `play` gets the fields of a row, the first of which is its name, and returns the
-/// first difference from what the row says, or an empty text; `None` stands for a row that can't be read, or lack of
-/// memory. The first row that has another result is reported, with its line and its name. Returns the exit status.
+/// Runs each row of standard input. `play` gets the fields of a row, the first of which is its name, and returns the
+/// first difference from the expected result, or an empty text; `None` means that the row can't be read or memory ran
+/// out. Reports the first row with another result, with its line and its name. Returns the exit status.
 pub fn play_rows<F: Fn(Global, &[&[u8]]) -> Option<String>>(rt: &HostRuntime, play: F) -> ExitCode
     requires { F.IsAlwaysCallable play }
 {

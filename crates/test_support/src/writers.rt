@@ -2,7 +2,7 @@ use std::alloc::Global;
 use std::io;
 use std::io::{ErrorKind, Write};
 
-/// A writer that accepts one byte per write. Once it has `room` bytes it fails, or accepts none.
+/// A writer that accepts one byte per write. After `room` bytes it fails, or accepts none.
 #[derive(Drop)]
 pub struct Slow {
     /// The bytes that it accepted.

@@ -22,7 +22,7 @@ clock 101\ngot level 1 5\nnudge\nuse 2\nid:3:initdefault:\nr:3:respawn:serv\nent
 ask r look\nstill r\ntold r\nclock 106\nnudge\nask r kill\nhit r\ntold r\nask r look\nnolook r\ntold r\n\
 clock 107\nnudge\nask r look\ndeath 10\nreaped r 10 killed\ntold r\nsettle 1\n";
 
-/// Returns its log.
+/// Returns the log of a test bench.
 fn log_of<A: Allocator + Copy, B: Allocator, L: Log>(bench: Box<Bench<A, B, L>>) -> L {
     let Bench { core, edge, .. } = Box::into_inner(bench);
     drop(core);

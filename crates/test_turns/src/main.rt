@@ -1,6 +1,6 @@
-//! Makes the runs of standard input: turns of init on a scripted host, each with an inittab, the host's answers, and
-//! the trace and the calls that must result. Tests of requests in pieces, of a log that fails, of lack of memory, and of
-//! the hosts themselves, including those of the operating system, whose other tests are in tools/pages.d.
+//! Runs the rows of standard input: turns of init on a scripted host, each row with an inittab, the host's answers, and
+//! the expected trace and calls. Also tests requests in pieces, a log that fails, lack of memory, and the hosts,
+//! including the hosts of the operating system, whose other tests are in tools/pages.d.
 #![tactic(auto)]
 
 #[cfg(test)]

@@ -1,8 +1,8 @@
-//! Hosts of the operating system, on the heap of the tests, whatever their own memory is, and the calls to them as
-//! text.
+//! Hosts of the operating system, which are on the heap of the tests whichever allocator they use, and the calls to
+//! them as text.
 //!
-//! A step is a call, and after ` = ` its answer if that is not the usual one. A call that reads `fails`, or `lacks`
-//! memory, and exactly then counts a fault. All orders are about one id.
+//! A step is a call, and after ` = ` its answer if that is not the usual one. The answer `fails` or `lacks` (memory)
+//! counts as a fault, and no other answer does. All orders are for one id.
 
 use host_calls::{Host, HostFault, Reply};
 use host_lines::{ChildMessage, HostLine, MessageSink, TellingRuntime};
@@ -29,11 +29,11 @@ pub(crate) type SystemHost<A> = OsHost<
     A,
 >;
 
-/// The text of each announcement: as many bytes as most of them have.
+/// The text of each announcement, which is about as long as a real one.
 const SAID: &[u8] = b"what init says of a happening\n";
 
-/// Writes, for each of some lines, a word for its kind and its subject; the wording of the programs is tested with
-/// their runs. Stages are announced, all with the same text.
+/// A reporter that writes only a word for the kind of a message, and its subject; the tests of the programs check the
+/// real wording. It announces stages, all with the same text.
 #[derive(Clone, Copy)]
 pub(crate) struct Brief(HostRuntime);
 
@@ -230,7 +230,7 @@ fn announce<B: Allocator + Copy>(host: &mut SystemHost<B>) -> &'static str {
     "yes"
 }
 
-/// Returns the answer of a call, which allocates its result with this allocator.
+/// Returns the answer of a call that allocates its result with this allocator.
 pub(crate) fn said<A: Allocator + Copy, B: Allocator + Copy>(
     rt: &HostRuntime,
     alloc: A,
@@ -261,7 +261,7 @@ pub(crate) fn said<A: Allocator + Copy, B: Allocator + Copy>(
     }
 }
 
-/// Reports whether all steps have the answers that they say.
+/// Reports whether all steps have the expected answers.
 pub(crate) fn all_go<A: Allocator + Copy, B: Allocator + Copy>(
     rt: &HostRuntime,
     alloc: A,

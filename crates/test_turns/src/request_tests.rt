@@ -1,4 +1,4 @@
-//! Tests of blocks of requests that are cut at any position, at which the turns divide them.
+//! Tests of blocks of requests that are cut at any position and arrive in different turns.
 
 use crate::runs::{Bench, bench_of, serve_on};
 use host_calls::Bytes;
@@ -31,8 +31,8 @@ fn has_requests(list: &[HappeningIn<Global>], count: usize) -> bool {
     position == count
 }
 
-/// Gives the host the bytes of the requests: those up to a position, and the others in pieces of one length, each in a
-/// turn of its own.
+/// Gives the host the bytes of the requests: the bytes up to a position, and the others in pieces of one length, one
+/// piece per turn.
 fn give_pieces(
     global: Global,
     host: &mut MemoryHost,
@@ -91,7 +91,7 @@ fn are_heard(global: Global, position: usize, length: usize, turns: Option<u64>)
     }
 }
 
-/// Lengths of pieces, and the number of turns that they take.
+/// Lengths of pieces, and the number of turns that it takes to read them.
 const LENGTHS: &[(usize, u64)] = &[(1, 1152), (7, 165), (255, 5), (256, 5), (257, 5), (1151, 2)];
 
 #[test]

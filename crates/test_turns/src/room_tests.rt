@@ -22,9 +22,9 @@ fn is_untold(global: Global) -> Option<bool> {
     Some(text.as_slice() == TRACE && bench.edge.host().calls().is_none())
 }
 
-/// A turn that does something for which there may not be enough room: what the host is given for a turn in which the
-/// child is born and for two turns of this kind; the trace of such a turn and the number of entries after it, if it was
-/// done and if it was not; and the call after which it can fail.
+/// An action in a turn for which there may not be enough memory: the host's replies for a turn in which the child is
+/// born and for two turns with the action; the trace of such a turn and the number of entries after it, if the action
+/// succeeds and if it fails; and the call after which it can fail.
 struct Scarce {
     replies: &'static str,
     done: (&'static str, usize),
@@ -32,7 +32,7 @@ struct Scarce {
     call: &'static str,
 }
 
-/// An inittab that is longer than the first one is read again.
+/// The action is to reread an inittab that is longer than the first one.
 const READING: &Scarce = &Scarce {
     replies: "start birth 10 / bytes / bytes q / \
             table id:3:initdefault:|r:3:respawn:serv|c:3:off:z|d:3:off:v|e:3:off:w / bytes / bytes q / \
@@ -49,7 +49,7 @@ const READING: &Scarce = &Scarce {
     call: "read tables\n",
 };
 
-/// Init is re-executed.
+/// The action is to re-execute init.
 const HAND_OVER: &Scarce = &Scarce {
     replies: "start birth 10 / bytes / bytes u / bytes / bytes u",
     done: (
@@ -104,7 +104,7 @@ fn outcome_of(global: Global, bench: &Scene, text: &[u8], scarce: &Scarce) -> Op
     Some(Outcome::Unmade)
 }
 
-/// Returns the outcome with this room left; with all of the room, in the next turn, it must be done.
+/// Returns the outcome with this much room left; in the next turn, with all of the room, the action must succeed.
 fn tried(global: Global, scarce: &Scarce, room: usize) -> Option<Outcome> {
     let heap = LocalHeap::new(global, 32_768).ok()?;
     let mut bench = begun(global, &heap, scarce)?;
@@ -206,9 +206,9 @@ fn has_room_for(rt: &impl Eprint, global: Global, heap: &LocalHeap, what: &str) 
     }
 }
 
-/// What needs room, and a number of heaps: each must fail on more heaps than that. Notes that can't grow report that,
-/// and do not keep anything from the log after them; a happening whose text has no room is not taken, and neither is
-/// any after it.
+/// Actions that need memory, each with a number of heaps: the action must fail on more heaps than that. Notes that
+/// can't grow report that, and still pass everything to the log after them; a log accepts no happening whose text has
+/// no room, and none after it.
 const REFUSED: &[(&str, usize)] = &[
     ("opening", 3),
     ("list", 8),

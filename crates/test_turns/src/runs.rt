@@ -1,4 +1,4 @@
-//! Runs of init on a scripted host. A difference from a row is a text, which is empty if there is none.
+//! Runs of init on a scripted host. A difference from a row is a text, which is empty if the run matches the row.
 
 use host_calls::Host;
 use host_scripted::MemoryHost;
@@ -13,7 +13,7 @@ use trace_check::Verdict;
 use trace_events::{Happening, HappeningIn};
 use trace_log::{ListLog, Log};
 
-/// A run that was worked out by hand.
+/// A run with an expected result worked out by hand.
 #[derive(Drop)]
 pub(crate) struct Row<'t> {
     /// The maximum number of turns.
@@ -22,10 +22,10 @@ pub(crate) struct Row<'t> {
     drain: bool,
     strict: bool,
     inittab: &'t [u8],
-    /// What the host answers, as `give_lines` reads it.
+    /// The answers of the host, in the form that `give_lines` reads.
     answers: &'t str,
     trace: &'t [u8],
-    /// The line of `end_text`.
+    /// The expected line of `end_text`.
     end: &'t [u8],
     /// The calls that init makes; empty if they are not checked, and `none` if it makes none.
     calls: &'t [u8],
@@ -104,7 +104,7 @@ fn bench_over<A: Allocator + Copy, B: Allocator + Copy, L: Log + Drop>(
     Ok(boxed(global, Bench { core, edge, strict })?)
 }
 
-/// Creates a core for an inittab, with a host, each in memory of its own, and with a log.
+/// Creates a core for an inittab, with a host and a log. The core and the host use separate allocators.
 pub(crate) fn bench_of<A: Allocator + Copy, B: Allocator + Copy, L: Log + Drop>(
     global: Global,
     host: Box<MemoryHost<A>>,

@@ -1,5 +1,5 @@
-//! Tests of calls to a scripted host, as text: each takes the first item of its queue, or has a fixed answer if the
-//! queue is empty; and of a host without room.
+//! Tests of calls to a scripted host, as text, and of a host without memory. Each call takes the first item of its
+//! queue, or has a fixed answer if the queue is empty.
 
 use host_calls::{Bytes, Host, HostFault, PartList};
 use host_scripted::MemoryHost;
@@ -14,8 +14,8 @@ const TABLES: &str = "table inittab@id:3:initdefault: + 10-b.tab@=b:3:once:y + 2
 /// The state text that is handed over.
 const STATE: &[u8] = &[b'x'; 64];
 
-/// What a host is given, the calls that are made then, each with the item that it must return, and the number of
-/// faults. A call `take` has room for this number of bytes, and one that `lacks` memory has none for its text.
+/// The items in the host's queues, the calls, each with the item that it must return, and the number of faults. A call
+/// `take` has room for this number of bytes, and a call that `lacks` memory has no room for its text.
 const ROWS: &[(&str, &str, u64)] = &[
     // Orders.
     ("", "start nobirth", 1),
@@ -109,7 +109,7 @@ fn are_files<A: Allocator>(
     }
 }
 
-/// Returns what a call returns that takes bytes with this room.
+/// Returns the result of a call that reads bytes with this room.
 fn taken<B: Allocator + Copy>(
     global: Global,
     host: &mut MemoryHost<B>,
@@ -207,7 +207,7 @@ pub(crate) fn has_room(global: Global, heap: &LocalHeap, call: &str) -> Option<b
     }
 }
 
-/// Returns how many times, up to a limit, the host accepts the item, or returns it.
+/// Returns how many times, up to a limit, the host accepts the item or returns it.
 fn times<'a>(
     global: Global,
     heap: &'a LocalHeap,
@@ -229,7 +229,7 @@ fn times<'a>(
     most
 }
 
-/// Returns the same while the heap is full.
+/// Returns the result of `times` while the heap is full.
 fn times_full<'a>(
     global: Global,
     heap: &'a LocalHeap,
@@ -265,7 +265,7 @@ fn refuses(global: Global, item: &str, before: usize) -> Option<bool> {
     Some(had == before && more < 100 && all == before.wrapping_add(more).wrapping_add(1))
 }
 
-/// Calls of each kind, with what they return if the queues are empty.
+/// Calls of each kind, with their results if the queues are empty.
 const CALLS: &[&str] = &[
     "pause",
     "start nobirth",
@@ -279,8 +279,7 @@ const CALLS: &[&str] = &[
     "announce",
 ];
 
-/// Reports whether a call that there is no room to record is not recorded, and neither is any later one, although there
-/// is room again.
+/// Reports whether the host does not record a call without room, nor any later call, even when there is room again.
 fn is_last(global: Global, call: &str) -> Option<bool> {
     let heap = LocalHeap::new(global, 4096).ok()?;
     let mut host = host_of(global, &heap, "")?;

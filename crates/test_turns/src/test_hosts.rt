@@ -1,7 +1,6 @@
 //! Tests of hosts of the operating system: their answers to calls that no program makes, the faults that they count,
-//! and their reports; and hosts on heaps with more and more room, until they are created and do what they are asked
-//! for, and a host that reads texts into such heaps: lack of room is answered, and counted, and the files are
-//! unchanged.
+//! and their reports. Also hosts on heaps of increasing size, up to a size with which they carry out a request, and a
+//! host that reads texts into such heaps: it reports and counts lack of memory, and leaves the files unchanged.
 
 use crate::os_hosts::{Paths, SystemHost, TEXT, all_go, host_of, said};
 use linked_list_allocator::LocalHeap;
@@ -52,7 +51,7 @@ fn a_host_answers_and_counts(rt: HostRuntime) {
 const TOLD: Paths = ("k.tab", "k.ctl", "k.state", None);
 
 const TOLD_LIVES: &[Life] = &[
-    // A first reading that fails is not one.
+    // A first reading that fails is not a fault.
     (
         TOLD,
         "",
@@ -94,8 +93,8 @@ true
 
 const SHORT: &str = "uncounted\nstarted m\n";
 
-/// Tests that at one of the sizes there is memory for a child but not to count it: that is reported, and that it was
-/// started.
+/// Tests that with one of the heap sizes there is memory to start a child but not to count it: the host reports this,
+/// and that it started the child.
 fn run_short(rt: &HostRuntime) -> Result<(), Fail> {
     for step in 4..640usize {
         let heap = LocalHeap::new(rt.alloc(), 16 * step)?;
@@ -137,9 +136,9 @@ fn lives_are_told(rt: HostRuntime) -> Result<(), Fail> {
     Ok(())
 }
 
-/// The kind of a host, or `ample` for one in ample memory that reads into a heap; its steps, of which the last is the
-/// request and needs the others; the answers, including those of later steps, if the request is done, and if it fails;
-/// and a number of heap sizes: more of them than that must be too small.
+/// A test of a request: the kind of the host, or `ample` for a host in ample memory that reads into a heap; its steps,
+/// of which the last is the request and needs the others; the answers, including later steps, if the request succeeds,
+/// and if it fails; and a number of heap sizes: more of them than that must be too small.
 type Asked = (
     &'static str,
     &'static str,
@@ -175,7 +174,7 @@ const ASKED: &[Asked] = &[
 #[derive(Clone, Copy)]
 enum Made {
     Nothing,
-    /// The host exists, but fails to do what it is asked for.
+    /// The host exists, but the request fails.
     Host,
     All,
 }
@@ -217,8 +216,8 @@ fn made_in(
     }
 }
 
-/// Tests sizes in steps of 16 bytes, which is less than the smallest allocation: first no host can be created, then one
-/// that fails to do what it is asked for, and finally, after more steps than the given number, one that does it.
+/// Tests sizes in steps of 16 bytes, which is less than the smallest allocation: first no host can be created, then a
+/// host whose request fails, and finally, after more steps than the given number, a host whose request succeeds.
 fn comes_of_room(rt: &HostRuntime, ample: &mut SystemHost<Global>, asked: &Asked) -> Option<bool> {
     let (first, most) = if asked.0 == "ample" {
         (0, 8192usize)
