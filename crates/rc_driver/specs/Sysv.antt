@@ -27,12 +27,12 @@ is_halt L0 = true
 is_halt L6 = true
 is_halt _ = false
 
--- the K links are run with `stop`, if there was a previous level
+-- sysv-rc runs the K links with `stop`, if there was a previous level
 abbrev pub sysv_stops : Option Level → List (List ℕ) → List (List ℕ) → List LinkRun
 sysv_stops None previous new = []
 sysv_stops (Some before) previous new = with_arg arg.Stop (stopping_links (byte "K") previous new)
 
--- the S links are run with `start`, or in levels 0 and 6 with `stop`
+-- sysv-rc runs the S links with `start`, or in levels 0 and 6 with `stop`
 abbrev pub sysv_starts : Bool → List (List ℕ) → List (List ℕ) → List LinkRun
 sysv_starts true previous new = with_arg arg.Stop (stopping_links (byte "S") previous new)
 sysv_starts false previous new = with_arg arg.Start (start_links previous new)
@@ -41,7 +41,7 @@ sysv_starts false previous new = with_arg arg.Start (start_links previous new)
 abbrev pub sysv_run : LevelChange → List (List ℕ) → List (List ℕ) → List LinkRun
 sysv_run change previous new = sysv_stops change.before previous new ++ sysv_starts (is_halt change.new) previous new
 
--- the scripts for the names in the previous folder and the new one; those of sysv-rc if a change of level is given
+-- the scripts for the names in the previous folder and the new one; as in sysv-rc if a change of level is given
 abbrev pub scripts_by : Option LevelChange → List (List ℕ) → List (List ℕ) → List LinkRun
 scripts_by None previous new = rc_run previous new
 scripts_by (Some change) previous new = sysv_run change previous new

@@ -1,4 +1,4 @@
--- The running time of a script with a time limit: when it is sent a signal, and the message about that.
+-- The running time of a script with a time limit: when rc sends it a signal, and the message about the signal.
 use Rattle.std.specs.Prelude.{ℕ, nat_lt, if◌then◌else◌, List, [], ◌∷◌, ◌++◌, ◌-◌, codes, decimal, Option, Some, None}
 use Rattle.std.specs.Prelude.{Result, Ok, Err, unwrap_or}
 use Rattle.init_words.specs.declared.limits.TheConstants.{GRACE}
@@ -33,7 +33,7 @@ abbrev pub timer_by : Timer → Result ℕ HostFault → Option SignalKind → T
 timer_by before (Ok now) due = timer_at before now due
 timer_by before (Err fault) due = before
 
--- the number of seconds after which a signal is sent
+-- the number of seconds after which rc sends the signal
 abbrev pub wait_of : Option ℕ → SignalKind → ℕ
 wait_of limit sig.Term = unwrap_or limit 0
 wait_of limit sig.Kill = GRACE
@@ -51,7 +51,7 @@ late_line dir link seconds signal = codes "rc: " ++ (dir ++ (codes "/" ++ (link 
 abbrev pub signal_line : Option ℕ → List ℕ → List ℕ → SignalKind → List ℕ
 signal_line limit dir link signal = late_line dir link (wait_of limit signal) signal
 
--- the messages that have been reported for a timer, the newest first
+-- the messages reported so far, given the timer, newest first
 abbrev pub time_lines : ScriptOptions → List ℕ → List ℕ → Timer → List (List ℕ)
 time_lines way dir link (timer.TermSent sent) = signal_line way.seconds dir link sig.Term ∷ []
 time_lines way dir link timer.Killed =

@@ -31,7 +31,8 @@ abbrev pub Ran : ScriptOptions → List ℕ → ℕ → LinkRun → RcAnswer →
 Ran way dir pauses s given told tells calls =
     RanBy way dir (command_text way dir s) pauses s given told tells calls
 
--- a line of a script was not written completely: that for its start, so that nothing was started; or that for its end
+-- a line of a script was not written completely: the line for its start, so the script was not started; or the line for
+-- its end
 abbrev pub EndsUnwritten : ScriptOptions → List ℕ → ℕ → LinkRun → Output → Output → List HostCall → Type 0
 EndsUnwritten way dir pauses s before after calls =
     ((way.verbose ≡ true) × (calls ≡ []) × AppendsPrefix before.lines after.lines (begin_line s)
@@ -39,8 +40,8 @@ EndsUnwritten way dir pauses s before after calls =
     ⊎ ((given : RcAnswer) × (begun : Option (List ℕ)) × Ran way dir pauses s given before.told after.told calls
     × TellsStart way s before.lines begun × AppendsPrefix begun after.lines (line_of s given))
 
--- How a run ends at a script: the pauses are used up and it is not finished, and it is named; or a prefix of one of its
--- lines was written; or it was not started because memory ran out.
+-- How a run ends at a script: the pauses are used up, the script is not finished, and the result names its link; or a
+-- prefix of one of its lines was written; or it was not started because memory ran out.
 abbrev pub ScriptsEndAt : ScriptOptions → List ℕ → ℕ → LinkRun → Output → RunEnd → Output → List HostCall → Type 0
 ScriptsEndAt way dir pauses s before (run_end.Limit link) after calls =
     (link.now ≡ s.0) × (now : Progress) × (time : Timer)
@@ -51,8 +52,8 @@ ScriptsEndAt way dir pauses s before run_end.Write after calls = EndsUnwritten w
 ScriptsEndAt way dir pauses s before run_end.Memory after calls = (calls ≡ []) × (after ≡ before)
 ScriptsEndAt way dir pauses s before _ after calls = ⊥
 
--- a script ran until it finished with the host's answer, and its lines were written; `Rest` holds of the later calls,
--- with the pauses that remain, whether this script failed, and the output so far
+-- a script ran until it finished with the host's answer, and its lines were written; `Rest` holds for the later calls,
+-- given the pauses that remain, whether this script failed, and the output so far
 abbrev pub ScriptsGoOn : ScriptOptions → List ℕ → ℕ → LinkRun → Output → List HostCall
     → (ℕ → Bool → Output → List HostCall → Type 0) → Type 0
 ScriptsGoOn way dir pauses s before calls Rest = (given : RcAnswer) × (first later : List HostCall)
@@ -60,9 +61,9 @@ ScriptsGoOn way dir pauses s before calls Rest = (given : RcAnswer) × (first la
     × Appends before.lines between.lines (lines_of way s given)
     × Rest (pauses - count_pauses first) (is_failure given) between later
 
--- The scripts were run one after another, from a folder and with this number of pauses; `failed` says whether one
--- failed before. Each was run until it finished, and then the next, until none remained or the run ended at one. The
--- scripts after it remain.
+-- The scripts ran one after another, from a folder and with this number of pauses; `failed` is true if an earlier
+-- script failed. Each script ran until it finished before the next began, until none remained or the run ended at a
+-- script. The scripts after that one remain.
 abbrev pub RunsFrom : ScriptOptions → List ℕ → ℕ → Bool → List LinkRun → Output → RunEnd → List LinkRun → Output
     → List HostCall → Type 0
 RunsFrom way dir pauses failed [] before ended remaining after calls =
@@ -72,8 +73,8 @@ RunsFrom way dir pauses failed (s ∷ scripts) before ended remaining after call
     ⊎ ScriptsGoOn way dir pauses s before calls
     (λ still fails between later. RunsFrom way dir still (failed || fails) scripts between ended remaining after later)
 
--- A run of the remaining scripts; `failed` says whether one failed before. If one that was handed out earlier has no
--- answer yet, none is run.
+-- A run of the remaining scripts; `failed` is true if an earlier script failed. If a script that was begun earlier has
+-- no answer yet, no script runs.
 pub record RunsLinks (way : ScriptOptions) (dir : List ℕ) (pauses : ℕ) (failed : Bool) (old : RcState) (before : Output)
     (ended : RunEnd) (new : RcState) (after : Output) (calls : List HostCall) : Type 0 where
   pub waits : old.waits ≡ true → (ended ≡ run_end.Waiting) × (new ≡ old) × (after ≡ before) × (calls ≡ [])

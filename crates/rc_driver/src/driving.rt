@@ -24,9 +24,9 @@ pub enum RunEnd<'n> {
     Done,
     /// All scripts are finished. At least one was not started, or did not exit with status 0.
     Failed,
-    /// The limit of pauses is reached, and the script of this link, which was handed out last, is not finished.
+    /// The limit of pauses is reached, and the script of this link, the last one begun, is not finished.
     Limit(&'n str),
-    /// A script that was handed out earlier has no answer yet. Nothing was run.
+    /// A script that was begun earlier has no answer yet, so no script was run.
     Waiting,
     /// A line could not be written.
     Write,
@@ -44,14 +44,14 @@ fn is_failure(answer: &RcAnswer) -> bool
     }
 }
 
-/// Reports whether a script failed before, or the one with this answer did.
+/// Reports whether an earlier script failed, or the script with this answer did.
 fn failed_by(failed: bool, answer: &RcAnswer) -> bool
     ensures { result ≡ (failed || is_failure answer.now) }
 {
     failed || is_failure(answer)
 }
 
-/// Returns how a run ended in which all scripts are finished.
+/// Returns the end of a run in which all scripts are finished.
 fn done_end(failed: bool) -> RunEnd<'static>
     ensures { result ≡ done_end failed }
 {
@@ -182,11 +182,11 @@ fn run_next<'n, A: Allocator + Copy, B: Allocator, H: Host, W: Write, E: Reporte
 /// and `exit N`, `killed` or `not started`. In verbose runs there is also a line at its start.
 ///
 /// `dir` is the path of the new level's folder. The host starts each script under the id `rc`, and looks at it until it
-/// has ended, with a pause between two looks; `limit` is the maximum number of pauses. If scripts have a time limit, a
-/// script that was found alive and has run for longer, by the host's clock, is sent SIGTERM, and SIGKILL if it keeps
-/// running for longer than init's grace period. Each signal is reported on `err`, in a line with the link. The run
-/// continues however a script ends. If the run ends early, `rc` waits for the answer to the script that was handed out
-/// last. If it already waited for an answer, nothing is run.
+/// has ended, with a pause between two looks; `limit` is the maximum number of pauses. If scripts have a time limit,
+/// this sends SIGTERM to a script that has run for longer, by the host's clock, and SIGKILL if it keeps running for
+/// longer than init's grace period. It reports each signal on `err`, in a line with the link. The run continues however
+/// a script ends. If the run ends early, `rc` still waits for the answer of the last script begun. If it was already
+/// waiting for an answer, no script runs.
 pub fn run_links<'n, A: Allocator + Copy, B: Allocator, H: Host, W: Write, E: Reporter>(
     alloc: A,
     rc: &mut Rc<'n, B>,

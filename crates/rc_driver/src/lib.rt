@@ -1,8 +1,8 @@
 //! Runs the scripts of a runlevel on a host, one at a time, and writes their lines (LSB Core 5.0, System
 //! Initialization).
 //!
-//! `Rc` has the scripts of the change in their order: which links of the runlevel's folder are run and with which
-//! argument, one at a time.
+//! `Rc` yields the scripts for a change of runlevel in order, one at a time: the link in the runlevel's folder and the
+//! argument.
 #![tactic(auto)]
 
 mod driving;

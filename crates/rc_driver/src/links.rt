@@ -1,4 +1,4 @@
-//! Selects the links of a runlevel's folder that are run, and sorts them.
+//! Selects the links of a runlevel's folder to run, and sorts them.
 
 ghost use Rattle.std.specs.Prelude.{◌≡◌, map, string_bytes, IfOk};
 ghost use Rattle.rc_driver.specs.Links.{has_link, is_link, is_link_like, is_started, ordered, start_links, stop_links};
@@ -78,7 +78,7 @@ fn put_in_order<'n, A: Allocator>(links: &mut Vec<&'n str, A>)
     links.dedup();
 }
 
-/// Returns the links of the new folder that are run with `stop`.
+/// Returns the links of the new folder to run with `stop`.
 pub(crate) fn stop_links<'n, A: Allocator>(
     alloc: A,
     new: &'n [String],
@@ -96,7 +96,7 @@ pub(crate) fn stop_links<'n, A: Allocator>(
     Ok(links)
 }
 
-/// Returns the links of the new folder that are run with `start`.
+/// Returns the links of the new folder to run with `start`.
 pub(crate) fn start_links<'n, A: Allocator>(
     alloc: A,
     previous: &[String],

@@ -1,4 +1,4 @@
-//! A dry run: prints what would be run.
+//! A dry run: prints the commands instead of running them.
 
 ghost use Rattle.std.specs.Prelude.{◌≡◌, None, IfSome, IfErr, OnOk};
 ghost use Rattle.std.specs.Io.KnownBytes.{Appends};
@@ -61,8 +61,8 @@ fn print_link<A: Allocator + Copy, W: Write>(
     tell_text(out, command.as_str())
 }
 
-/// Writes the command that would start each of the remaining scripts, one per line, and runs none. It needs no host.
-/// Each script is handed out, and answered as not started.
+/// Writes the command that would start each of the remaining scripts, one per line, without running any. It needs no
+/// host. It takes each script from `rc`, and answers that it was not started.
 pub fn print_links<'n, A: Allocator + Copy, B: Allocator, W: Write>(
     alloc: A,
     rc: &mut Rc<'n, B>,

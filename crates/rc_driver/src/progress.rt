@@ -19,13 +19,13 @@ use std::alloc::Allocator;
 /// The progress of a script.
 #[derive(Clone, Copy)]
 pub(crate) enum Progress {
-    /// The answer to the last order will come later.
+    /// The answer to the last order has not arrived yet.
     Asked,
-    /// The script has to be looked at.
+    /// The script was started, and a look at it is due.
     Born,
-    /// The script lives, and its running time has to be checked.
+    /// The script is alive, and a check of its running time is due.
     Found,
-    /// The script lives, and has to be looked at after the next pause.
+    /// The script is alive, and the next look comes after a pause.
     Living,
     /// The script is finished.
     Over(RcAnswer),
@@ -72,7 +72,7 @@ fn by_start(limit: Option<u32>, answer: Answer) -> Progress
     }
 }
 
-/// Returns the progress of a script after an answer that came later.
+/// Returns the progress of a script after a late answer, if there is one.
 fn by_late(limit: Option<u32>, progress: Progress, late: Option<(Id, Answer)>) -> Progress
     ensures { result ≡ by_late limit progress late }
 {
@@ -101,7 +101,7 @@ fn started<A: Allocator + Copy, H: Host>(
     }
 }
 
-/// Looks at a script that was born, or is due again.
+/// Looks at a script that was started, or at which another look is due.
 fn looked<H: Host>(host: &mut H, limit: Option<u32>) -> Progress
     ensures calls { NewCallsSatisfy (H.told host.old) (H.told host.new)
         (ScriptContinues limit Progress.Born result 0) }
@@ -113,7 +113,7 @@ fn looked<H: Host>(host: &mut H, limit: Option<u32>) -> Progress
     }
 }
 
-/// Checks the running time of a script that was found alive. Sends it the signal that is due, and reports that.
+/// Checks the running time of a script that was found alive. Sends it the signal that is due, if any, and reports it.
 fn timed<H: Host, E: Reporter>(
     host: &mut H,
     way: ScriptOptions,
@@ -141,7 +141,7 @@ fn timed<H: Host, E: Reporter>(
     tell_signal(err, way.seconds, dir, link, signal);
 }
 
-/// Pauses, and asks for an answer that came later.
+/// Pauses, and asks for a late answer.
 fn paused<H: Host>(host: &mut H, limit: Option<u32>, progress: Progress) -> Progress
     requires { is_waiting progress ≡ true }
     ensures { NewCallsSatisfy (H.told host.old) (H.told host.new)
@@ -152,8 +152,8 @@ fn paused<H: Host>(host: &mut H, limit: Option<u32>, progress: Progress) -> Prog
 }
 
 /// Starts a script and waits until it is finished. Returns `None` if no pause is left and it is not finished. If there
-/// is a time limit, the script is sent SIGTERM after that time and SIGKILL after the grace period, and this is reported
-/// on `err` with its link.
+/// is a time limit, sends the script SIGTERM after that time and SIGKILL after the grace period, and reports each
+/// signal on `err` with its link.
 pub(crate) fn run_script<A: Allocator + Copy, H: Host, E: Reporter>(
     alloc: A,
     host: &mut H,

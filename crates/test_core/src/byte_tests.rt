@@ -17,7 +17,7 @@ enum Bytes {
     FirstOfId,
     /// Bytes that can follow the first one in an id.
     OfId,
-    /// Bytes that are a process text by themselves.
+    /// Bytes that form a process text on their own.
     Process,
     /// Bytes that can be in a process text.
     InProcess,
@@ -55,7 +55,7 @@ const OF_HEADS: &[Row] = &[
     (5, 7, 7, These(OTHER_SECONDS), None),
     (5, 0, ALL, Others, Some(Line(5))),
     (6, 0, ALL, Others, Some(Line(6))),
-    // No text has a wish for a re-execution.
+    // No text has a pending request for re-execution.
     (7, 5, 5, These(b"1"), None),
     (7, 10, 12, These(b"1"), None),
     (7, 14, 16, These(b"1"), None),
@@ -66,7 +66,7 @@ const OF_HEADS: &[Row] = &[
 
 /// The stage and the table of a core with two open starts.
 const OF_TABLE: &[Row] = &[
-    // The level is that of the goal.
+    // The level must be the level of the goal.
     (4, 6, 6, These(OTHER_LEVELS), Some(Unfit)),
     (4, 8, 8, These(OTHER_SECONDS), None),
     (5, 5, 5, These(OTHER_LEVELS), Some(Unfit)),
@@ -103,7 +103,7 @@ const OF_TABLE: &[Row] = &[
 const OF_RECORDS: &[Row] = &[
     (12, 5, 5, FirstOfId, Some(Unfit)),
     (12, 6, 6, OfId, Some(Unfit)),
-    // A child has a number and an action.
+    // A child has both a number and an action.
     (12, 8, 8, These(DIGITS), Some(Unfit)),
     (12, 16, 16, These(b"1"), None),
     // Only power and ondemand entries are called; a look and a missed signal need a child.
@@ -117,7 +117,7 @@ const OF_RECORDS: &[Row] = &[
     // A start was requested.
     (13, 19, 19, These(b"0"), Some(Unfit)),
     (13, 20, 22, These(b"1"), Some(Unfit)),
-    // A hold follows ten starts, and no start is later than the present.
+    // A hold follows ten starts, and no start is later than the current time.
     (13, 24, 24, These(DIGITS), Some(Unfit)),
     (13, 26, 26, These(b"123456789"), Some(Unfit)),
     (13, 26, 26, These(b"-"), None),
@@ -137,7 +137,7 @@ const OF_RECORDS: &[Row] = &[
 
 /// The lines and answers of version 2 only.
 const OF_NEW: &[Row] = &[
-    // Records of version 1 do not have how the last child ended.
+    // Records of version 1 lack the status of the last child.
     (1, 12, 12, These(b"1"), Some(Line(12))),
     (13, 33, 33, These(b"123456789"), None),
     // The last line does not begin with its word.
@@ -146,7 +146,7 @@ const OF_NEW: &[Row] = &[
 
 /// The lines and answers of version 1 only.
 const OF_OLD: &[Row] = &[
-    // Records of version 2 have how the last child ended.
+    // Records of version 2 contain the status of the last child.
     (1, 12, 12, These(b"2"), Some(Line(12))),
     (14, 27, 27, Others, Some(Cut)),
 ];
@@ -170,7 +170,7 @@ type Part = (u64, &'static str, &'static [&'static [Row]]);
 
 const PARTS: &[Part] = &[
     (2, STARTED, &[OF_NEW, OF_TABLE, OF_RECORDS, OF_HEADS]),
-    // This text does not have how the last children ended.
+    // This text lacks the statuses of the last children.
     (1, STARTED_OLD, &[OF_OLD, OF_TABLE, OF_RECORDS, OF_HEADS]),
     (2, OPENING, &[OF_OPENING, OF_HEADS]),
 ];
@@ -212,8 +212,8 @@ fn is_right(global: Global, part: &Part, text: &[u8], want: Option<StateFault>) 
     }
 }
 
-/// Returns the first byte that, in place of the one at this position, line and column, gives a text another answer than
-/// the rows.
+/// Returns the first replacement for the byte at this position, line and column with which a text has another answer
+/// than in the rows.
 fn wrong_byte(
     global: Global,
     part: &Part,

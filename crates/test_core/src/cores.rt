@@ -1,6 +1,6 @@
-//! A core as the subject of a run. Its steps are init's own lines, `reread` and `reexec`, and `then` leaves the next
-//! step for later; `handed` ends the wish to be re-executed. `awaits` has the children whose end is awaited, separated
-//! by `, `, or `none`; `last` has how the last child of an id ended, with its exit status.
+//! A core as the subject of a run. Its steps are the lines for init's steps, `reread` and `reexec`; `then` defers the
+//! next step; `handed` completes the request for re-execution. `awaits` lists the children that init waits for,
+//! separated by `, `, or `none`; `last` has an id and how its last child ended, with the exit status.
 
 #[cfg(test)]
 use crate::runs::goes_on;
@@ -18,7 +18,7 @@ use trace_text::words::{read_level, read_stage};
 #[derive(Drop)]
 pub(crate) struct CoreRun<'c, A: Allocator> {
     core: &'c mut Core<A>,
-    /// The step that stays until the next call; none before the first line that is not a reader's.
+    /// The step that remains until the next call; none before the first line that is not for a reader.
     stays: Option<Step>,
 }
 
@@ -56,7 +56,7 @@ fn is_text_of(awaited: &Awaited, value: &str) -> Option<bool> {
     )
 }
 
-/// Reports whether the core awaits the end of exactly the children in the text, in order.
+/// Reports whether the core waits for exactly the children in the text, in order.
 fn awaits<A: Allocator>(core: &Core<A>, text: &str) -> bool {
     let mut remaining = AwaitedChildren::of(core);
     for value in text.split(", ") {
@@ -71,7 +71,7 @@ fn awaits<A: Allocator>(core: &Core<A>, text: &str) -> bool {
     remaining.next().is_none()
 }
 
-/// Reports whether a reader returns what its line says; none if the line is not a reader's.
+/// Reports whether a reader method returns the value in its line; none if the line is not for a reader.
 fn gives<A: Allocator>(core: &Core<A>, line: &str) -> Option<bool> {
     let (reader, value) = line.split_once(' ').unwrap_or((line, ""));
     match reader {
@@ -181,7 +181,7 @@ impl<A: Allocator + Copy> Subject<A> for CoreRun<'_, A> {
 }
 
 /// Returns the difference between a run on the core of an inittab and its steps; empty if there is none. The level is
-/// the one that the core is given, or empty.
+/// the requested one, or empty.
 pub(crate) fn core_difference(
     global: Global,
     level: &str,
@@ -194,7 +194,7 @@ pub(crate) fn core_difference(
     steps_difference(global, global, &mut CoreRun::of(&mut core), &steps)
 }
 
-/// Reports whether the lines of a run on a core have the results that they say.
+/// Reports whether the lines of a run on a core have the expected results.
 #[cfg(test)]
 pub(crate) fn does<A: Allocator + Copy>(
     global: Global,
@@ -205,7 +205,7 @@ pub(crate) fn does<A: Allocator + Copy>(
     goes_on(global, alloc, &mut CoreRun::of(core), run)
 }
 
-/// Creates the core of an init that begins with an inittab, with a level after ` > `.
+/// Creates the core of an init that starts with an inittab, and with the level after ` > ` if there is one.
 #[cfg(test)]
 pub(crate) fn opened(global: Global, inittab: &str) -> Option<Box<Core>> {
     let (inittab, level) = inittab.split_once(" > ").unwrap_or((inittab, ""));

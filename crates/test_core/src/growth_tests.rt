@@ -1,5 +1,5 @@
-//! Fails allocations one after another; the room grows in steps smaller than the smallest allocation. A failed adoption
-//! changes nothing, and succeeds with enough room.
+//! Makes allocations fail one after another: the room grows in steps smaller than the smallest allocation. A failed
+//! adoption of a table changes nothing, and succeeds with enough room.
 
 use crate::cores::{CoreRun, core_over};
 use crate::records::records_over;
@@ -30,7 +30,7 @@ const SCARCE: &[Scarce] = &[
         refused: "entries 2 / records 2 / settle S",
         made: "entries 3 / records 4 / ask a term",
     },
-    // The children whose end is awaited are reported even if no memory is left.
+    // The core reports the children that init waits for even if no memory is left.
     Scarce {
         what: "core",
         inittab: "a:S:once:x\nb:S:wait:y",
@@ -157,7 +157,7 @@ fn is_rebuilt(heap: &LocalHeap, ample: &LocalHeap) -> Option<bool> {
     Some(Slots::rebuilt(heap, given).is_ok())
 }
 
-/// Reports whether it has room on a heap, for a table in another one.
+/// Reports whether the named call has room on a heap, for a table on another heap.
 fn has_room(global: Global, heap: &LocalHeap, what: &str) -> Option<bool> {
     let ample = LocalHeap::new(global, 16_384).ok()?;
     let table = table_of(&ample, "a:S:respawn:x\nb:S:off:y")?;

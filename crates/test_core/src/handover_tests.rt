@@ -1,4 +1,4 @@
-//! Cores that are brought into a state, hand it over, and continue; and cores that took it over and continue as well.
+//! Cores that reach a state, hand it over, and continue; and cores that take it over and continue in the same way.
 
 use crate::cores::{CoreRun, opened};
 use crate::handed::{taken, text_difference};
@@ -32,9 +32,9 @@ const LIVED: &str = "clock 7\nstage 3 5\ngoal 3 5\nflags 11\nwish 00 - 000 000\n
 const CALLED: &str = "clock 7\nstage 3 5\ngoal 3 5\nflags 11\nwish 00 - 000 000\n\
     table 1\nd:A:ondemand:x\nslot d 700 ondemand - - 1100 - -\nend 10\n";
 
-/// The version of the state of generation 1 with whose lines an init begins, or 0 if it begins with an inittab, with a
-/// level after ` > `; what it does then; the lines that it hands over; and what it does after that, which the init that
-/// takes them over does as well. All actions are lines of a run of a core.
+/// A run: the version of the saved state with which init starts (generation 1), or 0 if it starts with an inittab, with
+/// a level after ` > `; its steps; the lines that it hands over; and its steps after that, which the init that takes
+/// the state over must take as well. All steps are lines of a run of a core.
 type Run = (u64, &'static str, &'static str, &'static str, &'static str);
 
 const RUNS: &[Run] = &[
@@ -42,7 +42,7 @@ const RUNS: &[Run] = &[
     (0, STARTED_TABLE, STARTS, STARTED_OLD, "idle"),
     (1, STARTED_OLD, "", STARTED_OLD, "idle"),
     (2, STARTED, "", STARTED, "idle"),
-    // How the last children ended is handed over, except in version 1.
+    // The statuses of the last children are handed over, except in version 1.
     (
         0,
         STARTED_TABLE,
@@ -111,7 +111,7 @@ fn core_difference(global: Global, core: &mut Core, what: &str, run: &str) -> Op
     format!(in global; "{what}: {told}").ok()
 }
 
-/// Returns the difference between a run and what it says. Its generation is 1 after an inittab, and otherwise 2.
+/// Returns the difference between a run and its expected results. The generation is 1 after an inittab, otherwise 2.
 fn run_difference(global: Global, run: &Run) -> Option<String> {
     let (version, from, before, lines, after) = *run;
     let generation = if version == 0 { 1 } else { 2 };

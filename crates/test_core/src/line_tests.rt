@@ -1,5 +1,5 @@
-//! Replaces lines of texts, which are then taken over or rejected; likewise complete texts, and tables with many
-//! entries.
+//! Replaces lines of texts, and checks whether the texts are taken over or rejected; also tests complete texts, and
+//! tables with many entries.
 
 use crate::handed::is_answered;
 use crate::texts::{ENDED, OPENING, SETTLED, STARTED, STARTED_OLD, text_of};
@@ -164,7 +164,7 @@ const OF_CALLED: &str = "\
 10 taken:slot d - - - - 1100 307 0,1,2,3,4,5,6,7,7,7
 10 unfit:slot d - - - - 1100 308 0,1,2,3,4,5,6,7,7,7|slot d - - - - 1100 307 0,1,2|slot d - - - - 1100 - 8";
 
-/// The first check that fails counts; that of the generation follows those of the lines.
+/// The first check that fails determines the answer; the check of the generation follows the checks of the lines.
 const OF_OPENING: &str = "\
 1-9 cut:|/|end /|initd-state 1|initd-state 9/generation 1|initd-state 1/generation 1
 1-9 version:end 0|end |initd-state 9/end 1|initd-state 1\r/end 1|initd-state 1\0/end 1
@@ -291,7 +291,7 @@ fn large(global: Global, version: u64, entries: u64) -> Result<String, Fail> {
     Ok(text)
 }
 
-/// A version and a number of entries: the first number that is too great is rejected. No init gets to a table whose
+/// A version and a number of entries: the first number that is too great is rejected. No init can reach a table whose
 /// entries have no record.
 const LARGEST: &[(u64, u64, Option<StateFault>)] = &[
     (1, 512, Some(Unfit)),

@@ -1,6 +1,6 @@
-//! Plays the rows of standard input: runs of init's core, or of its records alone, as calls and the steps after them.
-//! Tests of the text of init's state, worked out by hand from its grammar: the text written for a core, the contents of
-//! a text, why a text is rejected, and states that are handed over and taken over. Allocations fail as well.
+//! Runs the rows of standard input: runs of init's core, or only of its records, as calls and the steps after them.
+//! Also tests the text of init's state, with results worked out by hand from its grammar: the text written for a core,
+//! the contents of a text, the reasons for rejecting a text, hand-overs of states, and failed allocations.
 #![tactic(auto)]
 
 #[cfg(test)]

@@ -74,7 +74,7 @@ fn add_flags(words: &mut String, slot: &Slot) -> Result<(), AllocError> {
     Ok(())
 }
 
-/// Returns the id and what the record has, in words: `a: child 700, stop due, asked`, or `a: new`.
+/// Returns the id and the contents of the record as text: `a: child 700, stop due, asked`, or `a: new`.
 fn words_of(global: Global, slot: &Slot) -> Result<String, AllocError> {
     let id = slot.id();
     let mut words = format!(in global; "{}:", id.as_str())?;
@@ -95,7 +95,7 @@ fn words_of(global: Global, slot: &Slot) -> Result<String, AllocError> {
     Ok(words)
 }
 
-/// Reports whether the records are those of the lines, in order; `none` if there are none.
+/// Reports whether the records match the lines, in order; `none` stands for no records.
 fn shows<A: Allocator>(global: Global, slots: &Slots<A>, text: &str) -> Option<bool> {
     if slots.as_slice().is_empty() {
         return Some(text == "none");
@@ -121,7 +121,7 @@ fn has_starts(slot: &Slot, times: &str) -> bool {
     remaining.next().is_none()
 }
 
-/// Reports whether a record has what the reader's line says; none if the line is not a reader's.
+/// Reports whether a record has the value in the reader's line; none if the line is not for a reader.
 fn has(slot: &Slot, reader: &str, value: &str) -> Option<bool> {
     match reader {
         "number" => Some(slot.child() == Some(ChildNumber(value.parse::<u32>().ok()?))),
@@ -132,7 +132,7 @@ fn has(slot: &Slot, reader: &str, value: &str) -> Option<bool> {
     }
 }
 
-/// Reports whether a reader returns what its line says; none if the line is not a reader's.
+/// Reports whether a reader method returns the value in its line; none if the line is not for a reader.
 fn gives<A: Allocator>(global: Global, slots: &Slots<A>, line: &str) -> Option<bool> {
     let (reader, value) = line.split_once(' ').unwrap_or((line, ""));
     match reader {

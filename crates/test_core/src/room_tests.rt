@@ -1,4 +1,4 @@
-//! Fails allocations one after another, on heaps with more and more room. A failed call leaves the core unchanged.
+//! Makes allocations fail one after another, on heaps of increasing size. A failed call leaves the core unchanged.
 
 use crate::handed::{handed, is_text, parts_of, taken};
 use crate::texts::{SETTLED, text_of};
@@ -12,20 +12,20 @@ use std::test::Fail;
 use test_support::Outcome::{self, Done, Refused, Unmade};
 use test_support::{boxed, first_unrefused};
 
-/// A child, an open order about it, a due signal, a wish for another level, times, and ends of children.
+/// A child, an open order for it, a due signal, a pending request for another level, times, and statuses of children.
 const BUSY: &str = "clock 700\nstage 3 5\ngoal 3 5\nflags 11\nwish 10 4:8 101 010\n\
     table 3\nw:3:wait:a\nr:3:respawn:b\nd:3A:ondemand:c\n\
     slot w - - - - 1000 - - exit:3\nslot r 700 respawn look - 1010 - 6,7,600 -\nslot d - - - - 0100 - - killed\n\
     slot x 701 once term due 0011 - - exit:255\nend 15\n";
 
-/// A child, an open look at it, a child that was sent SIGTERM, a hold, a wish for another level, times, and ends of
-/// children.
+/// A child, an open look at it, a child that was sent SIGTERM, a hold, a pending request for another level, times, and
+/// statuses of children.
 const QUIET: &str = "clock 700\nstage 3 5\ngoal 3 5\nflags 11\nwish 10 4:8 101 010\n\
     table 2\nw:3:wait:a\nr:3:respawn:b\n\
     slot w - - - - 1000 - - exit:3\nslot r 700 respawn look - 1010 900 6,7,8,9,10,11,12,13,14,600 -\n\
     slot x 701 once - term:650 0011 - - exit:255\nend 13\n";
 
-/// An inittab that it adopts.
+/// The inittab that the core adopts.
 const NEXT: &[u8] = b"r:3:respawn:b\nn:3:once:c\nm:3:off:\nl:3:wait:d\n";
 
 /// Hands the state of a core over. If there is no room for it, the core hands the same over once there is.

@@ -1,20 +1,20 @@
-//! Runs as text: calls, what init does after them, and what readers return. In a row each has a line; an indented line
-//! belongs to the one before it. In a test they are separated by ` / `.
+//! Runs as text: calls, init's steps after them, and the results of reader methods. In a row each is a line, and an
+//! indented line belongs to the line before it. In a test they are separated by ` / `.
 //!
-//! The calls are lines of a trace. What the system does for an order, `birth` to `miss`, is told immediately as its
-//! answer; `use` has the lines of the table that is adopted. A call that is rejected has the reason after ` ! `.
+//! The calls are lines of a trace. The act of the system for an order, `birth` to `miss`, is passed to init immediately
+//! as the answer; `use` has the lines of the table to adopt. A call that is rejected has the reason after ` ! `.
 
 use init_words::Refusal;
 use inittab_text::Table;
 use std::alloc::{AllocError, Allocator, Global};
 
-/// The subject of a run: a core, or records alone, in the memory of an allocator.
+/// The subject of a run: a core, or only records, in the memory of an allocator.
 pub(crate) trait Subject<A: Allocator + Copy> {
-    /// Reports whether a line has the result that it says: what it reads is true, it is the next step, or its call is
-    /// answered like this.
+    /// Reports whether a line has the expected result: the value that it reads is right, it is the next step, or its
+    /// call returns `want`.
     fn goes(&mut self, global: Global, alloc: A, line: &str, want: Result<(), Refusal>) -> bool;
 
-    /// Reports whether no step is next that is not in the run.
+    /// Reports whether the run contains all steps, so no other step is due.
     fn rests(&mut self) -> bool;
 }
 
@@ -33,7 +33,7 @@ fn want_of(refusal: &str) -> Result<(), Refusal> {
     }
 }
 
-/// Reports whether a step of a run has the result that it says.
+/// Reports whether a step of a run has the expected result.
 fn has_result<A: Allocator + Copy, S: Subject<A>>(
     global: Global,
     alloc: A,
@@ -68,8 +68,8 @@ fn stray_text(global: Global, number: usize, step: &str) -> Option<String> {
     format!(in global; "step {number} has another result: {step}").ok()
 }
 
-/// Returns a message about the first step that does not have the result that it says, or about a further step after the
-/// last one; empty if there is none.
+/// Returns a message about the first step that does not have the expected result, or about another step after the last
+/// one; empty if there is none.
 pub(crate) fn steps_difference<A: Allocator + Copy, S: Subject<A>>(
     global: Global,
     alloc: A,
@@ -100,7 +100,7 @@ pub(crate) fn parts_of(global: Global, run: &str) -> Result<Vec<String>, AllocEr
     Ok(parts)
 }
 
-/// Reports whether all steps of a test's run have the results that they say, and no other step follows.
+/// Reports whether all steps of a test's run have the expected results, and no other step follows.
 #[cfg(test)]
 pub(crate) fn goes_on<A: Allocator + Copy, S: Subject<A>>(
     global: Global,

@@ -12,7 +12,7 @@ use std::alloc::Global;
 use trace_events::{CallSet, Goal};
 
 /// A record: its id, child, action, order and stop, its flags in the order asked, called, look, missed, the end of its
-/// hold, its starts, and how its last child ended.
+/// hold, its starts, and the status of its last child.
 type Kept = (
     &'static str,
     (Option<u32>, Option<Act>, Option<OrderKind>),
@@ -196,8 +196,8 @@ fn is_said(global: Global, row: &Said) -> Result<bool, StateFault> {
     Ok(are_parts(&parts, fields, rows) && written.as_slice() == table.as_bytes())
 }
 
-/// An inittab, what a core for it does, if anything, the fields that it has then, or others; and the lines that are
-/// written for it with them.
+/// An inittab, the steps of a core for it, if any, the fields to write, and the lines that must be written for the core
+/// with these fields.
 type Written = (&'static str, &'static str, CoreFields, &'static str);
 
 const WRITTEN: &[Written] = &[

@@ -62,7 +62,7 @@ fn ints_are_read(rt: HostRuntime) {
     }
 }
 
-/// A character of telinit(8) or news of the power, the ints of its block, and the request in it.
+/// A character of telinit(8), or `None` for the return of power; the ints of its block; and the request in it.
 const WRITTEN: &[(Option<u8>, &[u8; 16], HeardRequest)] = &[
     (Some(b'q'), &RELOAD, HeardRequest::Reload),
     (None, &POWER_BACK, HeardRequest::Power(PowerKind::Ok)),
@@ -90,11 +90,10 @@ fn requests_are_written(rt: HostRuntime) {
     assert!(rt; Sign::read(b'x').is_none());
 }
 
-/// A piece, the number of its bytes that are taken and the request, and the number of bytes of a block that are kept
-/// then.
+/// A piece, the number of bytes read from it and the request, and the number of bytes of an incomplete block after it.
 type Piece<'a> = (&'a [u8], (usize, Option<HeardRequest>), usize);
 
-/// What a reader takes of these pieces, one after another; its copy continues after the third.
+/// The pieces that a reader reads, one after another; its copy continues after the third.
 const PIECES: &[Piece<'static>] = &[
     (&[], (0, None), 0),
     (&RELOAD, (16, None), 16),
@@ -107,7 +106,7 @@ const PIECES: &[Piece<'static>] = &[
     ),
 ];
 
-/// What the reader's copy takes next.
+/// The pieces that the reader's copy reads next.
 const NEXT_OF_COPY: &[Piece<'static>] = &[
     (&[], (0, None), 383),
     (&[0; 384], (1, Some(HeardRequest::Reload)), 0),

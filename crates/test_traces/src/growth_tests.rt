@@ -1,5 +1,5 @@
-//! Fails allocations one after another, on heaps with more and more room, until a call has enough: the answer is lack
-//! of memory, and what was written is a prefix of the trace. A full writer ends a log in the same way.
+//! Makes allocations fail one after another, on heaps of increasing size, until a call succeeds: each failed call
+//! reports lack of memory, and has written a prefix of the trace. A full writer ends a log in the same way.
 
 use crate::verdicts::{finished, found, hand_over, judge_over};
 use init_words::{Id, Memory};
@@ -27,7 +27,7 @@ const TRACE: &str =
      ask r start / got reload / birth r 11 / told r / use 1 / r:3:respawn:serv / settle 3 / handed whole / \
      got call A / call A";
 
-/// A child is born while an excluded one is not reaped.
+/// A trace in which a child is born while an excluded child is unreaped.
 const BREACH: &str =
     "use 2 / a:3:once:x / b:1:once:y / enter 3 5 / ask a start / birth a 10 / told a / enter 1 5 / ask b start / birth b 11";
 
@@ -73,7 +73,7 @@ fn judges(global: Global, heap: &LocalHeap, text: &[u8]) -> Result<bool, Memory>
     Ok(is_found && judge.answer().1.is_none())
 }
 
-/// Returns an observer of the trace, which it is given in pieces.
+/// Returns an observer that received the trace in pieces.
 fn seen_by<'h, S: TraceObserver<&'h LocalHeap> + Drop>(
     global: Global,
     heap: &'h LocalHeap,
@@ -85,7 +85,7 @@ fn seen_by<'h, S: TraceObserver<&'h LocalHeap> + Drop>(
     Ok(text)
 }
 
-/// The child of `r` is born at line 8.
+/// Reports whether the observer of lines finds that the child of `r` is born at line 8.
 fn sees_lines(global: Global, heap: &LocalHeap) -> Result<bool, Memory> {
     let mut text = seen_by::<LastLines<&LocalHeap>>(global, heap)?;
     let Some(id) = Id::read(b"r") else {
@@ -95,13 +95,13 @@ fn sees_lines(global: Global, heap: &LocalHeap) -> Result<bool, Memory> {
     Ok(line == Some(8) && text.end().0.is_none())
 }
 
-/// There are a table, three stages, and two children.
+/// Reports whether the observer of marks finds a table, three stages, and two children.
 fn sees_marks(global: Global, heap: &LocalHeap) -> Result<bool, Memory> {
     let mut text = seen_by::<Marks<&LocalHeap>>(global, heap)?;
     Ok(text.seen().as_slice().len() == 6 && text.end().0.is_none())
 }
 
-/// Reports whether a log on a heap takes the complete brief form; otherwise it must have a prefix of it.
+/// Reports whether a log on a heap accepts the complete brief form; if memory runs out, it must have a prefix of it.
 fn lists(global: Global, heap: &LocalHeap, trace: &[HappeningIn<Global>]) -> Result<bool, Memory> {
     let (list, all) = finished(ListLog::new(heap), trace);
     let text = trace_text::print(global, list.as_slice())?;
@@ -114,7 +114,7 @@ fn lists(global: Global, heap: &LocalHeap, trace: &[HappeningIn<Global>]) -> Res
 
 const TABLE: &[u8] = b"use 3\nid:3:initdefault:\nw:3:wait:prep\nr:3:respawn:serv\n";
 
-/// Copies the first happening of the trace, a table.
+/// Reports whether a copy on the heap of the first happening of the trace, a table, prints as `TABLE`.
 fn copies(global: Global, heap: &LocalHeap, trace: &[HappeningIn<Global>]) -> Result<bool, Memory> {
     let [first, ..] = trace else {
         return Ok(false);
@@ -144,7 +144,7 @@ fn is_right(
     }
 }
 
-/// Traces, the calls that need room for each, and a number of heaps: the call must fail on more heaps than that.
+/// Traces, the calls that need memory for each, and a number of heaps: the call must fail on more heaps than that.
 const REFUSED: &[(&str, &[(&str, usize)])] = &[
     (TRACE, &[("run", 8), ("print", 2), ("copy", 2)]),
     (BREACH, &[("read", 8), ("check", 3), ("judge", 8)]),
@@ -164,8 +164,8 @@ fn what_has_no_room_is_refused(rt: HostRuntime) -> Result<(), Fail> {
     Ok(())
 }
 
-/// Reports whether the writer took as much of the brief form as it has room for, and the log took everything if that is
-/// the whole text.
+/// Reports whether the writer accepted as much of the brief form as it has room for, and the log accepted everything if
+/// that is the whole text.
 fn is_streamed(global: Global, room: usize, fails: bool) -> Option<bool> {
     let text = lines_of(global, LONG, " / ").ok()?;
     let trace = trace_text::read(global, text.as_bytes()).ok()?;

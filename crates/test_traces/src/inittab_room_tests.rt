@@ -1,5 +1,5 @@
-//! Fails allocations one after another, on heaps with more and more room, until a call has enough: the answer is lack
-//! of memory, and an existing table is unchanged.
+//! Makes allocations fail one after another, on heaps of increasing size, until a call succeeds: each failed call
+//! reports lack of memory, and leaves an existing table unchanged.
 
 use init_words::{Memory, Part};
 use inittab_lint::{LineWarning, Warning, warnings};

@@ -9,12 +9,12 @@ use std::test::Fail;
 use test_support::{boxed, part_of};
 use text_lines::cut;
 
-/// Parts whose lines say what becomes of them, and the default level of their table. A line is written unchanged, or as
-/// the text after its `>`; with `>` only it is not the line of an entry, and with `>!` it has a fault.
+/// Parts whose lines contain their expected results, and the default level of their table. A line is written unchanged,
+/// or as the text after its `>`; a line that ends with `>` is not an entry, and a line with `>!` has a fault.
 type Row = (&'static [&'static [u8]], Option<Level>);
 
 const ROWS: &[Row] = &[
-    // No parts are an empty table.
+    // Without parts, the table is empty.
     (&[], None),
     // A last line without a newline ends with its part; an id of an earlier part is not accepted again.
     (
@@ -25,7 +25,7 @@ const ROWS: &[Row] = &[
         ],
         Some(Level::L3),
     ),
-    // Lines are counted in each part, and parts without lines are parts.
+    // Lines are counted in each part, and parts without lines count as parts.
     (
         &[
             b">\nx>!too few fields\n",
@@ -36,7 +36,7 @@ const ROWS: &[Row] = &[
         ],
         None,
     ),
-    // The default level is that of the first initdefault that names one, in any part.
+    // The default level comes from the first initdefault that names one, in any part.
     (
         &[
             b"i::initdefault:>i:-:initdefault:",
@@ -155,7 +155,7 @@ struct Want {
     level: Option<Level>,
 }
 
-/// Adds what becomes of a line of a part, with its number.
+/// Adds the expected result of a line of a part, with its number.
 fn add_outcome(
     want: &mut Want,
     position: usize,
@@ -179,7 +179,7 @@ fn add_outcome(
     Ok(())
 }
 
-/// Adds a part, whose lines say what becomes of them.
+/// Adds a part, whose lines contain their expected results.
 fn add_part(alloc: Global, want: &mut Want, position: usize, text: &[u8]) -> Result<(), Fail> {
     let mut bytes = Vec::new(alloc);
     for (at, line) in text.split(|byte| *byte == b'\n').enumerate() {
@@ -301,14 +301,14 @@ fn texts_are_read_and_written(rt: HostRuntime) -> Result<(), Fail> {
     Ok(())
 }
 
-/// Ids and their actions in the table of `FIVE`, those that it has in its order.
+/// Ids and their actions in the table of `FIVE`; the ids in the table are in table order.
 const FOUND: &[(&[u8], Option<Act>)] = &[
     (b"toolong", Some(Act::Once)),
     (b"b", Some(Act::Off)),
     (b"a", None),
 ];
 
-/// Tests that its entries are found, by position and by id.
+/// Tests that the table's entries are found by position and by id.
 #[test]
 fn entries_are_found(rt: HostRuntime) -> Result<(), Fail> {
     let want = want_of(rt.alloc(), &(&[FIVE], None))?;
@@ -387,7 +387,7 @@ const TOO_LONG: &str = "inittab is longer than 1048576 bytes";
 
 const TOO_MANY: &str = "inittab has more than 256 files";
 
-/// The number of parts, their size, and why they are rejected, if they are.
+/// The number of parts, their size, and the reason why they are rejected, if they are.
 const LIMITS: &[(u32, u32, &str)] = &[
     (256, 0, ""),
     (257, 0, TOO_MANY),

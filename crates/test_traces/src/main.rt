@@ -1,7 +1,7 @@
-//! Judges the traces of standard input, whose verdicts were worked out from the definitions of the laws: each unchanged,
-//! with its lines changed one at a time, and in its brief form. Tests of inittab(5), of request blocks (initreq.h) and of
-//! the respawn limit (init(8)); of texts of traces, the simulated system of a run of `simulate`, and calls and logs
-//! without room. Complete runs are in `tools/rows/initd-lines`.
+//! Judges the traces of standard input, whose verdicts were worked out from the definitions of the laws: each
+//! unchanged, with its lines changed one at a time, and in its brief form. Also tests inittab(5), request blocks
+//! (initreq.h), the respawn limit (init(8)), texts of traces, the simulated system of `simulate`, and calls and logs
+//! that run out of memory. Complete runs are in `tools/rows/initd-lines`.
 #![tactic(auto)]
 
 #[cfg(test)]

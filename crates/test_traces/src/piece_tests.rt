@@ -9,7 +9,7 @@ const LONGEST: &str =
 const TOO_LONG: &str =
     "reaped abcdefgh 4294967295 exit 255 reaped abcdefgh 4294967295 exit 255 reaped abcdefgh 4294967295 exit 255 reaped abcdefgh 4294967295 exit 255 reaped abcdefgh 42";
 
-/// Texts, the result for each, and the line at which its last happening is incomplete, 0 for none.
+/// Texts, the result for each, and the line at which its last happening is incomplete, or 0 if it is complete.
 const TEXTS: &[(&str, &str, u64)] = &[
     ("", ".", 0),
     ("nudge\n", ".", 0),
@@ -45,7 +45,7 @@ const TEXTS: &[(&str, &str, u64)] = &[
         "7:4 line 10: birth b 11\n",
         0,
     ),
-    // What follows it is not judged, but read.
+    // The happenings after the first breach are read but not judged.
     ("nudge\nsettle 3\nbirth a 1\n", "1:5 line 2: settle 3\n", 0),
     (
         "settle 3\nuse 1\na:3:once:x\nnudge\nnud",

@@ -1,4 +1,4 @@
-//! Tests of starts of one entry at given times, and what the limit of 10 in 120 seconds allows (init(8)).
+//! Tests which starts of an entry, at given times, the limit of 10 in 120 seconds allows (init(8)).
 
 ghost use Rattle.std.specs.Prelude.{◌≤◌};
 ghost use Rattle.respawn_limit.specs.declared.TheConstants.{CLOCK_LIMIT};
@@ -7,19 +7,19 @@ use respawn_limit::{CLOCK_LIMIT, Limiter, May};
 
 /// A call to a limiter, or a check of its state.
 enum Call {
-    /// Starts that it allows.
+    /// Starts that the limiter allows.
     Starts(&'static [u64]),
     Hold(u64),
     Clear,
-    /// The starts that it keeps, and when its hold ends.
+    /// The starts that the limiter keeps, and when its hold ends.
     Kept(&'static [u64], Option<u64>),
-    /// Its answer at a time, and whether the entry is held then.
+    /// The limiter's answer at a time, and whether the entry is held at that time.
     At(u64, May, bool),
 }
 
 const AT_ONCE: &[u64] = &[0; 10];
 
-/// It keeps at most ten starts, and a hold lasts five minutes.
+/// Runs of a limiter. It keeps at most ten starts, and a hold lasts five minutes.
 const RUNS: &[&[Call]] = &[
     &[
         Call::Starts(AT_ONCE),

@@ -1,5 +1,5 @@
-//! Tests of the simulated system of a run of `simulate`: what it allows, what it objects to, and the answers that are
-//! on their way.
+//! Tests of the simulated system of `simulate`: the happenings that it allows, its objections, and the answers under
+//! way.
 
 use simulator::SimulatedSystem;
 use std::alloc::Global;
@@ -7,8 +7,8 @@ use std::test::Fail;
 use test_support::{answer_of, boxed, first_difference, happening_of};
 use trace_events::{Happening, HappeningIn};
 
-/// Lines that it is given, including orders of init; after ` ! ` the objection to a line. `owes` has the answer about
-/// an id that is on its way.
+/// Lines for the simulated system, including orders of init; after ` ! ` comes the objection to a line. `owes` has the
+/// answer under way for an id.
 const RUNS: &[&str] = &[
     // The children of a and b have the number 7 one after the other: it is free only after the first is reaped.
     "birth a 7 ! no start of a is open / ask a start / birth a 7 / nobirth a ! no start of a is \
@@ -17,13 +17,13 @@ const RUNS: &[&str] = &[
      death 7 ! no living child has the number 7 / ask b start / birth b 7 ! an unreaped child has \
      the number 7 / ask a look / reaped a 7 killed / owes reaped a 7 killed / birth b 7 / owes \
      birth b 7",
-    // Two children live at once: one is reaped while the other lives, and then the other.
+    // Two children are alive at once: one is reaped while the other is alive, and then the other.
     "ask a start / ask b start / birth a 7 / birth b 7 ! an unreaped child has the number 7 / birth b 8 / told a / told b / \
      ask a look / ask b look / death 7 / reaped b 7 exit 0 ! b has no dead child with the number 7 / \
      reaped b 8 exit 0 ! b has no dead child with the number 8 / \
      reaped a 8 exit 0 ! a has no dead child with the number 8 / reaped a 7 exit 0 / owes reaped a 7 exit 0 / \
      death 7 ! no living child has the number 7 / death 8 / reaped b 8 killed / owes reaped b 8 killed",
-    // What may not come next, and why: each objection, and what is never objected to.
+    // Each objection, and the happenings that never meet one.
     "birth a 7 ! no start of a is open / nobirth a ! no start of a is open / told a ! there is \
      nothing to tell of a / death 7 ! no living child has the number 7 / ask a start / ask b~!c \
      start / still a ! no look of a is open / birth a 4294967295 / nobirth a ! no start of a is \
@@ -54,8 +54,8 @@ fn is_refused(
     Some(!side.allows(happening) && told.as_str() == text)
 }
 
-/// Reports whether the line has the result that it says: its answer is on its way, there is this objection, or it is an
-/// order or allowed, and accepted.
+/// Reports whether the line has the expected result: its answer is under way, there is this objection, or it is an
+/// order or an allowed happening and is accepted.
 fn goes(global: Global, side: &mut SimulatedSystem, line: &str) -> Option<bool> {
     if let Some(owed) = line.strip_prefix("owes ") {
         let (id, answer) = answer_of(&happening_of(global, owed)?)?;
@@ -70,7 +70,7 @@ fn goes(global: Global, side: &mut SimulatedSystem, line: &str) -> Option<bool> 
     Some(may_come && side.take(&happening).is_ok())
 }
 
-/// Returns the first line of a run that does not have the result that it says; empty if all have it.
+/// Returns the first line of a run that does not have the expected result; empty if all do.
 fn run_difference(global: Global, run: &str) -> Option<String> {
     let mut side = boxed(global, SimulatedSystem::new(global)).ok()?;
     for (position, line) in run.split(" / ").enumerate() {

@@ -87,7 +87,7 @@ const TEXTS: &[(&str, u64)] = &[
     ("use 1\na:3:once:x\nb:3:once:y\n", 3),
 ];
 
-/// Returns the number of the line at which the text is not that of a trace, or 0 if it is one. A trace must print as
+/// Returns the number of the line at which the text is not a trace, or 0 if it is a trace. A trace must print as
 /// the same text, as a whole and happening by happening.
 fn fault_in(global: Global, text: &str) -> Option<u64> {
     let trace = match trace_text::read(global, text.as_bytes()) {

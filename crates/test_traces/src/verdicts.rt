@@ -1,5 +1,5 @@
-//! The verdicts on a text: read as a whole, in pieces, and in its brief form. A difference from a row is a text, which is
-//! empty if there is none.
+//! The verdicts on a text: read as a whole, in pieces, and in its brief form. A difference from a row is a text, which
+//! is empty if the result matches the row.
 
 use init_words::Memory;
 use std::alloc::{AllocError, Allocator, Global};
@@ -11,13 +11,13 @@ use trace_log_wrappers::BriefLog;
 use trace_text::ReadFault;
 use trace_verdict::{Finding, TextJudge};
 
-/// What is done to a line of a trace.
+/// A change to a line of a trace.
 #[derive(Clone, Copy, PartialEq, Eq)]
 enum Change {
     None,
     Dropped,
     Doubled,
-    /// It is exchanged with the next one.
+    /// The line is exchanged with the next one.
     Exchanged,
 }
 
@@ -68,7 +68,7 @@ fn changed(
     Ok(made)
 }
 
-/// Passes the happenings of a trace to the log. Reports whether it took all of them.
+/// Passes the happenings of a trace to the log. Reports whether the log accepted all of them.
 fn takes_all<L: Log>(log: &mut L, trace: &[HappeningIn<Global>]) -> bool {
     for happening in trace {
         if log.failed() || log.take(happening).is_err() {
@@ -78,7 +78,7 @@ fn takes_all<L: Log>(log: &mut L, trace: &[HappeningIn<Global>]) -> bool {
     true
 }
 
-/// Returns what remains of a log after the brief form of a trace, and whether it took all of it.
+/// Returns the contents of a log after the brief form of a trace, and whether the log accepted all of it.
 pub(crate) fn finished<L: EndedLog>(log: L, trace: &[HappeningIn<Global>]) -> (L::Left, bool) {
     let mut brief = BriefLog::new(log);
     let all = takes_all(&mut brief, trace);
@@ -104,8 +104,8 @@ fn verdict_on(global: Global, trace: &[HappeningIn<Global>]) -> Result<String, M
     }
 }
 
-/// Reports whether the first law that the brief form of a trace breaks is that of the trace, whose verdict is given, or
-/// none.
+/// Reports whether the brief form of a trace breaks first the same law as the trace, whose verdict is given, or both
+/// break none.
 fn is_alike(global: Global, trace: &[HappeningIn<Global>], verdict: &str) -> Result<bool, Memory> {
     let (brief, all) = finished(ListLog::new(global), trace);
     let given = verdict_on(global, brief.as_slice())?;
@@ -121,8 +121,9 @@ pub(crate) fn is_printed(
     Ok(trace_text::print(global, trace)?.as_slice() == text.as_bytes())
 }
 
-/// Returns what is not true of a text: that it has this verdict, and that its trace prints as the text and has a brief
-/// form with the same verdict. A verdict `?` with a number is that of a line of no trace. Empty if all is true.
+/// Checks that a text has this verdict, and that its trace prints as the text and has a brief form with the same
+/// verdict; returns the first difference, or an empty text. A verdict `?` with a number names a line at which the text
+/// is not a trace.
 fn judged_difference(global: Global, text: &str, want: &str) -> Option<String> {
     match trace_text::read(global, text.as_bytes()) {
         Ok(trace) => {
@@ -148,7 +149,7 @@ fn judged_difference(global: Global, text: &str, want: &str) -> Option<String> {
     Some(String::new(global))
 }
 
-/// Returns a judge with the given allocator, itself in plain memory.
+/// Returns a judge that uses the given allocator; the judge is in ordinary memory.
 pub(crate) fn judge_over<A: Allocator + Copy>(
     global: Global,
     memory: A,
@@ -168,8 +169,8 @@ pub(crate) fn hand_over<A: Allocator + Copy>(
     Ok(())
 }
 
-/// Returns what a judge found: `.`, the position of the first breach, its law, its line and its text, or `?` and a
-/// line.
+/// Returns the result of a judge: `.`; or the position of the first breach, its law, its line and its text; or `?` and
+/// a line.
 pub(crate) fn found<A: Allocator + Copy>(global: Global, judge: &TextJudge<A>) -> Option<String> {
     match judge.answer().0 {
         Finding::Lawful => String::from_str(global, ".").ok(),
@@ -182,8 +183,8 @@ pub(crate) fn found<A: Allocator + Copy>(global: Global, judge: &TextJudge<A>) -
     }
 }
 
-/// Returns what is found in a text that comes in pieces of a size, and the line at which its last happening is
-/// incomplete, 0 for none.
+/// Returns the result for a text that comes in pieces of a size, and the line at which its last happening is
+/// incomplete, or 0 if it is complete.
 pub(crate) fn found_of(global: Global, text: &str, size: usize) -> Option<(String, u64)> {
     let mut judge = judge_over(global, global).ok()?;
     hand_over(&mut judge, text.as_bytes(), size).ok()?;
@@ -290,8 +291,8 @@ fn both_of(global: Global, trace: &str) -> Option<(Vec<HappeningIn<Global>>, Str
     Some((trace_text::read(global, whole.as_bytes()).ok()?, brief))
 }
 
-/// Returns the difference from a row: in the brief form of its trace, or in the verdicts on both, a line each, and the
-/// number of happenings that are held back at the end.
+/// Returns the difference from a row: in the brief form of its trace, or in the verdicts on both, one per line, and the
+/// number of happenings held back at the end.
 pub(crate) fn brief_difference(
     global: Global,
     verdicts: &str,
