@@ -1,5 +1,5 @@
-//! Fails allocations one after another, on heaps with more and more room: the answer is lack of memory, and what was
-//! written is a prefix of the lines. With enough room each call returns what it must.
+//! Makes allocations fail one after another, on heaps of increasing size: each failed call reports lack of memory, and
+//! has written a prefix of the lines. With enough room, each call returns the right result.
 
 use crate::hosts::given_host;
 use crate::order_tests::rc_over;
@@ -97,7 +97,7 @@ fn change(heap: &LocalHeap) -> Option<Outcome> {
     }
 }
 
-/// Keeps a text at `b` after one at `a`. If there is no room for it, only the first is kept.
+/// Keeps a text at `b` after a text at `a`. If there is no room for the second text, only the first is kept.
 fn keep(global: Global, heap: &LocalHeap) -> Option<Outcome> {
     let mut stored = KeptTexts::new(heap);
     if stored.keep("a", NET).is_err() {
@@ -135,8 +135,8 @@ const WAY: ScriptOptions = ScriptOptions {
 
 const LINES: &[u8] = b"K05c stop exit 0\nS10a start exit 0\nS20b start exit 0\n";
 
-/// Reports whether scripts that all exit with status 0 have room to run on a heap. If they do not, a prefix of the
-/// lines was written. Returns `None` if anything else happens.
+/// Reports whether a heap has room to run scripts that all exit with status 0. If not, a prefix of the lines was
+/// written. Returns `None` if anything else happens.
 fn is_run(global: Global, heap: &LocalHeap) -> Option<bool> {
     let new = line_words(global, "S10a S20b K05c").ok()?;
     let mut rc = rc_over(global, global, "", &[], &new).ok()?;
@@ -183,7 +183,7 @@ fn outcome_on(global: Global, heap: &LocalHeap, what: &str) -> Option<Outcome> {
     }
 }
 
-/// The calls that need room, and a number of heaps: each call must fail on more heaps than that.
+/// The calls that need memory, and a number of heaps: each call must fail on more heaps than that.
 const REFUSED: &[(&str, usize)] = &[
     ("header", 4),
     ("plan", 4),

@@ -8,7 +8,7 @@ use std::alloc::Global;
 use std::test::Fail;
 use test_support::difference;
 
-/// Lines, and the header that has them as text, or its fault.
+/// Lines, and the header that they form, as text, or its fault.
 type Row = (&'static [u8], Result<&'static [u8], HeaderFault>);
 
 /// Text before the lines, the lines, and text after them.
@@ -47,8 +47,8 @@ const HEADERS: &[Row] = &[
         b"# Description: one\n#  two\n# X-End: x\n#  three\n# Provides: a\n",
         Ok(b" a////////one two"),
     ),
-    // Words are separated by blanks and tabs, the first may follow the colon directly, and may contain a colon;
-    // keywords are in any ASCII case.
+    // Words are separated by blanks and tabs; the first word may follow the colon directly, and may contain a colon;
+    // keywords may be in any ASCII case.
     (
         b"# pROVIDES:web\twww \t a:b\n# SHOULD-STOP:\tc\n",
         Ok(b" web www a:b//// c////"),
@@ -58,7 +58,7 @@ const HEADERS: &[Row] = &[
         b"# X-Own: b\n# Provides: a\n# X-Own: c\n# Prov: d\n",
         Ok(b" a////////"),
     ),
-    // Words that are not runlevels are ignored, and one that occurs twice is kept twice.
+    // Words that are not runlevels are ignored, and a runlevel that occurs twice is kept twice.
     (
         b"# Provides: a\n# Default-Start: 3 x 3 10 A 9 -1\n# Default-Stop: S s 0\n",
         Ok(b" a/////339/SS0//"),
@@ -73,7 +73,7 @@ const HEADERS: &[Row] = &[
         b"# Provides: \xc3\xa9\n# x\xe2\x82\xac: b\n",
         Ok(b" \xc3\xa9////////"),
     ),
-    // The first fault counts.
+    // Only the first fault is reported.
     (b"", Err(NoProvides)),
     (b"# Provides: \t\n", Err(NoProvides)),
     (b"# X-Provides: a\n#  Provides: a\n", Err(NoProvides)),
@@ -85,7 +85,8 @@ const HEADERS: &[Row] = &[
     ),
 ];
 
-/// Lines with none of the forms of a header line, as its third line. The last four are not UTF-8, one in each form.
+/// Lines with none of the forms of a header line, used as the third line. The last four are not UTF-8, one in each
+/// form.
 const BAD_LINES: &[Row] = &[
     (b"", Err(BadLine(3))),
     (b" ", Err(BadLine(3))),
@@ -243,8 +244,8 @@ const KEYWORDS: &[(&str, &[u8], Keyword)] = &[
     ("Description", b"DESCRIPTION", Keyword::Description),
 ];
 
-/// Reports whether the keyword is written like this, and is found where it occurs for the second time, in line 12 of a
-/// text, before a bad line.
+/// Reports whether the keyword is written as this word, and its second occurrence is found in line 12 of a text, before
+/// a bad line.
 fn is_keyword(global: Global, word: &str, shout: &[u8], keyword: Keyword) -> Result<bool, Fail> {
     let text = joined(global, &[NINE, b"# ", word.as_bytes(), b": x\n?\n", END])?;
     let told = format!(in global; "{keyword}")?;

@@ -1,4 +1,4 @@
-//! Scripted hosts: the replies they are given as text, and the letters of the calls that were made.
+//! Scripted hosts: their replies as text, and the calls made to them as letters.
 
 use host_calls::{Call, Host, HostFault, Reply};
 use host_scripted::MemoryHost;
@@ -15,8 +15,8 @@ pub(crate) fn fields_of<'r>(global: Global, row: &'r str) -> Result<Vec<&'r str>
     Ok(fields)
 }
 
-/// Returns the answer for a letter: `b`orn, `n`ot born, `e`nded with 0, `t`hree, `k`illed, `a`live, `o` for a look that
-/// failed.
+/// Returns the answer for a letter: `b`orn, `n`ot born, `e`nded with status 0, ended with status `t`hree, `k`illed,
+/// `a`live, `o` for a look that failed.
 fn answer_of(letter: u8) -> Answer {
     match letter {
         b'b' => Answer::Born(ChildNumber(7)),
@@ -71,7 +71,7 @@ fn new_host(global: Global) -> Result<Box<MemoryHost>, AllocError> {
 }
 
 /// Creates a host from lists separated by `/`: replies to starts and to looks, and late answers, each a letter, with
-/// `l` for later and `-` for no late answer; and readings of the clock, of which everything that is not a number fails.
+/// `l` for later and `-` for no late answer; and readings of the clock, which fail unless they are numbers.
 pub(crate) fn given_host(global: Global, given: &str) -> Option<Box<MemoryHost>> {
     let mut parts = given.split('/');
     let (starts, looks) = (parts.next()?, parts.next()?);
@@ -95,7 +95,7 @@ fn letter_of(call: &Call) -> u8 {
     }
 }
 
-/// Returns the letters of the calls that were made to the host.
+/// Returns the letters of the calls made to the host.
 pub(crate) fn calls_of(global: Global, host: &MemoryHost) -> Result<Vec<u8>, AllocError> {
     let mut letters = Vec::new(global);
     for call in host.calls().unwrap_or(&[]) {
@@ -104,7 +104,7 @@ pub(crate) fn calls_of(global: Global, host: &MemoryHost) -> Result<Vec<u8>, All
     Ok(letters)
 }
 
-/// Reports whether the first call to the host starts this command, under the id of rc.
+/// Reports whether the first call to the host starts this command under the id of rc.
 pub(crate) fn begins_with(host: &MemoryHost, want: &str) -> bool {
     match host.calls().unwrap_or(&[]) {
         [Call::Start(id, command, _), ..] => {

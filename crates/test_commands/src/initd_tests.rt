@@ -1,5 +1,5 @@
-//! Complete command lines of initd, with texts that are kept in memory, a scripted host and writers that fail. Other
-//! command lines of initd are tested in tools/rows/initd-lines and tools/pages.d/initd-lines.
+//! Tests of complete command lines of initd, with texts in memory, a scripted host and writers that fail. Other command
+//! lines of initd are tested in tools/rows/initd-lines and tools/pages.d/initd-lines.
 
 ghost use Rattle.std.specs.Prelude.{⊤, None, option_and_then};
 
@@ -21,7 +21,7 @@ use trace_files::OsTraces;
 #[derive(Drop)]
 struct OneHost {
     host: Option<MemoryHost>,
-    /// Whether everything could be printed.
+    /// Whether the host could print everything.
     printed: bool,
 }
 
@@ -56,12 +56,12 @@ fn source_of(alloc: Global, given: &str, printed: bool) -> Option<Box<OneHost>> 
 }
 
 /// A command line with the inittab `tab` and the script `said`; its status; the numbers of readings of the clock,
-/// starts and pauses, one after each turn, and whether something can't be printed; the inittab; what the host is given;
-/// the output and the report, `?` if they are not checked.
+/// starts and pauses (one after each turn), and `unprinted` if something can't be printed; the inittab; the host's
+/// replies; the output and the report, or `?` if they are not checked.
 const ROWS: &[&str] = &[
     // Each turn reads the clock once, and a pause follows it.
     "run --inittab tab --initctl host-ctl --level 3 --turns 3 | 3 | 3 1 3 | o:3:once:x\n | start later | - | ?",
-    // A run with --drain makes no further turn once it is drained.
+    // A run with --drain makes no further turn once init is drained.
     "run --inittab tab --initctl host-ctl --level 3 --drain --result o | 5 | 2 1 2 | o:3:once:x\n | start birth 7 / \
      look exit 5 | - | ?",
     // A run whose announcements could not be printed continues to its end, and exits with status 4.
@@ -70,14 +70,14 @@ const ROWS: &[&str] = &[
     // A strict run accepts an inittab without faults.
     "run --inittab tab --initctl host-ctl --level 3 --turns 3 --strict | 3 | 3 1 3 | o:3:once:x\n | start later | - | \
      ?",
-    // A run that is rejected makes no calls: a strict one because of a faulty line, and one that is to have the result
-    // of no entry.
+    // A run that is rejected makes no calls: a strict run because of a faulty line, and a run whose --result names no
+    // entry.
     "run --inittab tab --initctl host-ctl --level 3 --turns 3 --strict | 1 | 0 0 0 | o:3:once:x\np:3:onse:x\n | start \
      later | ? | ?",
     "run --inittab tab --initctl host-ctl --level 3 --turns 3 --result p | 1 | 0 0 0 | o:3:once:x\n | start later | - \
      | ?",
     "run --inittab absent --initctl host-ctl | 4 | 0 0 0 | - | - | - | initd: cannot read absent: entity not found\n",
-    // What init waits for at the limit of turns.
+    // At the limit of turns, the run reports what init waits for.
     "run --inittab tab --initctl host-ctl --level 3 --turns 2 | 3 | 2 1 2 | w:3:wait:x\n | start \
      later | - | initd: turn limit reached\ninitd: level 3 is waiting for an answer about w\n",
     "run --inittab tab --initctl host-ctl --level 3 --turns 2 | 3 | 2 2 2 | \
@@ -87,9 +87,9 @@ const ROWS: &[&str] = &[
     "run --inittab tab --initctl host-ctl --level 3 --turns 2 | 3 | 2 1 2 | \
      b::boot:x\nw:3:wait:y\n | start later | - | initd: turn limit reached\ninitd: boot is \
      waiting for an answer about b\n",
-    // A run with --judge, and one without, on a host that breaks a law: a second child of an entry is born. In the
-    // second turn init is asked to re-execute itself, and its present state comes back, except that the record has no
-    // child.
+    // A run with --judge, and a run without, on a host that breaks a law: it starts a second child of an entry. In the
+    // second turn a request asks init to re-execute itself, and the host returns its current state, except that the
+    // record has no child.
     "run --inittab tab --initctl host-ctl --level S --turns 2 --judge | 2 | 2 2 2 | \
      r:S:respawn:x\n | start birth 10 / start birth 11 / bytes / bytes u / carry initd-state \
      2|generation 1|clock 0|stage S 5|goal S 5|flags 00|wish 00 - 000 000|table \
@@ -106,7 +106,7 @@ const ROWS: &[&str] = &[
      and --level is not given; going to level S\n",
 ];
 
-/// Returns the numbers of readings of the clock, starts and pauses that the host was asked for.
+/// Returns the numbers of calls to the host for readings of the clock, starts and pauses.
 fn counts_of(global: Global, one: &OneHost) -> Option<String> {
     let calls = calls_of(global, one.host.as_ref()?)?;
     let clocks = calls.matches("clock\n").count();
@@ -115,7 +115,7 @@ fn counts_of(global: Global, one: &OneHost) -> Option<String> {
     format!(in global; "{clocks} {starts} {pauses}").ok()
 }
 
-/// Returns the expected text, which is the actual one if it is not checked.
+/// Returns the expected text, or the actual text if the text is not checked.
 fn wanted<'t>(got: &'t [u8], want: &'t str) -> &'t [u8] {
     if want == "?" { got } else { want.as_bytes() }
 }
@@ -222,8 +222,8 @@ fn the_file_of_a_trace_has_its_text(rt: HostRuntime) -> Result<(), Fail> {
 
 const SCRIPT: &[u8] = b"birth w 10\ntold w\nnudge\n";
 
-/// A run whose trace is written completely, and one during which a write fails: that is reported, and what was written
-/// remains.
+/// A run that writes its trace completely, and a run in which a write fails: it reports this, and keeps what was
+/// written.
 const WRITTEN: &str =
     "simulate tab said | 0 | 0 0 0 | id:3:initdefault:\nw:3:wait:prep\nr:3:respawn:serv\n | - | ? | -";
 
@@ -235,7 +235,7 @@ const TRACE: &[u8] =
     b"use 3\nid:3:initdefault:\nw:3:wait:prep\nr:3:respawn:serv\nenter sysinit 5\nenter boot 5\nenter 3 5\n\
     ask w start\nbirth w 10\ntold w\nnudge\nask w look\n";
 
-/// The room of a writer that fails or accepts nothing when it is full, or can't be flushed.
+/// The room in bytes of a writer that fails or accepts nothing when it is full, or can't be flushed.
 const ROOMS: &[usize] = &[100_000, 0, 1, 5, 6, 60, 77, 100, 121];
 
 #[test]

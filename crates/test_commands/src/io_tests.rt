@@ -12,7 +12,7 @@ use std::process::Abort;
 use telinit_command::SHORT_USAGE;
 use test_support::Slow;
 
-/// The room, whether a full writer fails, how writing `request` ends, and what is written of it.
+/// The room of a writer, whether it fails when full, the result of writing `request`, and the bytes written.
 const WRITES: &[(usize, bool, Option<ErrorKind>, &[u8])] = &[
     (9, false, None, b"request"),
     (7, false, None, b"request"),
@@ -23,7 +23,7 @@ const WRITES: &[(usize, bool, Option<ErrorKind>, &[u8])] = &[
     (0, true, Some(ErrorKind::BrokenPipe), b""),
 ];
 
-/// Returns how writing `request` in parts ends.
+/// Returns the error of writing `request` in parts, if any.
 fn fault_at(slow: &mut Slow) -> Option<ErrorKind> {
     match write_texts(slow, &["req", "", "uest"]) {
         Ok(()) => None,
@@ -40,7 +40,7 @@ fn slow_writers_take_it_all(rt: HostRuntime) {
     }
 }
 
-/// A reader that returns the byte `x`, one per read, `remaining` times. Then it fails, or is at its end.
+/// A reader that returns the byte `x`, one per read, `remaining` times. After that it fails, or is at its end.
 #[derive(Drop)]
 struct Drops {
     remaining: usize,
@@ -64,8 +64,8 @@ impl Read for Drops {
     }
 }
 
-/// The number of bytes that a reader returns, whether it fails then, and the number of bytes read or the error. The
-/// last of at most 1,000,000 reads is the one that returns no byte.
+/// The number of bytes that a reader returns, whether it fails after them, and the number of bytes read or the error.
+/// There are at most 1,000,000 reads, including the last, which returns no byte.
 const READS: &[(usize, bool, Result<usize, ErrorKind>)] = &[
     (0, false, Ok(0)),
     (7, false, Ok(7)),
@@ -186,7 +186,7 @@ fn only_bytes(rt: HostRuntime) {
     }
 }
 
-/// A program and its usage, why its arguments are not available, and the status and the message.
+/// A program and its usage, the error of reading its arguments, and the exit status and the message.
 const UNREAD: &[(&str, &str, ErrorKind, u8, &str)] = &[
     (
         "telinit",

@@ -1,8 +1,7 @@
 //! Tests of the programs' commands: reading the headers of init scripts, numbering scripts and creating their links,
-//! and which of them rc runs, in which order, on a scripted host. Where no program can show it, also command lines of
-//! initd and telinit with writers and readers that accept or return little, fail or end, and with texts and a channel
-//! in memory. Command lines with real folders and children are in tools/pages.d/rclinks-lines, rclinks, rc-lines and
-//! rc.
+//! and the order in which rc runs scripts on a scripted host. Also tests command lines of initd and telinit that need
+//! writers and readers that accept or return little, fail or end, or texts and a channel in memory. Command lines with
+//! real folders and children are in tools/pages.d/rclinks-lines, rclinks, rc-lines and rc.
 #![tactic(auto)]
 
 #[cfg(test)]

@@ -1,5 +1,5 @@
-//! Runs of rclinks with texts and folders that are kept in memory, and with writers that fail. Other command lines, and
-//! those with real folders, are in tools/pages.d/rclinks-lines and rclinks.
+//! Tests of rclinks with texts and folders in memory, and with writers that fail. Other command lines, and command
+//! lines with real folders, are in tools/pages.d/rclinks-lines and rclinks.
 
 use crate::hosts::fields_of;
 use crate::texts::{NET, or_difference};
@@ -14,7 +14,7 @@ use std::io;
 use std::test::Fail;
 use test_support::{Slow, first_difference, line_words};
 
-/// Paths, and the texts that are kept at them. If a path occurs twice, the first text is at it.
+/// Paths and their texts. If a path occurs twice, the first text counts.
 const TEXTS: &[(&str, &[u8])] = &[
     ("a/run-net", NET),
     ("a/run-net", b"# Provides: net\n"),
@@ -34,7 +34,7 @@ const TEXTS: &[(&str, &[u8])] = &[
     ),
 ];
 
-/// An entry of a runlevel's folder in a directory: a word for it, the directory, the runlevel, its name, and its
+/// An entry of a runlevel's folder in a directory: a word for the entry, the directory, the runlevel, its name, and its
 /// target. OLD0 and OLD3 are numbered links that are in no plan; SWAPPED has the plan's name and points to the other
 /// script; README and those after it are not changed by any run, except DB, which has no script.
 const ENTRIES: &[(&str, &str, Level, &str, &str)] = &[
@@ -89,7 +89,7 @@ const ROWS: &[&str] = &[
     "OLD0 OLD3|--write etc --skip run-bad init.d/net|999|0||rclinks: bad header: \
      run-bad\nrclinks: run-bad: no line \"### BEGIN INIT INFO\"\nrclinks: run-bad: skipped\n|OLD0 \
      NET0 NET2 NET3",
-    // A script that has links stays in their runlevels.
+    // A script that has links keeps their runlevels.
     "OLD3|--keep --write etc init.d/net init.d/web|999|0|||NET3 WEB3",
     "OLD0 NET2|--keep --write etc -n init.d/net init.d/web|999|0|\
      make rc0.d/K01web ../init.d/web\nremove rc0.d/K09web ../init.d/web\n||OLD0 NET2",
@@ -191,7 +191,7 @@ fn links_of(global: Global, words: &str) -> Result<Links, AllocError> {
     Ok(links)
 }
 
-/// Reports whether the folder of a runlevel in a directory holds exactly those of these entries that belong to it, in
+/// Reports whether the folder of a runlevel in a directory holds exactly the entries in the list that belong to it, in
 /// order.
 fn holds(
     global: Global,
@@ -227,7 +227,7 @@ fn hold(global: Global, links: &Links, words: &str) -> bool {
     true
 }
 
-/// Returns each link that the folders hold, one per line.
+/// Returns the links in the folders, one per line.
 fn held_text(global: Global, links: &Links) -> Option<String> {
     let mut text = String::from_str(global, "the folders hold:").ok()?;
     for link in &links.links {

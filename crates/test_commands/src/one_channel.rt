@@ -6,17 +6,17 @@ use std::io;
 use std::io::{Error, ErrorKind};
 use telinit_command::{Channels, FoundChannel};
 
-/// The channel at its path. No other one is known.
+/// A channel at a path. No other path has a channel.
 #[derive(Drop)]
 pub(crate) struct OneChannel {
     path: String,
     bytes: Vec<u8>,
-    /// The number of bytes that it still accepts.
+    /// The number of bytes that the channel still accepts.
     room: usize,
 }
 
 impl OneChannel {
-    /// Creates a channel with this number of bytes, all 1, and room for this number of further ones.
+    /// Creates a channel with this number of bytes, all 1, and room for this number of further bytes.
     pub(crate) fn new(
         alloc: Global,
         path: &str,

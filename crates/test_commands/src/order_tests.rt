@@ -1,4 +1,4 @@
-//! Tests of the scripts that are handed out for the names in two folders.
+//! Tests of the scripts that `Rc` yields for the names in two folders.
 
 use init_words::{Level, Memory, Status};
 use rc_driver::{Arg, LevelChange, NotAsked, Rc, RcAnswer, RcStep};
@@ -6,8 +6,8 @@ use std::alloc::{Allocator, Global};
 use std::test::Fail;
 use test_support::{boxed, line_words, row_difference};
 
-/// A change of level, such as `23` or `N3`, if scripts are run as sysv-rc runs them; the names in the previous folder,
-/// and in the new one; and what is run, with `-` for stop and `+` for start.
+/// A change of level, such as `23` or `N3`, if scripts run as in sysv-rc; the names in the previous folder, and in the
+/// new one; and the scripts to run, with `-` for stop and `+` for start.
 type Row = (&'static str, &'static str, &'static str, &'static str);
 
 const ROWS: &[Row] = &[
@@ -39,18 +39,18 @@ const ROWS: &[Row] = &[
         "S20a S10b S10B S09z K9Xa K10a K09b",
         "-K09b -K10a +S09z +S10B +S10b +S20a",
     ),
-    // A name that occurs twice is run once.
+    // A script whose name occurs twice runs once.
     ("", "", "S10a K05a S10a K05a S10a", "-K05a +S10a"),
-    // A service that runs already is not started, whatever its number was; a K link of the previous level means
-    // nothing.
+    // A service that is already running is not started, whatever its number was; a K link of the previous level has no
+    // effect.
     ("", "S99a K01b", "S10a S10b", "+S10b"),
     // Two numbers of one service; it is stopped, and so started again.
     ("", "S10a", "S10a S20a K50a", "-K50a +S10a +S20a"),
     ("", "S10a", "S10a S20a K50b", "-K50b"),
-    // Only a K link of the new level stops a service; what the previous level started is not stopped by itself.
+    // Only a K link of the new level stops a service; a service that the previous level started keeps running.
     ("", "S10a S20b", "S20b", ""),
     ("", "S10ab", "S10a S10b", "+S10a +S10b"),
-    // If there was no previous level, no K link is run, and no S link is skipped.
+    // If there was no previous level, no K link runs, and no S link is skipped.
     ("N2", "", "K05c S10a S20b", "+S10a +S20b"),
     // A service that the previous level had stopped is not stopped again, unless that level started it too.
     (
@@ -59,7 +59,7 @@ const ROWS: &[Row] = &[
         "K05c K05d K05e S10a S20b",
         "-K05d -K05e +S20b",
     ),
-    // In levels 0 and 6 the S links are stopped, after the K links and by the same rule.
+    // In levels 0 and 6 the S links run with stop, after the K links and by the same rule.
     (
         "20",
         "S10a K20b",
@@ -67,11 +67,11 @@ const ROWS: &[Row] = &[
         "-K05c -S10a -S90h",
     ),
     ("N6", "", "K05c S90h", "-S90h"),
-    // In S as in every other level.
+    // Level S has the same rules as any level except 0 and 6.
     ("6S", "S10a", "S10a S20b K20b", "-K20b +S20b"),
 ];
 
-/// Returns the scripts that are run at a change of level, by the rules of the LSB or of sysv-rc.
+/// Returns the scripts to run at a change of level, by the rules of the LSB or of sysv-rc.
 pub(crate) fn rc_over<'n, A: Allocator + Copy>(
     global: Global,
     alloc: A,
@@ -95,7 +95,7 @@ fn change_of(change: &str) -> Option<LevelChange> {
     })
 }
 
-/// Reports whether this script is handed out next, once; it is answered when the next one was requested.
+/// Reports whether this script comes next, and only once; answers it after the next script was requested.
 fn is_handed_out(rc: &mut Rc, run: &str) -> bool {
     let (link, arg) = match run.strip_prefix('-') {
         Some(link) => (link, Arg::Stop),
@@ -106,7 +106,7 @@ fn is_handed_out(rc: &mut Rc, run: &str) -> bool {
         && rc.answer(RcAnswer::NotStarted) == Ok(())
 }
 
-/// Returns the first of these scripts that is not handed out in order, or that another one follows them.
+/// Returns the first of these scripts that does not come in order, or a note that another script follows them.
 fn stray_script<'r>(rc: &mut Rc, runs: &'r str) -> Option<&'r str> {
     for run in runs.split_ascii_whitespace() {
         if !is_handed_out(rc, run) {
@@ -117,7 +117,7 @@ fn stray_script<'r>(rc: &mut Rc, runs: &'r str) -> Option<&'r str> {
     if is_over { None } else { Some("the end") }
 }
 
-/// Returns the difference between the scripts handed out and a row; empty if there is none.
+/// Returns the difference between the scripts to run and a row; empty if there is none.
 fn order_difference(global: Global, row: &Row) -> Result<String, Memory> {
     let previous = line_words(global, row.1)?;
     let new = line_words(global, row.2)?;
@@ -138,7 +138,7 @@ fn scripts_are_handed_out_in_order(rt: HostRuntime) -> Result<(), Fail> {
     Ok(())
 }
 
-/// Reports whether each of two scripts is answered once, and only after it was handed out.
+/// Reports whether `Rc` accepts one answer for each of two scripts, and only after the script has begun.
 fn are_answered_once(rc: &mut Rc) -> bool {
     let ended = RcAnswer::Ended(Status::Exit(3));
     let is_first = rc.answer(ended) == Err(NotAsked)

@@ -1,5 +1,5 @@
-//! Complete command lines of rc with a scripted host and the folders of a row: the calls that a run makes to its host,
-//! and output that can't be written.
+//! Tests of complete command lines of rc with a scripted host and the folders of a row: the calls that a run makes to
+//! its host, and output that can't be written.
 
 use crate::hosts::{calls_of, fields_of, given_host};
 use crate::texts::or_difference;
@@ -64,7 +64,7 @@ impl LevelFiles for LevelFile {
     }
 }
 
-/// Separated by `|`: a command line; the scripts in the folders `k/rc3.d` and so on; what the host is given; the room
+/// Separated by `|`: a command line; the scripts in the folders `k/rc3.d` and so on; the host's replies; the room
 /// of the writer; the status; the output, VERSION for the version's line, up to the room; the report; the calls; and
 /// the contents of the file `level` afterwards.
 const ROWS: &[&str] = &[

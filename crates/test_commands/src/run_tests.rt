@@ -11,7 +11,7 @@ use std::alloc::Global;
 use std::test::Fail;
 use test_support::{Slow, first_difference, line_words};
 
-/// With `sh`, without lines for starts.
+/// Options that run scripts with `sh`, without lines for starts.
 pub(crate) const PLAIN: ScriptOptions = ScriptOptions {
     direct: false,
     verbose: false,
@@ -19,21 +19,21 @@ pub(crate) const PLAIN: ScriptOptions = ScriptOptions {
     levels: None,
 };
 
-/// The scripts themselves, with lines for starts.
+/// Options that run scripts directly, with lines for starts.
 const TOLD: ScriptOptions = ScriptOptions {
     direct: true,
     verbose: true,
     ..PLAIN
 };
 
-/// The scripts themselves, with a limit of three seconds each.
+/// Options that run scripts directly, with a limit of three seconds each.
 const TIMED: ScriptOptions = ScriptOptions {
     direct: true,
     seconds: Some(3),
     ..PLAIN
 };
 
-/// The scripts themselves, with the levels of a change to S from no level.
+/// Options that run scripts directly, with the levels of a change to S from no level.
 const FIRST: ScriptOptions = ScriptOptions {
     direct: true,
     levels: Some(LevelChange {
@@ -43,9 +43,9 @@ const FIRST: ScriptOptions = ScriptOptions {
     ..PLAIN
 };
 
-/// Separated by `|`: how scripts are run or printed, with `asked` if the first was requested before, and `stuck` for a
-/// writer that keeps its bytes; what the host is given; the limit of pauses, the room of the writer of lines and of
-/// that of reports; the end of the run, or the script that has not ended; the output and the report, and the calls.
+/// Separated by `|`: the options, or `print`, with `asked` if the first script was requested before, and `stuck` for a
+/// writer that can't be flushed; the host's replies; the limit of pauses, the room of the writer of lines and of the
+/// writer of reports; the end of the run, or the script that has not ended; the output and the report; and the calls.
 const ROWS: &[&str] = &[
     "plain|bb/oee//|9 99 0|done|K05c stop exit 0\nS10a start exit 0\n||SLPALSL",
     "plain|lb/aek/-b-/|9 99 0|failed|K05c stop exit 0\nS10a start killed\n||SPAPALPALSL",
@@ -63,11 +63,11 @@ const ROWS: &[&str] = &[
     "told|b/e//|9 35 0|write|K05c stop begins\nK05c stop exit 0\nS||SL",
     // The clock is not read for a script that ends immediately.
     "timed|b/e//|99 99 200|done|S10a start exit 0\n||SL",
-    // Three seconds are within the limit; the first reading is taken as the script's start.
+    // Three seconds are within the limit; the first reading counts as the time of the script's start.
     "timed|b/aae//40 43|99 99 200|done|S10a start exit 0\n||SLCPALCPAL",
     "timed|b/aak//40 44|99 99 200|failed|S10a start killed\n|\
      rc: x/S10a has not ended after 3 s: TERM was sent\n|SLCPALCTPAL",
-    // A script is sent each signal once, and SIGKILL after the grace period.
+    // A script gets each signal once, and SIGKILL after the grace period.
     "timed|b/aaaaat//40 44 49 50 90|99 99 200|failed|S10a start exit 3\n|\
      rc: x/S10a has not ended after 3 s: TERM was sent\n\
      rc: x/S10a has not ended after 5 s more: KILL was sent\n|SLCPALCTPALCPALCKPALCPAL",
@@ -75,7 +75,7 @@ const ROWS: &[&str] = &[
     "timed|b/aaae//none 40 7|99 99 200|done|S10a start exit 0\n||SLCPALCPALCPAL",
     // A message that can't be written does not end the run.
     "timed|b/aaak//40 44 50|99 99 6|failed|S10a start killed\n|rc: x/|SLCPALCTPALCKPAL",
-    // What would be run is printed.
+    // A dry run prints the commands.
     "print|///|9 99 0|done|sh x/K05c stop\nsh x/S10a start\n||",
     "print told|///|9 99 0|done|x/K05c stop\nx/S10a start\n||",
     "print told|///|9 14 0|write|x/K05c stop\nx/||",
@@ -102,7 +102,7 @@ fn rooms_of(text: &str) -> Option<(u32, usize, usize)> {
     ))
 }
 
-/// Returns the word for how the run ended, if its next step fits that end; or the script at which the limit was
+/// Returns the word for the end of the run, if its next step fits that end; or the script at which the limit was
 /// reached.
 fn end_of<'e>(end: RunEnd<'e>, next: RcStep) -> &'e str {
     let is_over = next == RcStep::Done;

@@ -1,5 +1,4 @@
-//! Tests of what telinit(8) appends to a channel in memory, all of whose bytes are known. Other command lines are in
-//! tools/pages.d/telinit.
+//! Tests of the bytes that telinit(8) appends to a channel in memory. Other command lines are in tools/pages.d/telinit.
 
 use crate::one_channel::OneChannel;
 use initctl_frame::BLOCK;
@@ -9,8 +8,8 @@ use std::test::Fail;
 use telinit_command::run_words;
 use test_support::line_words;
 
-/// The number of bytes of a channel, and of those that it still accepts; a command line, its status, and the number of
-/// bytes of the request for level 3 (initreq.h) that were appended.
+/// The number of bytes in a channel, and the number that it still accepts; a command line, its exit status, and the
+/// number of bytes of the request for level 3 (initreq.h) that were appended.
 type Row = (usize, usize, &'static str, u8, usize);
 
 const ROWS: &[Row] = &[
@@ -23,7 +22,7 @@ const ROWS: &[Row] = &[
     (0, 1_000, "--version", 0, 0),
 ];
 
-/// The bytes of that request up to its zeros.
+/// The bytes of the request for level 3, without the zeros at its end.
 const REQUEST: &[u8] = b"\x69\x19\x09\x03\x01\0\0\03\0\0\0\x05";
 
 fn is_appended(alloc: Global, row: &Row) -> Result<bool, AllocError> {

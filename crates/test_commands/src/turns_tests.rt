@@ -1,4 +1,4 @@
-//! Tests of turns with a log: what remains of the log after them.
+//! Tests of turns with a log, and of the log's contents after them.
 
 use init_words::Level;
 use initd_command::make_turns;
@@ -13,13 +13,13 @@ use trace_log_wrappers::BriefLog;
 
 pub(crate) const INITTAB: &[u8] = b"r:3:respawn:x\n";
 
-/// Three turns: a child is born in the first, and is alive at the looks of the others.
+/// The trace of three turns: a child is born in the first, and is alive at the looks in the others.
 pub(crate) const TRACE: &[u8] =
     b"use 1\nr:3:respawn:x\nclock 0\nnudge\nenter sysinit 5\nenter boot 5\nenter 3 5\n\
     ask r start\nbirth r 10\ntold r\nsettle 3\n\
     clock 0\nnudge\nask r look\nstill r\ntold r\nclock 0\nnudge\nask r look\nstill r\ntold r\n";
 
-/// The brief form: of the idle rounds the last reading of the clock and the last round remain.
+/// The brief form of the trace: it keeps only the last reading of the clock and the last round of the idle rounds.
 pub(crate) const BRIEF: &[u8] =
     b"use 1\nr:3:respawn:x\nclock 0\nnudge\nenter sysinit 5\nenter boot 5\nenter 3 5\n\
     ask r start\nbirth r 10\ntold r\nsettle 3\nclock 0\nnudge\n";
@@ -38,12 +38,12 @@ fn opening_of(alloc: Global) -> Result<Opening, Fail> {
     Ok(Opening::new(alloc, table, Some(Level::L3))?)
 }
 
-/// Returns what remains of the log after the turns.
+/// Returns the contents of the log after the turns.
 fn left_of<L: EndedLog + Drop>(rt: &HostRuntime, log: L) -> Result<L::Left, Fail> {
     let alloc = rt.alloc();
     let arguments = run_of(alloc)?;
     let opening = opening_of(alloc)?;
-    // The child is alive unless something else is answered.
+    // A look without a scripted answer finds the child alive.
     let host = host_of(alloc, alloc, "start birth 10").ok_or("no host")?;
     let mut err = Reports::to(Vec::<u8>::new(alloc));
     let (_, _, log_end) = make_turns(
@@ -58,7 +58,7 @@ fn left_of<L: EndedLog + Drop>(rt: &HostRuntime, log: L) -> Result<L::Left, Fail
     Ok(log_end)
 }
 
-/// Tests that the remaining writer has the trace, or its brief form.
+/// Tests that the writer of the log has the trace, or its brief form, after the turns.
 #[test]
 fn the_writer_that_is_left_has_the_trace(rt: HostRuntime) -> Result<(), Fail> {
     let alloc = rt.alloc();
