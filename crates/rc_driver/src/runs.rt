@@ -27,18 +27,18 @@ pub enum Arg {
 pub enum RcStep<'n> {
     /// Run the script of this link with this argument.
     Run(&'n str, Arg),
-    /// Wait for the answer to the script that was handed out last.
+    /// Wait for the outcome of the last script.
     Waiting,
-    /// All scripts were handed out and answered.
+    /// All scripts have run, and each has an outcome.
     Done,
 }
 
-/// The outcome of a script that was handed out.
+/// The outcome of a script.
 #[derive(Clone, Copy, PartialEq, Eq)]
 pub enum RcAnswer {
-    /// It ended with this status.
+    /// The script ended with this status.
     Ended(Status),
-    /// It could not be started.
+    /// The script could not be started.
     NotStarted,
 }
 
@@ -47,36 +47,36 @@ pub enum RcAnswer {
 pub struct LevelChange {
     /// The previous runlevel, if there was one.
     pub before: Option<Level>,
-    /// The runlevel that is entered.
+    /// The new runlevel.
     pub new: Level,
 }
 
-/// How scripts are run.
+/// Options for running scripts.
 #[derive(Clone, Copy, PartialEq, Eq)]
 pub struct ScriptOptions {
-    /// Execute a script itself, as its first line says, instead of having `sh` read it.
+    /// Execute a script directly, with the interpreter in its first line, instead of with `sh`.
     pub direct: bool,
     /// Write a line at each start.
     pub verbose: bool,
-    /// The time limit in seconds, if there is one: after it a script is sent SIGTERM, and SIGKILL after init's grace
-    /// period.
+    /// The time limit in seconds, if there is one. A script that exceeds it gets SIGTERM, and SIGKILL after init's
+    /// grace period.
     pub seconds: Option<u32>,
-    /// The change that scripts are given in RUNLEVEL and PREVLEVEL (init(8)) by env(1), if they are.
+    /// The change of runlevel to pass to scripts in RUNLEVEL and PREVLEVEL (init(8)) with env(1), if any.
     pub levels: Option<LevelChange>,
 }
 
-/// An answer for which there was no script.
+/// The error for an outcome when no script is running.
 #[derive(Clone, Copy, Debug, PartialEq, Eq, Error)]
 #[error("no script is waiting for an answer")]
 pub struct NotAsked;
 
-/// The scripts that are run when a runlevel is entered, one at a time, and the progress of their run. The links are
-/// borrowed from the names in the new folder.
+/// The scripts to run for a change of runlevel, one at a time, and the progress of their run. The links are borrowed
+/// from the names in the new folder.
 #[derive(Drop)]
 pub struct Rc<'n, A: Allocator = Global> {
-    /// The scripts that have not been handed out yet.
+    /// The scripts that have not begun yet.
     remaining: VecDeque<(&'n str, Arg), A>,
-    /// Whether the script that was handed out last has no answer yet.
+    /// Whether the last script begun has no outcome yet.
     waits: bool,
 }
 
@@ -115,9 +115,9 @@ impl<'n, A: Allocator + Copy> Rc<'n, A> {
           remaining = rc_run (map string_bytes previous.now) (map string_bytes new.now);
           waits = false;
         }) }
-        // What rclinks creates and prints is what is run. If a folder holds exactly the links of a plan, in any order,
-        // and its scripts have names that links can have, all links that stop services are run, and then all that start
-        // services that do not run already.
+        // rc runs the links that rclinks creates. If a folder holds exactly the links of a plan, in any order, and its
+        // scripts have names that links can have, rc runs all links that stop services, and then all links that start
+        // services that are not running already.
         ensures planned { IfOk result (λ rc.
             RunsPlans (map string_bytes previous.now) (map string_bytes new.now) rc.remaining) }
     {

@@ -19,12 +19,12 @@ need_from numbers a found [] = found
 need_from numbers a found (edge ∷ edges) =
     need_from numbers a (if edge.0 == a && get_or numbers edge.1 0 == 0 then edge.1 else found) edges
 
--- the heights of the places: one more than the greatest number that each needs, or 0
+-- the heights of the places: one more than the greatest number among the places that each needs; 0 if one has no number
 abbrev pub AreHeights : List (ℕ × ℕ) → List ℕ → List ℕ → Type 0
 AreHeights edges numbers heights =
     (a : ℕ) → a < length numbers → get_or heights a 0 ≡ height_from numbers a 1 edges
 
--- for each place, the last of its needs that has no number
+-- for each place, the last place that it needs and that has no number
 abbrev pub AreBlockers : List (ℕ × ℕ) → List ℕ → List ℕ → Type 0
 AreBlockers edges numbers found =
     (a : ℕ) → a < length numbers → get_or found a 0 ≡ need_from numbers a 0 edges
@@ -35,12 +35,13 @@ settled [] heights = []
 settled (x ∷ numbers) [] = x ∷ numbers
 settled (x ∷ numbers) (h ∷ heights) = (if x == 0 then h else x) ∷ settled numbers heights
 
--- how many places have no number
+-- the number of places without a number
 abbrev pub zeros : List ℕ → ℕ
 zeros [] = 0
 zeros (x ∷ xs) = (if x == 0 then 1 else 0) + zeros xs
 
--- the numbers given so far: at most those of any numbering, and each above those that its place needs
+-- the numbers assigned so far: at most those of any numbering, and each above the numbers of the places that its place
+-- needs
 pub record IsPartial (count : ℕ) (edges : List (ℕ × ℕ)) (numbers : List ℕ) : Type 0 where
   pub size : length numbers ≡ count
   pub small : (a : ℕ) → get_or numbers a 0 + zeros numbers ≤ count
@@ -48,7 +49,7 @@ pub record IsPartial (count : ℕ) (edges : List (ℕ × ℕ)) (numbers : List �
       → (0 < get_or numbers b 0) × (get_or numbers b 0 < get_or numbers a 0)
   pub least : AtMostAny edges numbers
 
--- each place without a number needs another one without a number
+-- each place without a number needs a place without a number
 abbrev pub IsStuck : ℕ → List (ℕ × ℕ) → List ℕ → Type 0
 IsStuck count edges numbers =
     (a : ℕ) → a < count → get_or numbers a 0 ≡ 0 → (b : ℕ) × Needs edges a b × (get_or numbers b 0 ≡ 0)

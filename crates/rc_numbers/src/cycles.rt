@@ -44,8 +44,8 @@ fn rotated<A: Allocator>(alloc: A, ring: &[usize], start: usize) -> Result<Vec<u
     Ok(rotated)
 }
 
-/// Walks from a place to one that it needs, and so on, until a place is reached for the second time. Returns the ring
-/// from there on.
+/// Walks from a place to a place that it needs, and so on, until it reaches a place for the second time. Returns the
+/// ring that begins at this place.
 fn ring<A: Allocator + Copy>(
     alloc: A,
     edges: &[(usize, usize)],
@@ -83,7 +83,7 @@ fn by_need<A: Allocator>(
     Ok(needs)
 }
 
-/// Records that a place needs another one, if it is met for the first time.
+/// Records that a place needs another place, if the search meets it for the first time.
 fn join_paths<A: Allocator>(
     steps: &mut [Option<usize>],
     met: &mut Vec<usize, A>,
@@ -106,7 +106,7 @@ fn join_paths<A: Allocator>(
     Ok(())
 }
 
-/// Meets each place that needs this one. The needs are sorted by the place that is needed.
+/// Visits each place that needs this one. The needs are sorted by the place that is needed.
 fn meet_all<A: Allocator>(
     needs: &[(usize, usize)],
     steps: &mut [Option<usize>],
