@@ -4,7 +4,7 @@ use Rattle.child_table.proofs.Words.{◌≤◌, ◌<◌, List, [], ◌∷◌, �
 use Rattle.child_table.proofs.Words.{count_by, false_from_ne_true, eqb-true, length-map, sum_by-cons, sum_by_push}
 use Rattle.child_table.proofs.Words.{count_by-le-length, values_of, lookup, remove_entry, IndexMap, IsUnique}
 use Rattle.child_table.proofs.Words.{index_map_len, same_id, Counts, SlotState, are_distinct, record_by_id, is_busy}
-use Rattle.child_table.proofs.Words.{is_record_of}
+use Rattle.child_table.proofs.Words.{is_record_of, length_push}
 use Rattle.child_table.proofs.Words.{changed, with_changed, is_stop_due, counts_of, plus, minus, IsWithin, AreSmall}
 use Rattle.std.proofs.Common.{is_some}
 use Rattle.child_table.proofs.Found.{Kept, IsOwn, distinct_in, found_in, others, rest_distinct, unchanged}
@@ -83,6 +83,15 @@ found_within id slot slots is = (
   where
     at : (p : SlotState → Bool) → count_by p (slot ∷ []) ≤ count_by p slots
     at p = omega (arith, count-one p slot, count_found p id slot slots is)
+
+-- an index has room for an item per record, so the number of records fits in a machine word
+pub few_kept : (kept : Kept) (room : ℕ) → length (values_of kept) ≤ room → room < 2 ^ 63 → length kept < 2 ^ 63
+few_kept kept room fits small = omega (arith, length-map kept (λ (e : List ℕ × SlotState). e.1))
+
+pub few_pushed : (slot : SlotState) (slots : List SlotState) (kept : Kept) (room : ℕ)
+    → values_of kept ≡ slots ++ slot ∷ [] → length slots + 1 ≤ room → room < 2 ^ 63 → length kept < 2 ^ 63
+few_pushed slot slots kept room is fits small =
+    omega (arith, length-map kept (λ (e : List ℕ × SlotState). e.1), ap length is, length_push slots slot)
 
 -- the counts fit in a machine word if the number of records does
 pub counts_small : (slots : List SlotState) → length slots < 2 ^ 63 → AreSmall (counts_of slots)

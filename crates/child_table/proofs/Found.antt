@@ -4,7 +4,7 @@ use Rattle.child_table.proofs.Words.{◌≡◌, refl, sym, ◌∙◌, ap, subst,
 use Rattle.child_table.proofs.Words.{zero, suc, map, slice_get, Option, Some, None, Ok, arith, list_any}
 use Rattle.child_table.proofs.Words.{AllByRecursion, IfSome, option_copied, values_of, lookup, set_value, remove_entry}
 use Rattle.child_table.proofs.Words.{and_parts, and_from, or_from, not-true, not_from_false, same_id, Answer}
-use Rattle.child_table.proofs.Words.{same_id-is, lookup-find, values-push, keys-push, IndexMap, IsUnique}
+use Rattle.child_table.proofs.Words.{◌&&◌, ◌||◌, same_id-sym, same_id-is, lookup-find, values-push, keys-push, IndexMap, IsUnique}
 use Rattle.child_table.proofs.Words.{WritesThrough, insert_entry, SlotState, is_timely, are_timely, ids_of_records}
 use Rattle.child_table.proofs.Words.{is_record_of, are_distinct, record_by_id, order_of, refusal_of, with_changed}
 use Rattle.child_table.proofs.Words.{without}
@@ -46,6 +46,37 @@ pub distinct_in : {S : Type 0} (m : IndexMap (List ℕ) SlotState S) (slots : Li
     → IsUnique same_id m → values_of m.entries ≡ slots → are_distinct slots ≡ true
 distinct_in m slots own unique is = rw (← is) (distinct_kept m.entries own unique)
 
+-- whether records are distinct depends on their ids alone
+abbrev distinct_list : List (List ℕ) → Bool
+distinct_list [] = true
+distinct_list (id ∷ ids) = not (list_any (same_id id) ids) && distinct_list ids
+
+listed_ids : (id : List ℕ) (slots : List SlotState) → is_listed id slots ≡ list_any (same_id id) (ids_of_records slots)
+listed_ids id [] = refl
+listed_ids id (slot ∷ slots) = ap (λ b. same_id id slot.id || b) (listed_ids id slots)
+
+distinct_by_ids : (slots : List SlotState) → are_distinct slots ≡ distinct_list (ids_of_records slots)
+distinct_by_ids [] = refl
+distinct_by_ids (slot ∷ slots) =
+    ap (λ b. not b && are_distinct slots) (listed_ids slot.id slots)
+    ∙ ap (λ b. not (list_any (same_id slot.id) (ids_of_records slots)) && b) (distinct_by_ids slots)
+
+pub same_distinct : (slots others : List SlotState) → ids_of_records slots ≡ ids_of_records others
+    → are_distinct slots ≡ true → are_distinct others ≡ true
+same_distinct slots others same distinct =
+    distinct_by_ids others ∙ sym (ap distinct_list same) ∙ sym (distinct_by_ids slots) ∙ distinct
+
+-- a change of each record that keeps its id keeps the records distinct
+ids-mapped : (change : SlotState → SlotState) → ((slot : SlotState) → (change slot).id ≡ slot.id)
+    → (slots : List SlotState) → ids_of_records slots ≡ ids_of_records (map change slots)
+ids-mapped change keeps [] = refl
+ids-mapped change keeps (slot ∷ slots) = grind (arith, ids-mapped change keeps slots)
+
+pub distinct_mapped : (change : SlotState → SlotState) → ((slot : SlotState) → (change slot).id ≡ slot.id)
+    → (slots : List SlotState) → are_distinct slots ≡ true → are_distinct (map change slots) ≡ true
+distinct_mapped change keeps slots distinct =
+    same_distinct slots (map change slots) (ids-mapped change keeps slots) distinct
+
 -- no record after that of an id has the same id
 pub others : (id : List ℕ) (slot : SlotState) (slots : List SlotState) → are_distinct (slot ∷ slots) ≡ true
     → is_record_of id slot ≡ true → is_listed id slots ≡ false
@@ -55,6 +86,18 @@ others id slot slots distinct is = subst (λ k. is_listed k slots ≡ false) (sy
 pub rest_distinct : (slot : SlotState) (slots : List SlotState) → are_distinct (slot ∷ slots) ≡ true
     → are_distinct slots ≡ true
 rest_distinct slot slots distinct = (and_parts (not (is_listed slot.id slots)) (are_distinct slots) distinct).1
+
+-- fewer records are still distinct
+none_without : (id other : List ℕ) (slots : List SlotState) → is_listed id slots ≡ false
+    → is_listed id (without other slots) ≡ false
+none_without id other [] h = refl
+none_without id other (slot ∷ slots) h = grind (arith, none_without id other slots)
+
+pub distinct_without : (id : List ℕ) (slots : List SlotState) → are_distinct slots ≡ true
+    → are_distinct (without id slots) ≡ true
+distinct_without id [] distinct = refl
+distinct_without id (slot ∷ slots) distinct =
+    grind (arith, rest_distinct, others, none_without slot.id id slots, distinct_without id slots)
 
 -- without a record of the id, nothing is changed
 pub unchanged : (id : List ℕ) (change : SlotState → SlotState) (slots : List SlotState)
@@ -75,6 +118,11 @@ pub ids-changed : (id : List ℕ) (change : SlotState → SlotState) → ((slot 
     ≡ slot.id) → (slots : List SlotState) → ids_of_records (with_changed id change slots) ≡ ids_of_records slots
 ids-changed id change keeps [] = refl
 ids-changed id change keeps (slot ∷ slots) = grind (arith, ids-changed id change keeps slots)
+
+pub distinct_changed : (id : List ℕ) (change : SlotState → SlotState) → ((slot : SlotState) → (change slot).id
+    ≡ slot.id) → (slots : List SlotState) → are_distinct slots ≡ true → are_distinct (with_changed id change slots) ≡ true
+distinct_changed id change keeps slots distinct =
+    same_distinct slots (with_changed id change slots) (sym (ids-changed id change keeps slots)) distinct
 
 -- looking up an id in the map finds the record of the id in the list
 pub looked_up : (id : List ℕ) (kept : Kept) (slots : List SlotState) → IsOwn kept → values_of kept ≡ slots
@@ -208,6 +256,18 @@ pushed slot id m n slots own_id own is new inserted =
       own = subst IsOwn (sym grown) (keys-push (λ (s : SlotState). s.id) m.entries slot own);
       timely = λ limit last all. rw values (timely_push limit slots slot all last);
     }
+
+-- a record with a new id leaves the records distinct
+none_pushed : (id : List ℕ) (slot : SlotState) (slots : List SlotState) → is_listed id slots ≡ false
+    → same_id id slot.id ≡ false → is_listed id (slots ++ slot ∷ []) ≡ false
+none_pushed id slot [] none other = or_from (same_id id slot.id) false other refl
+none_pushed id slot (first ∷ slots) none other = grind (arith, none_pushed id slot slots)
+
+pub distinct_pushed : (slot : SlotState) (slots : List SlotState) → record_by_id slot.id slots ≡ None
+    → are_distinct slots ≡ true → are_distinct (slots ++ slot ∷ []) ≡ true
+distinct_pushed slot [] new distinct = refl
+distinct_pushed slot (first ∷ slots) new distinct =
+    grind (arith, rest_distinct, same_id-sym, none_found, none_pushed first.id slot slots, distinct_pushed slot slots)
 
 -- the times of a record that was found are within the limit
 pub timely_some : (limit : ℕ) (id : List ℕ) (slots : List SlotState) (found : Option (Bor SlotState))

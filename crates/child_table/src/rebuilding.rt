@@ -25,8 +25,6 @@ impl<A: Allocator + Copy> Slots<A> {
             }
             slots.push(slot)?;
         }
-        // The contract of `len` states that no id has two records.
-        let _ = slots.len();
         Ok(Some(slots))
     }
 }

@@ -39,7 +39,7 @@ impl<A: Allocator> Model for Slots<A> {
     ghost use Rattle.indexmap.specs.IndexMap.{keys, values};
     ghost use Rattle.respawn_limit.specs.declared.TheConstants.{CLOCK_LIMIT};
     ghost use Rattle.child_table.specs.State.{SlotState};
-    ghost use Rattle.child_table.specs.Lists.{ids_of_records};
+    ghost use Rattle.child_table.specs.Lists.{ids_of_records, are_distinct};
     ghost use Rattle.child_table.specs.Times.{are_timely};
     ghost use Rattle.child_table.specs.Counting.{counts_of};
     ghost use Rattle.child_table.specs.Indexing.{child_of, termed_of, IsIndex};
@@ -52,7 +52,8 @@ impl<A: Allocator> Model for Slots<A> {
         × (are_timely CLOCK_LIMIT (values slots.records) ≡ true)
         × (slots.counts ≡ counts_of (values slots.records))
         × IsIndex child_of (values slots.records) slots.children
-        × IsIndex termed_of (values slots.records) slots.termed };
+        × IsIndex termed_of (values slots.records) slots.termed
+        × (are_distinct (values slots.records) ≡ true) };
 }
 
 impl<A: Allocator + Copy> Slots<A> {
@@ -119,8 +120,6 @@ impl<A: Allocator> Slots<A> {
         ensures value { result.now ≡ self.now }
         ensures distinct { are_distinct self.now ≡ true }
     {
-        // The contract of `len` states that no id has two records; that of `values` does not.
-        let _ = self.len();
         self.records.values().as_slice()
     }
 
@@ -132,11 +131,12 @@ impl<A: Allocator> Slots<A> {
         self.records.get(id)
     }
 
-    /// Returns the position of the record of an id, counted from 0 in record order.
+    /// Returns the position of the record of an id, counted from 0 in record order. No id has two.
     pub fn place_of(&self, id: &Id) -> Option<usize>
         ensures found { is_some result ≡ has_record_of id.now self.now }
         ensures position { IfSome result (λ position.
             slice_get self.now position ≡ record_by_id id.now self.now) }
+        ensures distinct { are_distinct self.now ≡ true }
     {
         self.records.get_index_of(id)
     }
@@ -217,9 +217,6 @@ impl<A: Allocator> Slots<A> {
         requires timely { are_timely now self.old ≡ true }
         ensures { self.new ≡ with_changed id (after_order ask now) self.old }
     {
-        // The contract of `len` bounds the number of records, so that the counts do not overflow; that of `get_mut`
-        // does not.
-        let _ = self.records.len();
         let Some(slot) = self.records.get_mut(&id) else {
             unreachable!()
         };
@@ -288,9 +285,6 @@ impl<A: Allocator> Slots<A> {
         requires limit { now ≤ CLOCK_LIMIT }
         ensures { self.new ≡ with_changed id (after_answer answer now) self.old }
     {
-        // The contract of `len` bounds the number of records, so that the counts do not overflow; that of `get_mut`
-        // does not.
-        let _ = self.records.len();
         let Some(slot) = self.records.get_mut(&id) else {
             unreachable!()
         };
@@ -320,8 +314,6 @@ impl<A: Allocator> Slots<A> {
     fn remove(&mut self, id: Id)
         ensures { self.new ≡ without id self.old }
     {
-        // The contract of `len` states that no id has two records; that of `shift_remove` does not.
-        let _ = self.records.len();
         if let Some(slot) = self.records.shift_remove(&id) {
             self.counts.subtract(Counts::of(&slot));
             forget(&mut self.children, &id, child_of(&slot));
@@ -424,9 +416,6 @@ impl<A: Allocator> Slots<A> {
         make_room(&mut self.children, records)?;
         make_room(&mut self.termed, records)?;
         self.records.insert(id, slot)?;
-        // The contract of `len` bounds the number of records, so that the counts do not overflow; that of `insert` does
-        // not.
-        let _ = self.records.len();
         self.counts.add(counts);
         put(&mut self.children, child);
         put(&mut self.termed, termed);

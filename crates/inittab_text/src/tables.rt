@@ -72,8 +72,6 @@ impl<A: Allocator> Table<A> {
         ensures table { is_table self.now ≡ true }
         ensures distinct { is_distinct self.now ≡ true }
     {
-        // The contract of `len` states the properties of a table; the contract of `values` does not.
-        let _ = self.len();
         self.entries.values().as_slice()
     }
 

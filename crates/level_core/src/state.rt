@@ -445,8 +445,6 @@ impl<A: Allocator> CoreValues<A> {
         let Some(position) = self.slots.place_of(&id) else {
             return Err(Refusal::NotAsked);
         };
-        // The contract of `len` states that no id has two records; that of `told` does not.
-        let _ = self.slots.len();
         self.slots.told(id, answer, self.fields.time)?;
         // The end of a child may remove a record.
         self.looks_from = self.looks_from.saturating_sub(1);

@@ -2,8 +2,8 @@ use Rattle.child_table.proofs.Words.{◌≡◌, ap, subst, true, sym, ◌∙◌,
 use Rattle.child_table.proofs.Words.{can_ask_of, after_order, counts_of, child_of, termed_of}
 use Rattle.init_words.proofs.Tests.{both_ways}
 use Rattle.child_table.proofs.Changed.{child-after_order, id-after_order, termed-after_order}
-use Rattle.child_table.proofs.Counted.{found_within, recount}
-use Rattle.child_table.proofs.Found.{absent_in, found_in, written}
+use Rattle.child_table.proofs.Counted.{few_kept, found_within, recount}
+use Rattle.child_table.proofs.Found.{absent_in, distinct_changed, found_in, written}
 use Rattle.child_table.proofs.Timely.{timely_found, timely_order}
 use Rattle.child_table.proofs.Indexes.{same_index_at}
 use Rattle.child_table.proofs.slots.Slots.ask.Goals as goal
@@ -36,7 +36,7 @@ pub add-requires : goal.add-requires
 add-requires g c = (recount c.self.inside.records c.args.id
     (after_order c.args.ask c.args.now) c.in-Some.slot.now c.note_order.new.self c.args.self.now c.self.inside.counts
     c.of.result c.subtract.new.self c.of-2.result c.self.invariant.0 c.get_mut.ensures.unique
-    (rw c.len.ensures.len at c.len.ensures.small) c.self.view_is c.in-Some.ensures.value c.self.invariant.2 c.of.ensures
+    (few_kept c.self.inside.records.entries _ c.self.invariant.3.room c.self.inside.children.small) c.self.view_is c.in-Some.ensures.value c.self.invariant.2 c.of.ensures
     c.subtract.ensures c.note_order.ensures c.of-2.ensures).small
 
 pub invariant_of-self : goal.invariant_of-self
@@ -52,7 +52,7 @@ invariant_of-self g c =
           (after_order c.args.ask c.args.now) c.in-Some.slot.now c.note_order.new.self c.args.self.now
           c.self.inside.counts
           c.of.result c.subtract.new.self c.of-2.result c.self.invariant.0 c.get_mut.ensures.unique
-          (rw c.len.ensures.len at c.len.ensures.small) c.self.view_is c.in-Some.ensures.value c.self.invariant.2
+          (few_kept c.self.inside.records.entries _ c.self.invariant.3.room c.self.inside.children.small) c.self.view_is c.in-Some.ensures.value c.self.invariant.2
           c.of.ensures c.subtract.ensures c.note_order.ensures c.of-2.ensures).exact ∙ sym (ap counts_of left.values),
       same_index_at child_of c.args.id (after_order c.args.ask c.args.now) (λ s.
           child-after_order c.args.ask c.args.now s) c.self.inside.children c.self.view_is left.values
@@ -60,6 +60,8 @@ invariant_of-self g c =
       same_index_at termed_of c.args.id (after_order c.args.ask c.args.now) (λ s.
           termed-after_order c.args.ask c.args.now s) c.self.inside.termed c.self.view_is left.values
           c.self.invariant.4,
+      rw left.values (distinct_changed c.args.id (after_order c.args.ask c.args.now) (λ s. id-after_order c.args.ask c.args.now s) c.args.self.now
+          (rw c.self.view_is at c.self.invariant.5)),
     )
 
 pub returns : goal.returns

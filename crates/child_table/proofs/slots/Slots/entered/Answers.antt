@@ -2,7 +2,7 @@ use Rattle.child_table.proofs.Words.{rules, refl, ap, sym, ◌∙◌, map_same_p
 use Rattle.child_table.proofs.Words.{child_of, termed_of}
 use Rattle.child_table.proofs.Changed.{timely_enter}
 use Rattle.child_table.proofs.Counted.{same_counts}
-use Rattle.child_table.proofs.Found.{all_written}
+use Rattle.child_table.proofs.Found.{all_written, distinct_mapped}
 use Rattle.child_table.proofs.Indexes.{same_index}
 use Rattle.child_table.proofs.slots.Slots.entered.Goals as goal
 
@@ -18,6 +18,7 @@ invariant_of-self g c =
           ∙ sym (ap counts_of left.values),
       same_index child_of after_enter (λ s. refl) c.self.inside.children c.self.view_is left.values c.self.invariant.3,
       same_index termed_of after_enter (λ s. refl) c.self.inside.termed c.self.view_is left.values c.self.invariant.4,
+      rw left.values (distinct_mapped after_enter (λ s. refl) c.args.self.now (rw c.self.view_is at c.self.invariant.5)),
     )
 
 pub returns : goal.returns

@@ -3,7 +3,7 @@ use Rattle.child_table.proofs.Words.{counts_of, child_of, termed_of}
 use Rattle.init_words.proofs.Tests.{both_ways}
 use Rattle.std.specs.Option.{is_some}
 use Rattle.child_table.proofs.Counted.{same_changed}
-use Rattle.child_table.proofs.Found.{absent_in, written}
+use Rattle.child_table.proofs.Found.{absent_in, distinct_changed, written}
 use Rattle.child_table.proofs.Indexes.{same_index_at}
 use Rattle.child_table.proofs.slots.Slots.hold.Goals as goal
 
@@ -27,6 +27,8 @@ invariant_of-self g c =
           (λ s. refl) c.self.inside.children c.self.view_is left.values c.self.invariant.3,
       same_index_at termed_of c.args.id (after_hold c.args.now)
           (λ s. refl) c.self.inside.termed c.self.view_is left.values c.self.invariant.4,
+      rw left.values (distinct_changed c.args.id (after_hold c.args.now) (λ s. refl) c.args.self.now
+          (rw c.self.view_is at c.self.invariant.5)),
     )
 
 pub returns : goal.returns

@@ -3,7 +3,7 @@ use Rattle.child_table.proofs.Words.{SlotState, after_judge, counts_of, is_stop_
 use Rattle.std.specs.Option.{is_some}
 use Rattle.child_table.proofs.Changed.{child-after_judge, id-after_judge, order-after_judge, timely_judge}
 use Rattle.child_table.proofs.Counted.{judged_counts}
-use Rattle.child_table.proofs.Found.{all_written}
+use Rattle.child_table.proofs.Found.{all_written, distinct_mapped}
 use Rattle.child_table.proofs.Indexes.{same_index}
 use Rattle.child_table.proofs.slots.Slots.judge.Goals as goal
 
@@ -27,7 +27,8 @@ invariant_of-self g c =
       same_index child_of (after_judge c.args.table.now c.args.stage) (λ s. child-after_judge c.args.table.now
           c.args.stage s) c.self.inside.children c.self.view_is left.values c.self.invariant.3,
       subst (λ slots. IsIndex termed_of slots c.index_termed.new.items)
-          (c.as_slice-slots.ensures ∙ c.values.ensures.rest) c.index_termed.ensures,
+          (c.as_slice-slots.ensures ∙ c.values.ensures.rest) c.index_termed.ensures,      rw left.values (distinct_mapped (after_judge c.args.table.now c.args.stage)
+          (λ s. id-after_judge c.args.table.now c.args.stage s) c.args.self.now (rw c.self.view_is at c.self.invariant.5)),
     )
 
 pub returns : goal.returns

@@ -3,8 +3,8 @@ use Rattle.child_table.proofs.Words.{counts_of, child_of, termed_of}
 use Rattle.init_words.proofs.Tests.{both_ways}
 use Rattle.std.specs.Option.{is_some}
 use Rattle.child_table.proofs.Changed.{child-after_answer, id-after_answer, termed-after_answer}
-use Rattle.child_table.proofs.Counted.{found_within, recount}
-use Rattle.child_table.proofs.Found.{absent_in, distinct_in, found_in, written}
+use Rattle.child_table.proofs.Counted.{few_kept, found_within, recount}
+use Rattle.child_table.proofs.Found.{absent_in, distinct_changed, found_in, written}
 use Rattle.child_table.proofs.Timely.{timely_answer}
 use Rattle.child_table.proofs.Forgotten.{item_before}
 use Rattle.child_table.proofs.Keys.{own_child, own_termed}
@@ -26,42 +26,41 @@ pub add-requires : goal.add-requires
 add-requires g c = (recount c.self.inside.records c.args.id
     (after_answer c.args.answer c.args.now) c.in-Some.slot.now c.note_answer.new.self c.args.self.now
     c.self.inside.counts c.of.result c.subtract.new.self c.of-2.result c.self.invariant.0 c.get_mut.ensures.unique
-    (rw c.len.ensures.len at c.len.ensures.small) c.self.view_is c.in-Some.ensures.value c.self.invariant.2 c.of.ensures
+    (few_kept c.self.inside.records.entries _ c.self.invariant.3.room c.self.inside.children.small) c.self.view_is c.in-Some.ensures.value c.self.invariant.2 c.of.ensures
     c.subtract.ensures c.note_answer.ensures c.of-2.ensures).small
 
 pub note-requires-clause-room : goal.note-requires-clause-room
 note-requires-clause-room g c = note_room child_of own_child c.args.id (after_answer c.args.answer c.args.now)
     c.in-Some.slot.now c.note_answer.new.self c.self.inside.children c.child_of-child.result c.self.view_is
-    (distinct_in c.self.inside.records c.args.self.now c.self.invariant.0 c.len.ensures.unique c.self.view_is)
+    (rw c.self.view_is at c.self.invariant.5)
     (found_in c.args.id c.in-Some.slot.now c.self.inside.records.entries c.args.self.now c.self.invariant.0
     c.self.view_is c.in-Some.ensures.value) c.note_answer.ensures c.child_of-child.ensures c.self.invariant.3
 
 pub note-requires-2-clause-room : goal.note-requires-2-clause-room
 note-requires-2-clause-room g c = note_room termed_of own_termed c.args.id (after_answer c.args.answer c.args.now)
     c.in-Some.slot.now c.note_answer.new.self c.self.inside.termed c.termed_of-termed.result c.self.view_is
-    (distinct_in c.self.inside.records c.args.self.now c.self.invariant.0 c.len.ensures.unique c.self.view_is)
+    (rw c.self.view_is at c.self.invariant.5)
     (found_in c.args.id c.in-Some.slot.now c.self.inside.records.entries c.args.self.now c.self.invariant.0
     c.self.view_is c.in-Some.ensures.value) c.note_answer.ensures c.termed_of-termed.ensures c.self.invariant.4
 
 pub note-requires-clause-one : goal.note-requires-clause-one
 note-requires-clause-one g c = item_before child_of own_child c.args.id c.in-Some.slot.now c.self.inside.children
     c.child_of-old_child.result c.self.view_is
-    (distinct_in c.self.inside.records c.args.self.now c.self.invariant.0 c.len.ensures.unique c.self.view_is)
+    (rw c.self.view_is at c.self.invariant.5)
     (found_in c.args.id c.in-Some.slot.now c.self.inside.records.entries c.args.self.now c.self.invariant.0
     c.self.view_is c.in-Some.ensures.value) c.child_of-old_child.ensures c.self.invariant.3
 
 pub note-requires-2-clause-one : goal.note-requires-2-clause-one
 note-requires-2-clause-one g c = item_before termed_of own_termed c.args.id c.in-Some.slot.now c.self.inside.termed
     c.termed_of-old_termed.result c.self.view_is
-    (distinct_in c.self.inside.records c.args.self.now c.self.invariant.0 c.len.ensures.unique c.self.view_is)
+    (rw c.self.view_is at c.self.invariant.5)
     (found_in c.args.id c.in-Some.slot.now c.self.inside.records.entries c.args.self.now c.self.invariant.0
     c.self.view_is c.in-Some.ensures.value) c.termed_of-old_termed.ensures c.self.invariant.4
 
 pub invariant_of-self : goal.invariant_of-self
 invariant_of-self g c =
     let change = after_answer c.args.answer c.args.now in
-    let distinct =
-    distinct_in c.self.inside.records c.args.self.now c.self.invariant.0 c.len.ensures.unique c.self.view_is in
+    let distinct = rw c.self.view_is at c.self.invariant.5 in
     let found = found_in c.args.id c.in-Some.slot.now c.self.inside.records.entries c.args.self.now c.self.invariant.0
     c.self.view_is c.in-Some.ensures.value in
     let left = written c.args.id (after_answer c.args.answer c.args.now) _ _ _ _ _
@@ -73,7 +72,7 @@ invariant_of-self g c =
       c.add.ensures ∙ (recount c.self.inside.records c.args.id
           (after_answer c.args.answer c.args.now) c.in-Some.slot.now c.note_answer.new.self c.args.self.now
           c.self.inside.counts c.of.result c.subtract.new.self c.of-2.result c.self.invariant.0 c.get_mut.ensures.unique
-          (rw c.len.ensures.len at c.len.ensures.small) c.self.view_is c.in-Some.ensures.value c.self.invariant.2
+          (few_kept c.self.inside.records.entries _ c.self.invariant.3.room c.self.inside.children.small) c.self.view_is c.in-Some.ensures.value c.self.invariant.2
           c.of.ensures c.subtract.ensures c.note_answer.ensures c.of-2.ensures).exact ∙ sym (ap counts_of left.values),
       noted_index child_of own_child c.args.id change c.in-Some.slot.now c.note_answer.new.self c.self.inside.children
           c.child_of-child.result c.self.view_is distinct found c.note_answer.ensures c.child_of-child.ensures
@@ -85,6 +84,7 @@ invariant_of-self g c =
           c.changes_stop.result c.note-2.new.items left.values
           (λ still s. termed-after_answer c.args.answer c.args.now s (sym c.changes_stop.ensures ∙ still))
           c.note-2.ensures.counts c.note-2.ensures.sorted c.note-2.ensures.room c.self.invariant.4,
+      rw left.values (distinct_changed c.args.id change (λ s. id-after_answer c.args.answer c.args.now s) c.args.self.now distinct),
     )
 
 pub returns : goal.returns

@@ -1,7 +1,7 @@
 use Rattle.child_table.proofs.Words.{◌≡◌, rules, refl, ap, sym, ◌∙◌, arith, map, count_by, map_same_pairs, CLOCK_LIMIT}
 use Rattle.child_table.proofs.Words.{SlotState, Counts, after_nudge, counts_of, child_of, termed_of, values_of}
 use Rattle.child_table.proofs.Counted.{unmissed_counts}
-use Rattle.child_table.proofs.Found.{all_written}
+use Rattle.child_table.proofs.Found.{all_written, distinct_mapped}
 use Rattle.child_table.proofs.Indexes.{same_index}
 use Rattle.child_table.proofs.Rounds.{begun_by_index}
 use Rattle.child_table.proofs.Timely.{timely_map}
@@ -36,7 +36,7 @@ invariant_of-self g c =
       same_index child_of after_nudge
           (λ s. refl) c.self.inside.children c.self.view_is values c.self.invariant.3,
       same_index termed_of after_nudge
-          (λ s. refl) c.self.inside.termed c.self.view_is values c.self.invariant.4,
+          (λ s. refl) c.self.inside.termed c.self.view_is values c.self.invariant.4,      rw values (distinct_mapped after_nudge (λ s. refl) c.args.self.now (rw c.self.view_is at c.self.invariant.5)),
     )
 
 pub returns-then-len : goal.returns-then-len
@@ -55,7 +55,7 @@ invariant_of-self-2 g c =
       same_index child_of after_nudge
           (λ s. refl) c.self.inside.children c.self.view_is left.values c.self.invariant.3,
       same_index termed_of after_nudge
-          (λ s. refl) c.self.inside.termed c.self.view_is left.values c.self.invariant.4,
+          (λ s. refl) c.self.inside.termed c.self.view_is left.values c.self.invariant.4,      rw left.values (distinct_mapped after_nudge (λ s. refl) c.args.self.now (rw c.self.view_is at c.self.invariant.5)),
     )
 
 pub returns : goal.returns

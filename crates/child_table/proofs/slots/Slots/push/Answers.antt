@@ -1,16 +1,19 @@
 use Rattle.child_table.proofs.Words.{◌≡◌, length, ap, sym, ◌∙◌, arith, CLOCK_LIMIT, counts_of, child_of, termed_of}
 use Rattle.std.proofs.lemmas.Map.Entries.{length-values_of}
-use Rattle.child_table.proofs.Counted.{pushed_count}
-use Rattle.child_table.proofs.Found.{pushed}
+use Rattle.child_table.proofs.Counted.{few_pushed, pushed_count}
+use Rattle.child_table.proofs.Found.{distinct_pushed, pushed}
 use Rattle.child_table.proofs.Indexes.{push_room, pushed_index}
 use Rattle.child_table.proofs.slots.Slots.push.Goals as goal
 
 pub add-requires : goal.add-requires
 add-requires g c =
+    let many : length c.args.self.now ≡ length c.self.inside.records.entries =
+    sym (ap length c.self.view_is) ∙ length-values_of c.self.inside.records.entries in
     let left = pushed c.args.slot c.id-id.result c.self.inside.records c.insert.new.self c.args.self.now c.id-id.ensures
     c.self.invariant.0 c.self.view_is c.requires.new c.in_ok-insert.ensures.entries in
     (pushed_count c.insert.new.self c.args.slot c.args.self.now c.self.inside.counts c.of-counts.result
-    (rw c.len.ensures.len at c.len.ensures.small) left.values
+    (few_pushed c.args.slot c.args.self.now c.insert.new.self.entries _ left.values
+          (omega (arith, many, c.in_ok-make_room.ensures.room, c.len-records.ensures.len)) c.make_room.new.items.small) left.values
     (c.self.invariant.2 ∙ ap counts_of c.self.view_is) c.of-counts.ensures).small
 
 pub put-requires-clause-room : goal.put-requires-clause-room
@@ -38,7 +41,8 @@ invariant_of-self-2 g c =
       left.own,
       left.timely CLOCK_LIMIT c.requires.timely (rw c.self.view_is at c.self.invariant.1),
       c.add.ensures ∙ (pushed_count c.insert.new.self c.args.slot c.args.self.now c.self.inside.counts
-          c.of-counts.result (rw c.len.ensures.len at c.len.ensures.small) left.values
+          c.of-counts.result (few_pushed c.args.slot c.args.self.now c.insert.new.self.entries _ left.values
+          (omega (arith, many, c.in_ok-make_room.ensures.room, c.len-records.ensures.len)) c.make_room.new.items.small) left.values
           (c.self.invariant.2 ∙ ap counts_of c.self.view_is) c.of-counts.ensures).exact
           ∙ sym (ap counts_of left.values),
       pushed_index child_of c.args.slot c.self.inside.children c.make_room.new.items c.put.new.items
@@ -48,7 +52,7 @@ invariant_of-self-2 g c =
       pushed_index termed_of c.args.slot c.self.inside.termed c.make_room-2.new.items c.put-2.new.items
           c.termed_of-termed.result c.self.view_is left.values c.termed_of-termed.ensures c.make_room-2.ensures.items
           (omega (arith, many, c.in_ok-make_room-2.ensures.room, c.len-records.ensures.len)) c.put-2.ensures.counts
-          c.put-2.ensures.sorted c.put-2.ensures.room c.self.invariant.4,
+          c.put-2.ensures.sorted c.put-2.ensures.room c.self.invariant.4,      rw left.values (distinct_pushed c.args.slot c.args.self.now c.requires.new (rw c.self.view_is at c.self.invariant.5)),
     )
 
 pub returns-clause-pushed : goal.returns-clause-pushed

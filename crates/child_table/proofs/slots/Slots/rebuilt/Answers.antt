@@ -1,7 +1,7 @@
 use Rattle.child_table.proofs.Words.{◌≡◌, ◌∷◌, [], length, refl, sym, ◌∙◌, ap, append_assoc, arith, true}
 use Rattle.child_table.proofs.Words.{into_iter_items}
 use Rattle.child_table.proofs.Words.{CLOCK_LIMIT, has_record_of}
-use Rattle.child_table.proofs.Rebuilt.{timely_next, doubled}
+use Rattle.child_table.proofs.Rebuilt.{timely_next, doubled, distinct_next}
 use Rattle.child_table.proofs.slots.Slots.rebuilt.Goals as goal
 
 pub loop-slot-init : goal.loop-slot-init
@@ -9,6 +9,7 @@ loop-slot-init g c = (
   rw c.in_ok-slots.ensures c.into_iter-slot-iterator.ensures.into_iter_gives.0,
   c.into_iter-slot-iterator.ensures.into_iter_gives.1 ∙ c.args.given.ok.0
       ∙ ap length (sym c.into_iter-slot-iterator.ensures.into_iter_gives.0),
+  rw c.in_ok-slots.ensures refl,
 )
 
 pub push-requires-clause-timely : goal.push-requires-clause-timely
@@ -28,6 +29,8 @@ loop-slot-preserved g c =
           let gone = c.in-Some.ensures.steps.1 in
           let short = ap length steps in
           omega arith,
+      rw c.in_ok-push.ensures.pushed (distinct_next c.loop-slot.slots c.in-Some.slot
+          (rw (← c.id.ensures, ← c.place_of.ensures.found) (sym c.if-is_some.ensures)) c.loop-slot.invariant.2),
     )
 
 pub returns-then-is_some : goal.returns-then-is_some

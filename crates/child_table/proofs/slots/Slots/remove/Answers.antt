@@ -1,6 +1,6 @@
 use Rattle.child_table.proofs.Words.{sym, same_id, CLOCK_LIMIT, child_of, termed_of}
 use Rattle.child_table.proofs.Counted.{found_within, removed_counts}
-use Rattle.child_table.proofs.Found.{distinct_in, found_in, removed}
+use Rattle.child_table.proofs.Found.{distinct_without, found_in, removed}
 use Rattle.child_table.proofs.Forgotten.{item_before}
 use Rattle.child_table.proofs.Keys.{own_child, own_termed}
 use Rattle.child_table.proofs.Indexes.{removed_index}
@@ -13,14 +13,12 @@ subtract-requires g c = rw (c.of.ensures, c.self.invariant.2, c.self.view_is)
 
 pub forget-requires-clause-one : goal.forget-requires-clause-one
 forget-requires-clause-one g c = item_before child_of own_child c.args.id c.in-Some.slot c.self.inside.children
-    c.child_of.result c.self.view_is (distinct_in c.self.inside.records c.args.self.now c.self.invariant.0
-    c.len.ensures.unique c.self.view_is) (found_in c.args.id c.in-Some.slot c.self.inside.records.entries
+    c.child_of.result c.self.view_is (rw c.self.view_is at c.self.invariant.5) (found_in c.args.id c.in-Some.slot c.self.inside.records.entries
     c.args.self.now c.self.invariant.0 c.self.view_is c.in-Some.ensures.value) c.child_of.ensures c.self.invariant.3
 
 pub forget-requires-in-Some-clause-one : goal.forget-requires-in-Some-clause-one
 forget-requires-in-Some-clause-one g c = item_before termed_of own_termed c.args.id c.in-Some.slot c.self.inside.termed
-    c.termed_of.result c.self.view_is (distinct_in c.self.inside.records c.args.self.now c.self.invariant.0
-    c.len.ensures.unique c.self.view_is) (found_in c.args.id c.in-Some.slot c.self.inside.records.entries
+    c.termed_of.result c.self.view_is (rw c.self.view_is at c.self.invariant.5) (found_in c.args.id c.in-Some.slot c.self.inside.records.entries
     c.args.self.now c.self.invariant.0 c.self.view_is c.in-Some.ensures.value) c.termed_of.ensures c.self.invariant.4
 
 pub invariant_of-self : goal.invariant_of-self
@@ -37,6 +35,8 @@ invariant_of-self g c =
       removed_index termed_of own_termed c.args.id c.self.inside.termed c.forget-in-Some.new.items c.self.view_is
           left.values c.forget-in-Some.ensures.items c.forget-in-Some.ensures.sorted c.forget-in-Some.ensures.room
           c.self.invariant.4,
+      rw left.values (distinct_without c.args.id c.args.self.now
+          (rw c.self.view_is at c.self.invariant.5)),
     )
 
 pub returns-in-Some : goal.returns-in-Some
