@@ -36,7 +36,7 @@ pub(crate) fn tell_over(rt: &impl Eprint, program: &'static str, doing: Doing, w
     let _ = eprintln!(rt; "{program}: {what}: can be {done} again");
 }
 
-/// Reports why no child can be sent TERM, and what to do if a program is missing.
+/// Reports why init cannot send TERM to any child, and what to do if a program is missing.
 pub(crate) fn tell_unsendable(
     rt: &impl Eprint,
     program: &'static str,
@@ -47,9 +47,9 @@ pub(crate) fn tell_unsendable(
     let reason = Reason(error);
     let _ = match error.kind() {
         ErrorKind::NotFound => eprintln!(rt;
-            "{program}: no child can be sent TERM: {reason}; use a PATH that contains sh{setsid} and kill"
+            "{program}: cannot send TERM to any child: {reason}; use a PATH that contains sh{setsid} and kill"
         ),
-        _ => eprintln!(rt; "{program}: no child can be sent TERM: {reason}"),
+        _ => eprintln!(rt; "{program}: cannot send TERM to any child: {reason}"),
     };
 }
 

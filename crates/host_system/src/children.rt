@@ -72,7 +72,7 @@ impl<S: System, A: Allocator + Copy> Children<S, A> {
         Ok(boxed(alloc, children)?)
     }
 
-    /// Reports on standard error that no child can be sent TERM, if the options ask for that check.
+    /// Reports on standard error that init cannot send TERM to any child, if the options ask for that check.
     pub(crate) fn tell_unsendable<R: MessageSink>(
         &self,
         rt: &R,

@@ -156,7 +156,7 @@ shared_message one other =
 
 -- the report that an inittab has no entry with this id
 abbrev pub unlisted_message : List ℕ → List ℕ
-unlisted_message id = codes "initd: no entry has the id " ++ (id ++ codes "; use --result with an id of the inittab\n")
+unlisted_message id = codes "initd: no entry has the id " ++ (id ++ codes "; use --result with an id in the inittab\n")
 
 -- the faults of an inittab that must have none are reported, and that the inittab is rejected
 abbrev pub ReportsFlawed : List ℕ → ReportList → ReportList → Type 0

@@ -241,7 +241,7 @@ pub(crate) fn report_unlisted<E: Reporter>(alloc: Global, id: &Id, err: &mut E) 
 fn unlisted_message(alloc: Global, id: &str) -> Result<String, AllocError>
     ensures { IfOk result (λ text. string_bytes text ≡ unlisted_message id.now) }
 {
-    format!(in alloc; "initd: no entry has the id {id}; use --result with an id of the inittab\n")
+    format!(in alloc; "initd: no entry has the id {id}; use --result with an id in the inittab\n")
 }
 
 /// Writes a text and flushes the writer, and returns whether that worked.

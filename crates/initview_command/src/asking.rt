@@ -214,7 +214,7 @@ fn form_said(matches: &ArgMatches) -> Option<Form>
     }
 }
 
-/// Returns the number of lines that an argument means.
+/// Parses an argument that is a number of lines, 1 to 10,000.
 pub(crate) fn last_of(word: &str) -> Option<usize>
     ensures { result ≡ last_of word.now }
 {

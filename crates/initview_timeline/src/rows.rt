@@ -48,8 +48,8 @@ pub struct Row {
     pub pieces: Pieces,
 }
 
-/// A timeline, from the first reading of the clock to the last, in seconds: the pieces of the stages, the rows of the
-/// ids, the stage in force at the end, and whether this stage is settled.
+/// A timeline from the first clock reading to the last, in seconds. It has the pieces of time in which each stage was in
+/// force, one row per id, the stage in force at the end, and whether the level was then settled.
 #[derive(Drop)]
 pub struct Timeline {
     pub start: u64,
@@ -382,7 +382,7 @@ fn rows_of(alloc: Global, seen: &Seen) -> Result<Vec<Row>, AllocError>
     Ok(rows)
 }
 
-/// Returns the pieces of the stages.
+/// Returns the stages as pieces of time.
 fn stage_pieces(alloc: Global, seen: &Seen) -> Result<Pieces, AllocError>
     ensures { IfOk result (λ pieces. pieces ≡ stage_pieces (scene_of seen.now)) }
 {

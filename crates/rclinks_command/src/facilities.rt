@@ -20,7 +20,7 @@ fn is_unnamed(files: &[&str], facility: &str) -> bool
     true
 }
 
-/// Adds each facility file, except those with the same name as one of the files.
+/// Adds the facility files, except any that has the same name as one of the script files.
 fn add_facilities<'w>(
     files: &[&str],
     facilities: &'w [String],

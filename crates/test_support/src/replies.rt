@@ -38,7 +38,7 @@ pub fn reply_of(text: &str) -> Option<Reply> {
     Some(Reply::Now(answer_of(text)?))
 }
 
-/// Returns the late answer for an item.
+/// Parses the late answer in an item of a scripted reply: the id and the answer, or no answer for an empty item.
 pub fn late_of(text: &str) -> Option<Option<(Id, Answer)>> {
     if text.is_empty() {
         return Some(None);
@@ -47,7 +47,7 @@ pub fn late_of(text: &str) -> Option<Option<(Id, Answer)>> {
     Some(Some((Id::read(id.as_bytes())?, answer_of(answer)?)))
 }
 
-/// Returns the fault for an item that is one, and otherwise the given value.
+/// Returns the fault if the item names one, otherwise the given value.
 pub fn given<T: Drop>(item: &str, made: Option<T>) -> Option<Result<T, HostFault>> {
     match item {
         "fails" => Some(Err(HostFault::Device)),
