@@ -30,7 +30,7 @@ fn answer_of(text: &str) -> Option<Answer> {
     }
 }
 
-/// Returns the reply for an item.
+/// Parses the reply of a scripted host in an item of a row.
 pub fn reply_of(text: &str) -> Option<Reply> {
     if text == "later" {
         return Some(Reply::Later);
@@ -56,8 +56,8 @@ pub fn given<T: Drop>(item: &str, made: Option<T>) -> Option<Result<T, HostFault
     }
 }
 
-/// Returns the bytes of requests, given by their characters of telinit(8), or of zeros. A `-` after a character takes
-/// only the first 200 bytes of its block, and one before it the others.
+/// Returns the request blocks that the words describe. A word is a character of telinit(8): with `-` after it, only the
+/// first 200 bytes of its block are returned, with `-` before it, only the others. Any other word is a block of zeros.
 pub fn blocks_of(alloc: Global, words: &str) -> Option<Vec<u8>> {
     let mut bytes = Vec::new(alloc);
     for word in words.split_ascii_whitespace() {
