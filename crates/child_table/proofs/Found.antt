@@ -4,7 +4,8 @@ use Rattle.child_table.proofs.Words.{◌≡◌, refl, sym, ◌∙◌, ap, subst,
 use Rattle.child_table.proofs.Words.{zero, suc, map, slice_get, Option, Some, None, Ok, arith, list_any}
 use Rattle.child_table.proofs.Words.{AllByRecursion, IfSome, option_copied, values_of, lookup, set_value, remove_entry}
 use Rattle.child_table.proofs.Words.{and_parts, and_from, or_from, not-true, not_from_false, same_id, Answer}
-use Rattle.child_table.proofs.Words.{◌&&◌, ◌||◌, same_id-sym, same_id-is, lookup-find, values-push, keys-push, IndexMap, IsUnique}
+use Rattle.child_table.proofs.Words.{◌&&◌, ◌||◌, same_id-sym}
+use Rattle.child_table.proofs.Words.{same_id-is, lookup-find, values-push, keys-push, IndexMap, IsUnique}
 use Rattle.child_table.proofs.Words.{WritesThrough, insert_entry, SlotState, is_timely, are_timely, ids_of_records}
 use Rattle.child_table.proofs.Words.{is_record_of, are_distinct, record_by_id, order_of, refusal_of, with_changed}
 use Rattle.child_table.proofs.Words.{without}
@@ -120,7 +121,8 @@ ids-changed id change keeps [] = refl
 ids-changed id change keeps (slot ∷ slots) = grind (arith, ids-changed id change keeps slots)
 
 pub distinct_changed : (id : List ℕ) (change : SlotState → SlotState) → ((slot : SlotState) → (change slot).id
-    ≡ slot.id) → (slots : List SlotState) → are_distinct slots ≡ true → are_distinct (with_changed id change slots) ≡ true
+    ≡ slot.id) → (slots : List SlotState) → are_distinct slots ≡ true
+    → are_distinct (with_changed id change slots) ≡ true
 distinct_changed id change keeps slots distinct =
     same_distinct slots (with_changed id change slots) (sym (ids-changed id change keeps slots)) distinct
 

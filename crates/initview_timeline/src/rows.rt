@@ -48,8 +48,8 @@ pub struct Row {
     pub pieces: Pieces,
 }
 
-/// A timeline from the first clock reading to the last, in seconds. It has the pieces of time in which each stage was in
-/// force, one row per id, the stage in force at the end, and whether the level was then settled.
+/// A timeline from the first clock reading to the last, in seconds. It has the pieces of time in which each stage was
+/// in force, one row per id, the stage in force at the end, and whether the level was then settled.
 #[derive(Drop)]
 pub struct Timeline {
     pub start: u64,

@@ -36,7 +36,8 @@ pub add-requires : goal.add-requires
 add-requires g c = (recount c.self.inside.records c.args.id
     (after_order c.args.ask c.args.now) c.in-Some.slot.now c.note_order.new.self c.args.self.now c.self.inside.counts
     c.of.result c.subtract.new.self c.of-2.result c.self.invariant.0 c.get_mut.ensures.unique
-    (few_kept c.self.inside.records.entries _ c.self.invariant.3.room c.self.inside.children.small) c.self.view_is c.in-Some.ensures.value c.self.invariant.2 c.of.ensures
+    (few_kept c.self.inside.records.entries _ c.self.invariant.3.room c.self.inside.children.small)
+    c.self.view_is c.in-Some.ensures.value c.self.invariant.2 c.of.ensures
     c.subtract.ensures c.note_order.ensures c.of-2.ensures).small
 
 pub invariant_of-self : goal.invariant_of-self
@@ -52,7 +53,8 @@ invariant_of-self g c =
           (after_order c.args.ask c.args.now) c.in-Some.slot.now c.note_order.new.self c.args.self.now
           c.self.inside.counts
           c.of.result c.subtract.new.self c.of-2.result c.self.invariant.0 c.get_mut.ensures.unique
-          (few_kept c.self.inside.records.entries _ c.self.invariant.3.room c.self.inside.children.small) c.self.view_is c.in-Some.ensures.value c.self.invariant.2
+          (few_kept c.self.inside.records.entries _ c.self.invariant.3.room c.self.inside.children.small)
+          c.self.view_is c.in-Some.ensures.value c.self.invariant.2
           c.of.ensures c.subtract.ensures c.note_order.ensures c.of-2.ensures).exact ∙ sym (ap counts_of left.values),
       same_index_at child_of c.args.id (after_order c.args.ask c.args.now) (λ s.
           child-after_order c.args.ask c.args.now s) c.self.inside.children c.self.view_is left.values
@@ -60,8 +62,8 @@ invariant_of-self g c =
       same_index_at termed_of c.args.id (after_order c.args.ask c.args.now) (λ s.
           termed-after_order c.args.ask c.args.now s) c.self.inside.termed c.self.view_is left.values
           c.self.invariant.4,
-      rw left.values (distinct_changed c.args.id (after_order c.args.ask c.args.now) (λ s. id-after_order c.args.ask c.args.now s) c.args.self.now
-          (rw c.self.view_is at c.self.invariant.5)),
+      rw left.values (distinct_changed c.args.id (after_order c.args.ask c.args.now)
+          (λ s. id-after_order c.args.ask c.args.now s) c.args.self.now (rw c.self.view_is at c.self.invariant.5)),
     )
 
 pub returns : goal.returns

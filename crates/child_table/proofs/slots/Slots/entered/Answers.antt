@@ -18,7 +18,8 @@ invariant_of-self g c =
           ∙ sym (ap counts_of left.values),
       same_index child_of after_enter (λ s. refl) c.self.inside.children c.self.view_is left.values c.self.invariant.3,
       same_index termed_of after_enter (λ s. refl) c.self.inside.termed c.self.view_is left.values c.self.invariant.4,
-      rw left.values (distinct_mapped after_enter (λ s. refl) c.args.self.now (rw c.self.view_is at c.self.invariant.5)),
+      rw left.values (distinct_mapped after_enter (λ s. refl) c.args.self.now
+          (rw c.self.view_is at c.self.invariant.5)),
     )
 
 pub returns : goal.returns

@@ -27,8 +27,10 @@ invariant_of-self g c =
       same_index child_of (after_judge c.args.table.now c.args.stage) (λ s. child-after_judge c.args.table.now
           c.args.stage s) c.self.inside.children c.self.view_is left.values c.self.invariant.3,
       subst (λ slots. IsIndex termed_of slots c.index_termed.new.items)
-          (c.as_slice-slots.ensures ∙ c.values.ensures.rest) c.index_termed.ensures,      rw left.values (distinct_mapped (after_judge c.args.table.now c.args.stage)
-          (λ s. id-after_judge c.args.table.now c.args.stage s) c.args.self.now (rw c.self.view_is at c.self.invariant.5)),
+          (c.as_slice-slots.ensures ∙ c.values.ensures.rest) c.index_termed.ensures,
+      rw left.values (distinct_mapped (after_judge c.args.table.now c.args.stage)
+          (λ s. id-after_judge c.args.table.now c.args.stage s) c.args.self.now
+          (rw c.self.view_is at c.self.invariant.5)),
     )
 
 pub returns : goal.returns

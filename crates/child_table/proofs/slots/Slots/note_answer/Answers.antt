@@ -26,7 +26,8 @@ pub add-requires : goal.add-requires
 add-requires g c = (recount c.self.inside.records c.args.id
     (after_answer c.args.answer c.args.now) c.in-Some.slot.now c.note_answer.new.self c.args.self.now
     c.self.inside.counts c.of.result c.subtract.new.self c.of-2.result c.self.invariant.0 c.get_mut.ensures.unique
-    (few_kept c.self.inside.records.entries _ c.self.invariant.3.room c.self.inside.children.small) c.self.view_is c.in-Some.ensures.value c.self.invariant.2 c.of.ensures
+    (few_kept c.self.inside.records.entries _ c.self.invariant.3.room c.self.inside.children.small)
+    c.self.view_is c.in-Some.ensures.value c.self.invariant.2 c.of.ensures
     c.subtract.ensures c.note_answer.ensures c.of-2.ensures).small
 
 pub note-requires-clause-room : goal.note-requires-clause-room
@@ -72,7 +73,8 @@ invariant_of-self g c =
       c.add.ensures ∙ (recount c.self.inside.records c.args.id
           (after_answer c.args.answer c.args.now) c.in-Some.slot.now c.note_answer.new.self c.args.self.now
           c.self.inside.counts c.of.result c.subtract.new.self c.of-2.result c.self.invariant.0 c.get_mut.ensures.unique
-          (few_kept c.self.inside.records.entries _ c.self.invariant.3.room c.self.inside.children.small) c.self.view_is c.in-Some.ensures.value c.self.invariant.2
+          (few_kept c.self.inside.records.entries _ c.self.invariant.3.room c.self.inside.children.small)
+          c.self.view_is c.in-Some.ensures.value c.self.invariant.2
           c.of.ensures c.subtract.ensures c.note_answer.ensures c.of-2.ensures).exact ∙ sym (ap counts_of left.values),
       noted_index child_of own_child c.args.id change c.in-Some.slot.now c.note_answer.new.self c.self.inside.children
           c.child_of-child.result c.self.view_is distinct found c.note_answer.ensures c.child_of-child.ensures
@@ -84,7 +86,8 @@ invariant_of-self g c =
           c.changes_stop.result c.note-2.new.items left.values
           (λ still s. termed-after_answer c.args.answer c.args.now s (sym c.changes_stop.ensures ∙ still))
           c.note-2.ensures.counts c.note-2.ensures.sorted c.note-2.ensures.room c.self.invariant.4,
-      rw left.values (distinct_changed c.args.id change (λ s. id-after_answer c.args.answer c.args.now s) c.args.self.now distinct),
+      rw left.values (distinct_changed c.args.id change (λ s. id-after_answer c.args.answer c.args.now s)
+          c.args.self.now distinct),
     )
 
 pub returns : goal.returns

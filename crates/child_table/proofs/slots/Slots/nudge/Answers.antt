@@ -36,7 +36,8 @@ invariant_of-self g c =
       same_index child_of after_nudge
           (λ s. refl) c.self.inside.children c.self.view_is values c.self.invariant.3,
       same_index termed_of after_nudge
-          (λ s. refl) c.self.inside.termed c.self.view_is values c.self.invariant.4,      rw values (distinct_mapped after_nudge (λ s. refl) c.args.self.now (rw c.self.view_is at c.self.invariant.5)),
+          (λ s. refl) c.self.inside.termed c.self.view_is values c.self.invariant.4,
+      rw values (distinct_mapped after_nudge (λ s. refl) c.args.self.now (rw c.self.view_is at c.self.invariant.5)),
     )
 
 pub returns-then-len : goal.returns-then-len
@@ -55,7 +56,9 @@ invariant_of-self-2 g c =
       same_index child_of after_nudge
           (λ s. refl) c.self.inside.children c.self.view_is left.values c.self.invariant.3,
       same_index termed_of after_nudge
-          (λ s. refl) c.self.inside.termed c.self.view_is left.values c.self.invariant.4,      rw left.values (distinct_mapped after_nudge (λ s. refl) c.args.self.now (rw c.self.view_is at c.self.invariant.5)),
+          (λ s. refl) c.self.inside.termed c.self.view_is left.values c.self.invariant.4,
+      rw left.values (distinct_mapped after_nudge (λ s. refl) c.args.self.now
+          (rw c.self.view_is at c.self.invariant.5)),
     )
 
 pub returns : goal.returns

@@ -13,7 +13,8 @@ add-requires g c =
     c.self.invariant.0 c.self.view_is c.requires.new c.in_ok-insert.ensures.entries in
     (pushed_count c.insert.new.self c.args.slot c.args.self.now c.self.inside.counts c.of-counts.result
     (few_pushed c.args.slot c.args.self.now c.insert.new.self.entries _ left.values
-          (omega (arith, many, c.in_ok-make_room.ensures.room, c.len-records.ensures.len)) c.make_room.new.items.small) left.values
+    (omega (arith, many, c.in_ok-make_room.ensures.room, c.len-records.ensures.len))
+    c.make_room.new.items.small) left.values
     (c.self.invariant.2 ∙ ap counts_of c.self.view_is) c.of-counts.ensures).small
 
 pub put-requires-clause-room : goal.put-requires-clause-room
@@ -42,7 +43,8 @@ invariant_of-self-2 g c =
       left.timely CLOCK_LIMIT c.requires.timely (rw c.self.view_is at c.self.invariant.1),
       c.add.ensures ∙ (pushed_count c.insert.new.self c.args.slot c.args.self.now c.self.inside.counts
           c.of-counts.result (few_pushed c.args.slot c.args.self.now c.insert.new.self.entries _ left.values
-          (omega (arith, many, c.in_ok-make_room.ensures.room, c.len-records.ensures.len)) c.make_room.new.items.small) left.values
+          (omega (arith, many, c.in_ok-make_room.ensures.room, c.len-records.ensures.len))
+          c.make_room.new.items.small) left.values
           (c.self.invariant.2 ∙ ap counts_of c.self.view_is) c.of-counts.ensures).exact
           ∙ sym (ap counts_of left.values),
       pushed_index child_of c.args.slot c.self.inside.children c.make_room.new.items c.put.new.items
@@ -52,7 +54,9 @@ invariant_of-self-2 g c =
       pushed_index termed_of c.args.slot c.self.inside.termed c.make_room-2.new.items c.put-2.new.items
           c.termed_of-termed.result c.self.view_is left.values c.termed_of-termed.ensures c.make_room-2.ensures.items
           (omega (arith, many, c.in_ok-make_room-2.ensures.room, c.len-records.ensures.len)) c.put-2.ensures.counts
-          c.put-2.ensures.sorted c.put-2.ensures.room c.self.invariant.4,      rw left.values (distinct_pushed c.args.slot c.args.self.now c.requires.new (rw c.self.view_is at c.self.invariant.5)),
+          c.put-2.ensures.sorted c.put-2.ensures.room c.self.invariant.4,
+      rw left.values (distinct_pushed c.args.slot c.args.self.now c.requires.new
+          (rw c.self.view_is at c.self.invariant.5)),
     )
 
 pub returns-clause-pushed : goal.returns-clause-pushed

@@ -13,12 +13,14 @@ subtract-requires g c = rw (c.of.ensures, c.self.invariant.2, c.self.view_is)
 
 pub forget-requires-clause-one : goal.forget-requires-clause-one
 forget-requires-clause-one g c = item_before child_of own_child c.args.id c.in-Some.slot c.self.inside.children
-    c.child_of.result c.self.view_is (rw c.self.view_is at c.self.invariant.5) (found_in c.args.id c.in-Some.slot c.self.inside.records.entries
+    c.child_of.result c.self.view_is
+    (rw c.self.view_is at c.self.invariant.5) (found_in c.args.id c.in-Some.slot c.self.inside.records.entries
     c.args.self.now c.self.invariant.0 c.self.view_is c.in-Some.ensures.value) c.child_of.ensures c.self.invariant.3
 
 pub forget-requires-in-Some-clause-one : goal.forget-requires-in-Some-clause-one
 forget-requires-in-Some-clause-one g c = item_before termed_of own_termed c.args.id c.in-Some.slot c.self.inside.termed
-    c.termed_of.result c.self.view_is (rw c.self.view_is at c.self.invariant.5) (found_in c.args.id c.in-Some.slot c.self.inside.records.entries
+    c.termed_of.result c.self.view_is
+    (rw c.self.view_is at c.self.invariant.5) (found_in c.args.id c.in-Some.slot c.self.inside.records.entries
     c.args.self.now c.self.invariant.0 c.self.view_is c.in-Some.ensures.value) c.termed_of.ensures c.self.invariant.4
 
 pub invariant_of-self : goal.invariant_of-self
