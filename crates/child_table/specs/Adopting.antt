@@ -7,8 +7,8 @@ use Rattle.inittab_text.specs.Tables.{entry_of}
 use Rattle.child_table.specs.State.{SlotState, new_record, is_act}
 use Rattle.child_table.specs.Lists.{record_by_id}
 
--- the record of an entry of the new table: it keeps the child of its id, the open order, the stop, and the wait status
--- of the last child; it keeps `asked` if the id had the same action before; it loses calls, starts and holds
+-- the record of an entry of the new table: it keeps the id's child, open order and stop, and the wait status of the
+-- last child; it keeps `asked` if the id had the same action before; it loses calls, starts and holds
 abbrev pub adopted : Entry → Option SlotState → SlotState
 adopted e None = new_record e
 adopted e (Some slot) = record slot {
@@ -19,7 +19,7 @@ adopted e (Some slot) = record slot {
   limiter = unused;
 }
 
--- the record of an id that is not in the new table: it keeps its child, and the wait status of the last child
+-- the record of an id that is not in the new table: the child and its state stay, but calls, starts and holds are lost
 abbrev pub left_over : SlotState → SlotState
 left_over slot = record slot { table_act = None; asked = false; called = false; limiter = unused }
 
@@ -27,7 +27,7 @@ left_over slot = record slot { table_act = None; asked = false; called = false; 
 abbrev pub is_left_over : List Entry → SlotState → Bool
 is_left_over table slot = is_some slot.child && is_none (entry_of slot.id table)
 
--- the record without its entry, if it is kept
+-- the record without its entry, if it stays although its id is not in the new table
 abbrev pub left_one : List Entry → Option SlotState → Option SlotState
 left_one table None = None
 left_one table (Some slot) = if is_left_over table slot then Some (left_over slot) else None

@@ -50,11 +50,11 @@ after_call slot = record slot { called = true }
 abbrev pub after_enter : SlotState → SlotState
 after_enter slot = record slot { asked = false; called = false; limiter = unused }
 
--- the record after a round begins: init may look at its child, and may repeat a signal that missed the child
+-- the record after a round begins: init may look at its child, and may retry a signal that could not be sent
 abbrev pub after_nudge : SlotState → SlotState
 after_nudge slot = record slot { look = is_some slot.child || slot.look; missed = false }
 
--- the stop after the signal of the open order is sent at this time
+-- the progress of stopping the child after the signal of the open order was sent at this time
 abbrev pub after_hit : Option OrderKind → ℕ → Option Stop → Option Stop
 after_hit (Some Term) now stop = Some (Termed now)
 after_hit (Some Kill) now stop = Some (Killed now)
@@ -80,7 +80,7 @@ after_answer Hit now slot = record slot { order = None; stop = after_hit slot.or
 after_answer Miss now slot = record slot { order = None; missed = true }
 after_answer _ now slot = record slot { order = None }
 
--- the answer ends the record: its child ended, and the table does not have the id
+-- the answer removes the record: its child ended, and the table does not have the id
 abbrev pub is_over : Answer → SlotState → Bool
 is_over (Ended status) slot = is_none slot.table_act
 is_over _ slot = false

@@ -1,5 +1,5 @@
--- How many records have an open order, an open start or signal, a child to stop, a child to stop that was sent no
--- signal yet, and a child that the last signal missed.
+-- Counts of the records that have an open order, that have an open start or signal, whose child must be stopped, whose
+-- child must be stopped and was not sent a signal yet, and whose child could not be sent the last signal.
 use Rattle.std.specs.Prelude.{◌≤◌, ◌<◌, ◌+◌, ◌-◌, ◌^◌, List, is_some}
 use Rattle.std.specs.List.{count_by}
 use Rattle.child_table.specs.declared.counts.Counts.{Counts}
@@ -36,7 +36,7 @@ minus counts less = record {
   missed = counts.missed - less.missed;
 }
 
--- each count is at most the other one
+-- each count in `less` is at most the same count in `counts`
 abbrev pub IsWithin : Counts → Counts → Type 0
 IsWithin less counts = (less.orders ≤ counts.orders) × (less.busy ≤ counts.busy)
     × (less.excluded ≤ counts.excluded) × (less.due ≤ counts.due) × (less.missed ≤ counts.missed)

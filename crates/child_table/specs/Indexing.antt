@@ -20,12 +20,12 @@ use Rattle.child_table.specs.Changes.{after_nudge}
 abbrev pub child_of : SlotState → Option Keyed
 child_of slot = option_map (λ (child : KnownChild). record { key = child.number; id = slot.id }) slot.child
 
--- the index item of a SIGTERM, if that was the last signal: the key is the time at which it was sent
+-- the index item for a stop whose last signal was SIGTERM: the key is the time at which SIGTERM was sent
 abbrev pub termed_at : List ℕ → Option Stop → Option Keyed
 termed_at id (Some (Termed time)) = Some (record { key = time; id = id })
 termed_at id _ = None
 
--- the index item of the SIGTERM sent to a record's child, if that was the last signal
+-- the index item for a record whose child was last sent SIGTERM: the key is the time at which it was sent
 abbrev pub termed_of : SlotState → Option Keyed
 termed_of slot = termed_at slot.id slot.stop
 
@@ -38,7 +38,8 @@ abbrev pub are_sorted : List Keyed → Bool
 are_sorted [] = true
 are_sorted (c ∷ cs) = not (list_any (λ (d : Keyed). nat_lt d.key c.key) cs) && are_sorted cs
 
--- the list has exactly the items of the records, in any order: every test passes equally many of each
+-- the list has exactly the items of the records, in any order: for every test, as many items of the list pass it as
+-- items of the records
 abbrev pub AreKeysOf : (SlotState → Option Keyed) → List SlotState → List Keyed → Type 0
 AreKeysOf key_of slots cs = (test : Keyed → Bool) → count_by test cs ≡ count_by test (keys_of key_of slots)
 
@@ -62,7 +63,7 @@ abbrev pub passes : (Keyed → Bool) → Option Keyed → ℕ
 passes test None = 0
 passes test (Some c) = if test c then 1 else 0
 
--- the items, except those of an id
+-- the items, without those for the id
 abbrev pub without_id : List ℕ → List Keyed → List Keyed
 without_id id cs = filter (λ (c : Keyed). not (same_id id c.id)) cs
 

@@ -16,12 +16,13 @@ abbrev pub is_excluded : Stage → Option Act → Option Entry → Bool
 is_excluded stage born None = true
 is_excluded stage born (Some e) = not (is_act e.act born && lives_of e stage)
 
--- an excluded child must be stopped, unless that has already begun; a child that is not excluded is no longer stopped
+-- the record after its child is judged: an excluded child must now be stopped, unless stopping it has already begun; a
+-- child that is not excluded is no longer stopped
 abbrev pub judged : Bool → SlotState → SlotState
 judged true slot = record slot { stop = option_or slot.stop (Some Due) }
 judged false slot = record slot { stop = None; missed = false }
 
--- the record after its child, if it has one, is judged by this table and stage
+-- the record after this table and stage decide whether its child, if it has one, is excluded
 abbrev pub judged_child : Stage → List Entry → Option KnownChild → SlotState → SlotState
 judged_child stage table None slot = slot
 judged_child stage table (Some child) slot =

@@ -1,4 +1,4 @@
--- The list of records, one per id, in record order: how to find or change one, and how an answer changes the list.
+-- The list of records, one per id, in record order: how to find or change a record, and how an answer changes the list.
 use Rattle.std.specs.Prelude.{ℕ, Bool, true, false, not, ◌&&◌, ◌==◌, if◌then◌else◌, List, [], ◌∷◌, map, filter, find}
 use Rattle.std.specs.Prelude.{Option, Some, None, is_some, Result, Ok, Err}
 use Rattle.std.specs.List.{list_any}
@@ -72,33 +72,33 @@ is_busy (Some ask) = not (same_ask Look ask)
 abbrev pub is_quiet : List SlotState → Bool
 is_quiet slots = not (list_any (λ (slot : SlotState). is_busy slot.order) slots)
 
--- the record, changed if it has this id
+-- the record after the change if it has this id, otherwise unchanged
 abbrev pub changed : List ℕ → (SlotState → SlotState) → SlotState → SlotState
 changed id change slot = if is_record_of id slot then change slot else slot
 
--- the records, after a change to the record of the id
+-- the records after a change to the id's record
 abbrev pub with_changed : List ℕ → (SlotState → SlotState) → List SlotState → List SlotState
 with_changed id change slots = map (changed id change) slots
 
--- the records, except the record of the id
+-- the records without the id's record
 abbrev pub without : List ℕ → List SlotState → List SlotState
 without id slots = filter (λ (slot : SlotState). not (is_record_of id slot)) slots
 
--- whether an answer is accepted, given the open order: there must be one, and the answer must be for its kind
+-- whether an answer is accepted: an order must be open, and the answer must fit an order of its kind
 abbrev pub refusal_of : Option OrderKind → Answer → Result (Unit {0}) Refusal
 refusal_of None answer = Err NotAsked
 refusal_of (Some ask) answer = if answers answer ask then Ok tt else Err WrongAnswer
 
--- the answer ends the record
+-- there is a record, and the answer removes it
 abbrev pub ends_record : Answer → Option SlotState → Bool
 ends_record answer None = false
 ends_record answer (Some slot) = is_over answer slot
 
--- the answer ends the record of the id
+-- the answer removes the id's record
 abbrev pub is_over_in : List ℕ → Answer → List SlotState → Bool
 is_over_in id answer slots = ends_record answer (record_by_id id slots)
 
--- the records after an answer for an id at this time: the answer removes the record if it ends it, or else changes it
+-- the records after an answer for the id at this time: the answer removes the id's record or changes it
 abbrev pub after_answer_to : List ℕ → Answer → ℕ → List SlotState → List SlotState
 after_answer_to id answer now slots =
     if is_over_in id answer slots then without id slots else with_changed id (after_answer answer now) slots

@@ -10,10 +10,10 @@ use Rattle.respawn_limit.specs.State.{LimiterState, unused}
 use Rattle.child_table.specs.declared.children.KnownChild.{KnownChild}
 use Rattle.child_table.specs.declared.children.Stop.{Stop}
 
--- the id, and its action if the table has the id; the child, the unanswered order, and the progress of stopping the
--- child; whether a start was ordered since the stage was entered or the entry was read, whether the entry is called,
--- whether a look at the child is due, and whether a signal missed the child; the last starts and the last hold; and the
--- wait status of the last child
+-- the id, and its action if the table has the id; the child, its open order, and the progress of stopping it; whether a
+-- start was ordered since the stage was entered and the entry was added or changed, whether the entry is called,
+-- whether a look at the child is due, and whether a signal to the child failed; the last starts and the last hold; and
+-- the wait status of the last child
 pub record SlotState : Type 0 where
   pub id : List ℕ
   pub table_act : Option Act

@@ -42,7 +42,7 @@ wished_step stage c =
 abbrev pub wish_step : Stage → CoreState → Option Step
 wish_step stage c = if is_quiet c.slots then wished_step stage c else None
 
--- power events or letters are pending, and the stage is a runlevel
+-- power events or letters are pending, and count as pending requests because the stage is a runlevel
 abbrev pub counts_news : Stage → CoreState → Bool
 counts_news stage c = in_run (Some stage) && has_news c.fields.pending
 
@@ -56,13 +56,13 @@ signal_step grace now id (Some Due) = Some (Order id Term)
 signal_step grace now id (Some (Termed time)) = if nat_le (time + grace) now then Some (Order id Kill) else None
 signal_step grace now id _ = None
 
--- the signal due to the record's child, if no order is open and the last signal did not miss the child
+-- the signal due to the record's child, if no order is open and the last signal to it did not fail
 abbrev pub stop_step : ℕ → ℕ → SlotState → Option Step
 stop_step grace now slot =
     if is_some slot.child && is_none slot.order && not slot.missed then signal_step grace now slot.id slot.stop
     else None
 
--- the first signal in record order
+-- the first signal that is due, in record order
 abbrev pub stop_among : ℕ → ℕ → List SlotState → Option Step
 stop_among grace now [] = None
 stop_among grace now (slot ∷ slots) = or_else (stop_step grace now slot) (stop_among grace now slots)
@@ -162,7 +162,7 @@ settle_step _ announced now table slots = None
 abbrev pub can_look_record : SlotState → Bool
 can_look_record slot = is_some slot.child && is_none slot.order && slot.look
 
--- the first look in record order
+-- the first look that is due, in record order
 abbrev pub look_among : List SlotState → Option Step
 look_among [] = None
 look_among (slot ∷ slots) = if can_look_record slot then Some (Order slot.id Look) else look_among slots
@@ -174,7 +174,7 @@ calm_step stage c =
     (or_else (stage_step stage c.fields.goal c.table c.slots)
     (settle_step stage c.fields.announced c.fields.time c.table c.slots))
 
--- if no request is pending: a signal, or, if no child is excluded, the step above
+-- if no request is pending: a signal, or, if no child is excluded, a start, a hold, the next stage or an announcement
 abbrev pub work_step : Stage → CoreState → Option Step
 work_step stage c =
     if stands stage c then None
@@ -185,7 +185,7 @@ work_step stage c =
 abbrev pub first_step : CoreState → Option Step
 first_step c = if is_quiet c.slots then Some (Enter stage.Sysinit c.fields.goal.grace) else None
 
--- the step in this stage: for a pending request, otherwise work, otherwise a look, otherwise Idle
+-- the step in this stage: for a pending request, otherwise a work step, otherwise a look, otherwise Idle
 abbrev pub decide_in : Option Stage → CoreState → Step
 decide_in None c = or_idle (first_step c)
 decide_in (Some stage) c = or_idle (or_else (wish_step stage c) (or_else (work_step stage c) (look_among c.slots)))
@@ -198,7 +198,8 @@ decide c = decide_in c.fields.stage c
 abbrev pub is_busy_record : ℕ → SlotState → Bool
 is_busy_record now slot = is_some slot.child || is_some slot.order || is_held slot.limiter.held now
 
--- init is drained: it is in a runlevel that was announced settled, no request is pending, and no record is busy
+-- init is drained: it is in a runlevel and has announced that the level is settled, no request is pending, and no
+-- record is busy
 abbrev pub is_drained_in : Option Stage → CoreState → Bool
 is_drained_in (Some (stage.Run level)) c =
     c.fields.announced && not (stands (stage.Run level) c) && not (list_any (is_busy_record c.fields.time) c.slots)

@@ -34,21 +34,22 @@ living child = record { number = child.number; act = child.act }
 abbrev pub known_child : List ℕ → List Event → Option KnownChild
 known_child id past = option_map living (child_known id past)
 
--- the progress of stopping an excluded child, given the signals told since it became excluded, newest first
+-- the progress of stopping an excluded child, given the signals that init learned of since the child became excluded,
+-- newest first
 abbrev pub stop_after : List Signal → Stop
 stop_after [] = Due
 stop_after (signal ∷ earlier) = if is_order Kill signal.order then Killed signal.time else Termed signal.time
 
--- the stop of a child: none if it is not excluded
+-- the progress of stopping a child; none if it is not excluded
 abbrev pub stop_of_child : List Event → Child → Option Stop
 stop_of_child past child = if is_excluded past child then Some (stop_after (spell_hits child past)) else None
 
--- the stop of the child, if there is one
+-- the progress of stopping the child, if there is one
 abbrev pub stop_known : List Event → Option Child → Option Stop
 stop_known past None = None
 stop_known past (Some child) = stop_of_child past child
 
--- the stop of the known child of an id
+-- the progress of stopping the known child of an id
 abbrev pub stop_of : List ℕ → List Event → Option Stop
 stop_of id past = stop_known past (child_known id past)
 
@@ -56,11 +57,12 @@ stop_of id past = stop_known past (child_known id past)
 abbrev pub is_to_look : List ℕ → List Event → Bool
 is_to_look id past = has_child id (known_children past) && wants_look id past
 
--- a signal missed the known child of the id since it became excluded, and no round has begun since that signal
+-- a signal to the known child of the id failed since the child became excluded, and no round has begun since that
+-- signal
 abbrev pub was_missed : List ℕ → List Event → Bool
 was_missed id past = option_map_or (λ child. is_missed child past) (child_known id past) false
 
--- the end of the latest of these holds, given newest first
+-- the end of the latest hold, given the times at which the holds began, newest first
 abbrev pub last_hold_end : List ℕ → Option ℕ
 last_hold_end [] = None
 last_hold_end (began ∷ earlier) = Some (began + HOLD)
@@ -83,7 +85,7 @@ asked_of id past = option_map_or (λ (e : Entry). is_asked e.id past) (entry_of 
 abbrev pub called_of : List ℕ → List Event → Bool
 called_of id past = option_map_or (λ e. is_called e past) (entry_of id (table_of past)) false
 
--- the limiter of the entry of the id; unused if it has none
+-- the limiter of the id's entry; unused if the id has no entry
 abbrev pub limits_of : List ℕ → List Event → LimiterState
 limits_of id past = option_map_or (λ e. limiter_of e past) (entry_of id (table_of past)) unused
 
@@ -91,12 +93,12 @@ limits_of id past = option_map_or (λ e. limiter_of e past) (entry_of id (table_
 abbrev pub LastStatuses : Type 0
 LastStatuses = List ℕ → Option Status
 
--- the last status of an id after an answer for it, if there is one: the end of a child sets the status
+-- the last status of an id after the answer for it, if there is one: only the end of a child changes the status
 abbrev pub last_status_after : Option Answer → Option Status → Option Status
 last_status_after (Some (Ended status)) before = Some status
 last_status_after _ before = before
 
--- the last statuses after a happening: a Told may set one, and a new table keeps those of ids that had a record
+-- the last statuses after a happening: a Told may set one, and a new table keeps the statuses of ids that had a record
 abbrev pub last_statuses_after : Event → List Event → LastStatuses → LastStatuses
 last_statuses_after (happened.NewTable table) past lasts =
     λ id. if list_any (same_id id) (record_ids past) then lasts id else None
@@ -179,7 +181,7 @@ FitsWithLastStatuses core opening past = Fits core opening past × HasLastStatus
 abbrev pub FitsExtendedTrace : CoreState → CoreState → Goal → List Event → List Event → Type 0
 FitsExtendedTrace old new goal past next = Fits new goal next × (HasLastStatuses old past → HasLastStatuses new next)
 
--- the trace with the happening of a step; reading inittab, a re-execution and Idle add none
+-- the trace after a step: the step adds its happening, except that reading inittab, a re-execution and Idle add none
 abbrev pub with_step : Step → List Event → List Event
 with_step (step.Enter stage grace) past = happened.Enter stage grace ∷ past
 with_step (step.Call letter) past = happened.Call letter ∷ past

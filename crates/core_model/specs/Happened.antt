@@ -25,7 +25,7 @@ AllMayLive past =
     → past ≡ since ++ Birth id number ∷ before → list_any (is_reaping_of id number) since ≡ false
     → MayLive id before past
 
--- this stretch of the trace enters no stage and has no table that brings in the id's entry
+-- in this stretch of the trace, no stage is entered and no table adds or changes the id's entry
 abbrev pub leaves_entry_unchanged : List ℕ → List Event → List Event → Bool
 leaves_entry_unchanged id [] before = true
 leaves_entry_unchanged id (Enter stage grace ∷ stretch) before = false
@@ -38,7 +38,7 @@ abbrev pub is_told_of : List ℕ → Event → Bool
 is_told_of id (Told i) = same_id id i
 is_told_of id _ = false
 
--- a Start of the id was ordered since the stage was entered and the entry was read, and init was told the outcome
+-- a Start of the id was ordered since the stage was entered and the entry was read, and init learned of the outcome
 pub record WasStarted (id : List ℕ) (past : List Event) : Type 0 where
   pub since : List Event
   pub before : List Event
@@ -53,22 +53,22 @@ pub record WasEnded (id : List ℕ) (number : ℕ) (since : List Event) : Type 0
   pub told : since ≡ later ++ Told id ∷ between
   pub reaped : IsTrue (list_any (is_reaping_of id number) between)
 
--- the waited actions whose entries start when a stage is entered, without being called
+-- init waits for entries with this action, and they start when a stage is entered, without being called
 abbrev pub starts_at_entry : Act → Bool
 starts_at_entry act.Sysinit = true
 starts_at_entry act.Bootwait = true
 starts_at_entry act.Wait = true
 starts_at_entry _ = false
 
--- the entry is through: each of its children has ended; and if its action starts on entering a stage and the entry
--- starts in the stage in force, it was started
+-- the entry is done: each of its children has ended; and if its action starts on entering a stage and the entry starts
+-- in the stage in force, it was started
 pub record IsEntryDone (e : Entry) (past : List Event) : Type 0 where
   pub ended : (number : ℕ) (since before : List Event)
       → past ≡ since ++ Birth e.id number ∷ before → WasEnded e.id number since
   pub started : (stage : Stage) → stage_of past ≡ Some stage → IsTrue (starts_of e stage)
       → IsTrue (starts_at_entry e.act) → WasStarted e.id past
 
--- each waited entry of the table in force before the first one of the id is through
+-- each entry that init waits for and that precedes the id's first entry in the table in force is done
 abbrev pub AllEarlierDone : List ℕ → List Event → Type 0
 AllEarlierDone id past =
     (front rest : List Entry) (e : Entry)
@@ -83,7 +83,7 @@ pub record HasChild (id : List ℕ) (past : List Event) : Type 0 where
   pub born : past ≡ since ++ Birth id number ∷ before
   pub unreaped : list_any (is_reaping_of id number) since ≡ false
 
--- the id was held less than five minutes ago, and no stage was entered and no table read since then
+-- a hold of the id began less than five minutes ago, and no stage was entered and no table was read since then
 pub record WasHeld (id : List ℕ) (past : List Event) : Type 0 where
   pub since : List Event
   pub before : List Event
@@ -99,8 +99,8 @@ IsServed act.Once id past = WasStarted id past
 IsServed act.Respawn id past = HasChild id past ⊎ WasHeld id past
 IsServed _ id past = ⊤
 
--- the level is reached: it is the stage in force, each child may live in it, each waited entry is through, and each
--- entry that starts in the level meets the condition for its action
+-- the level is reached: it is the stage in force, each child may live in it, each entry that init waits for is done,
+-- and each entry that starts in the level meets the condition for its action
 pub record IsReached (level : Level) (past : List Event) : Type 0 where
   pub entered : stage_of past ≡ Some (Run level)
   pub living : AllMayLive past

@@ -1,4 +1,4 @@
--- The state of init as plain values, as written in its state text (telinit(8), `u`).
+-- The state of init as plain values, in the form in which it is saved (telinit(8), `u`).
 use Rattle.std.specs.Prelude.{List, map}
 use Rattle.core_model.specs.Words.{Entry, SlotState, child_number, birth_act}
 use Rattle.core_model.specs.declared.parts.CoreFields.{CoreFields}

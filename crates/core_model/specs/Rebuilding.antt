@@ -13,7 +13,7 @@ abbrev pub living_of : Option ℕ → Option Act → Option KnownChild
 living_of None act = None
 living_of (Some number) act = Some (record { number = number; act = act })
 
--- the record with these plain values; the action is the table's action for its id
+-- the record with these plain values; `act` is the table's action for its id
 abbrev pub record_from : Option Act → PlainSlot → SlotState
 record_from act r = record {
   id = r.id;

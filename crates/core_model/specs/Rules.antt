@@ -1,5 +1,5 @@
 -- The rules that the state of init always obeys (init(8), telinit(8)). Init never reaches a state that breaks one of
--- them, and a state text that breaks one is rejected.
+-- them, and a saved state that breaks one is rejected.
 use Rattle.std.specs.Prelude.{◌≡◌, ℕ, Bool, true, false, not, ◌&&◌, ◌||◌, ◌==◌, ◌+◌, if◌then◌else◌, List, [], ◌∷◌}
 use Rattle.std.specs.Prelude.{length, zip, nat_le, Option, Some, None, is_some, is_none}
 use Rattle.std.specs.List.{list_all, list_any}
@@ -25,7 +25,7 @@ abbrev pub is_birth_known : Option KnownChild → Bool
 is_birth_known None = true
 is_birth_known (Some child) = is_some child.act
 
--- the signal may be open at this point of stopping the child: TERM if no signal was sent, KILL after TERM
+-- the signal may be open at this point in stopping the child: TERM if no signal was sent, KILL after TERM
 abbrev pub may_follow : OrderKind → Option Stop → Bool
 may_follow Term (Some Due) = true
 may_follow Kill (Some (Termed time)) = true
@@ -71,7 +71,7 @@ are_starts_in (Some stage) table slots = are_starts_along stage (zip table slots
 abbrev pub are_starts_free : List SlotState → Bool
 are_starts_free slots = are_unstarted slots || not (has_excluded slots)
 
--- a child born with this action is excluded in the stage in force; before the first stage every child is
+-- a child born with this action is excluded in the stage in force; before the first stage, every child is excluded
 abbrev pub is_excluded_in : Option Stage → Option Act → Option Entry → Bool
 is_excluded_in None born found = true
 is_excluded_in (Some stage) born found = is_excluded stage born found
@@ -109,12 +109,13 @@ abbrev pub is_non_decreasing : List ℕ → Bool
 is_non_decreasing [] = true
 is_non_decreasing (time ∷ times) = list_all (λ later. nat_le time later) times && is_non_decreasing times
 
--- a hold ends at most five minutes from now, and the limiter has ten starts
+-- a hold ends at most five minutes from now, and its limiter has ten starts; there may be no hold
 abbrev pub is_hold_of : ℕ → LimiterState → Option ℕ → Bool
 is_hold_of now limiter None = true
 is_hold_of now limiter (Some end) = (length limiter.starts == STARTS) && nat_le end (now + HOLD)
 
--- the limiter has at most ten starts, whose times do not decrease, and its hold, if any, follows the rule above
+-- the limiter has at most ten starts, whose times do not decrease, and if it has a hold, the hold ends at most five
+-- minutes from now and the limiter has ten starts
 abbrev pub is_limit_kept : ℕ → LimiterState → Bool
 is_limit_kept now limiter = nat_le (length limiter.starts) STARTS && is_non_decreasing limiter.starts
     && is_hold_of now limiter limiter.held
@@ -123,7 +124,8 @@ is_limit_kept now limiter = nat_le (length limiter.starts) STARTS && is_non_decr
 abbrev pub is_unused : LimiterState → Bool
 is_unused limiter = length limiter.starts == 0 && is_none limiter.held
 
--- the limiter is as above if the respawn limit applies to the entry, and otherwise unused
+-- the limiter obeys its rules (`is_limit_kept`) if the respawn limit applies to the record's entry, and is otherwise
+-- unused
 abbrev pub is_limiter_consistent : ℕ → SlotState → Bool
 is_limiter_consistent now slot =
     if is_limited_record slot then is_limit_kept now slot.limiter else is_unused slot.limiter
@@ -134,7 +136,7 @@ is_level_wish_valid stage None = true
 is_level_wish_valid (Some (stage.Run level)) (Some wish) = not (same_level wish.level level)
 is_level_wish_valid _ (Some wish) = false
 
--- in a runlevel, the goal is this level; in Boot, Boot was entered; in Sysinit and before it, Boot was not entered
+-- in a runlevel, the goal is this level; in Boot, `booted` is set; in Sysinit and before it, `booted` is not set
 abbrev pub is_goal_reached : Option Stage → Goal → Bool → Bool
 is_goal_reached (Some (stage.Run level)) goal booted = same_level goal.level level
 is_goal_reached (Some stage.Boot) goal booted = booted
@@ -147,7 +149,7 @@ do_fields_obey fields = nat_le fields.time CLOCK_LIMIT && is_level_wish_valid fi
     && (not fields.announced || in_run fields.stage) && is_goal_reached fields.stage fields.goal fields.booted
 
 -- the rules for each record: it has an entry or a child, the action of its child is known, its open order is allowed,
--- its stop, flags and limiter are as above, and no start or signal in it is later than now
+-- its stop, flags and limiter are consistent, and no start or signal in it is later than now
 abbrev pub does_record_obey : Option Stage → List Entry → ℕ → SlotState → Bool
 does_record_obey stage table now slot = has_cause slot && is_birth_known slot.child && is_order_allowed slot
     && is_stop_judged stage table slot && are_marks_consistent slot && is_limiter_consistent now slot

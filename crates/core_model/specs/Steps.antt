@@ -19,7 +19,7 @@ abbrev pub is_boot : Stage → Bool
 is_boot stage.Boot = true
 is_boot _ = false
 
--- the goal after init enters a stage: the requested level, if there is one, becomes the goal
+-- the goal after init enters a stage: the requested level if there is one, otherwise unchanged
 abbrev pub wished : Option Goal → Goal → Goal
 wished None goal = goal
 wished (Some wish) goal = wish
@@ -103,7 +103,7 @@ fields_after_request (got.Nothing cause) fields = fields
 abbrev pub after_got : HeardRequest → CoreState → CoreState
 after_got request c = record c { fields = fields_after_request request c.fields }
 
--- the records after their children are judged by the stage, if there is one
+-- the records after the stage, if there is one, decides which of their children are excluded
 abbrev pub judged_in : Option Stage → List Entry → List SlotState → List SlotState
 judged_in None table slots = slots
 judged_in (Some stage) table slots = map (after_judge table stage) slots

@@ -100,7 +100,7 @@ ignores_levels act.Boot = true
 ignores_levels act.Bootwait = true
 ignores_levels _ = false
 
--- the characters that an empty runlevels field means for this action
+-- the runlevels of an entry with this action if its runlevels field is empty, as characters
 abbrev pub default_levels : Act → List ℕ
 default_levels act.Powerwait = codes "S0123456789"
 default_levels act.Powerfail = codes "S0123456789"
@@ -142,8 +142,8 @@ stays_called act.Ondemand = true
 stays_called _ = false
 
 -- an entry that starts in the stage is to be started now: a respawn entry if it has no child and none is being started
--- (idle), an entry of boot or of a level if its start was not ordered yet (fresh), an entry for a power event if it
--- was called, and an ondemand entry if it was called and is idle
+-- (`idle`); a sysinit, boot, bootwait, wait or once entry if its start was not ordered yet (`fresh`); an entry for a
+-- power event if it was called (`called`); and an ondemand entry if it was called and is idle
 abbrev pub wanted_by : Act → Bool → Bool → Bool → Bool
 wanted_by act.Respawn idle fresh called = idle
 wanted_by act.Sysinit idle fresh called = fresh
@@ -164,8 +164,8 @@ is_limited act.Respawn = true
 is_limited act.Ondemand = true
 is_limited _ = false
 
--- an entry no longer prevents its level from being settled: a wait or once entry once its start was ordered (asked), a
--- respawn entry while it has a child or is held (kept_up), and any other entry always
+-- an entry no longer keeps its level from being settled: a wait or once entry once its start was ordered (`asked`), a
+-- respawn entry while it has a child or is held (`kept_up`), and any other entry always
 abbrev pub served_by : Act → Bool → Bool → Bool
 served_by act.Wait asked kept_up = asked
 served_by act.Once asked kept_up = asked

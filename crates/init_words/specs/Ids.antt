@@ -9,13 +9,13 @@ use Rattle.std.specs.Cmp.Lexicographic.{pointwise}
 abbrev pub is_id_byte : ℕ → Bool
 is_id_byte byte = nat_le 33 byte && nat_le byte 126 && not (byte == 58)
 
--- 1 to ID_LIMIT bytes that an id can have, the first of which is not '#'
+-- the text is an id: 1 to ID_LIMIT bytes, all of them allowed in an id, and the first not '#'
 abbrev pub is_id : List ℕ → Bool
 is_id text =
     nat_le 1 (length text) && nat_le (length text) ID_LIMIT && not (slice_index text 0 == 35)
     && list_all is_id_byte text
 
--- a text, if it is an id
+-- the text itself if it is an id, otherwise none
 abbrev pub id_read : List ℕ → Option (List ℕ)
 id_read text = if is_id text then Some text else None
 

@@ -1,4 +1,4 @@
--- Runlevels, the letters of ondemand entries, and the characters of both (init(8), inittab(5)).
+-- Runlevels, the letters that call ondemand entries, and the characters for both (init(8), inittab(5)).
 use Rattle.std.specs.Prelude.{ℕ, Bool, false, if◌then◌else◌, Option, Some, None, ◌==◌, List}
 use Rattle.std.specs.Option.{option_map}
 use Rattle.std.specs.List.{list_any}
@@ -9,7 +9,7 @@ use Rattle.init_words.specs.declared.levels.Letter.TheVariants.{A, B, C}
 use Rattle.init_words.specs.declared.levels.Mark.{Mark}
 use Rattle.init_words.specs.declared.levels.Mark.TheVariants.{At, OnCall}
 
--- the character of a level
+-- the character code of the level
 abbrev pub level_code : Level → ℕ
 level_code L0 = 48
 level_code L1 = 49
@@ -26,7 +26,7 @@ level_code S = 83
 abbrev pub same_level : Level → Level → Bool
 same_level k l = level_code k == level_code l
 
--- the level of a character, with S in either case; none for any other character
+-- the level that the character names, with S in either case; none if it names no level
 abbrev pub level_read : ℕ → Option Level
 level_read code =
     if code == 48 then Some L0 else if code == 49 then Some L1 else if code == 50 then Some L2
@@ -34,7 +34,7 @@ level_read code =
     else if code == 54 then Some L6 else if code == 55 then Some L7 else if code == 56 then Some L8
     else if code == 57 then Some L9 else if code == 83 then Some S else if code == 115 then Some S else None
 
--- the character of a letter, a capital
+-- the character code of the letter, as a capital
 abbrev pub letter_code : Letter → ℕ
 letter_code A = 65
 letter_code B = 66
@@ -43,13 +43,13 @@ letter_code C = 67
 abbrev pub same_letter : Letter → Letter → Bool
 same_letter k l = letter_code k == letter_code l
 
--- the letter of a character, in either case; none for any other character
+-- the letter A, B or C that the character is, in either case; none for any other character
 abbrev pub letter_read : ℕ → Option Letter
 letter_read code =
     if code == 65 then Some A else if code == 97 then Some A else if code == 66 then Some B
     else if code == 98 then Some B else if code == 67 then Some C else if code == 99 then Some C else None
 
--- the character of a mark; letters are capitals
+-- the character code of the level or letter; letters are capitals
 abbrev pub mark_code : Mark → ℕ
 mark_code (At level) = level_code level
 mark_code (OnCall letter) = letter_code letter
@@ -64,10 +64,10 @@ abbrev pub mark_of : Option Level → Option Letter → Option Mark
 mark_of (Some level) letter = Some (At level)
 mark_of None letter = option_map OnCall letter
 
--- the mark of a character: a level or a letter, in either case; none for any other character
+-- the level or letter that the character names, in either case; none for any other character
 abbrev pub mark_read : ℕ → Option Mark
 mark_read code = mark_of (level_read code) (letter_read code)
 
--- the marks of a runlevels field include this one
+-- the mark is one of the marks in the list
 abbrev pub names : Mark → List Mark → Bool
 names mark marks = list_any (same_mark mark) marks

@@ -1,4 +1,4 @@
--- Orders, stages, power events and answers: equality tests, and which orders an answer may answer.
+-- Equality tests for orders, stages, power events and answers, and which kinds of order each answer fits.
 use Rattle.std.specs.Prelude.{Bool, true, false}
 use Rattle.init_words.specs.declared.orders.OrderKind.{OrderKind}
 use Rattle.init_words.specs.declared.orders.OrderKind.TheVariants.{Start, Look, Term, Kill}

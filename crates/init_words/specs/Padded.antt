@@ -2,7 +2,7 @@
 use Rattle.std.proofs.Common.{◌≡◌, ◌≤◌, ◌-◌, ◌++◌, ℕ, List, length, take, drop, replicate, arith, length-take-le}
 use Rattle.std.proofs.Common.{take-append-drop}
 
--- if all items after the first n are blanks, the array is the first n items with their padding
+-- if every item after the first n is a blank, the array equals its first n items followed by padding
 pub take-padded : {X : Type 0} (room : ℕ) (blank : X) (n : ℕ) (xs : List X) → n ≤ room → length xs ≡ room
     → drop n xs ≡ replicate (room - n) blank → take n xs ++ replicate (room - length (take n xs)) blank ≡ xs
 take-padded room blank n xs small long rest =

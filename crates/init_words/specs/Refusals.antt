@@ -1,4 +1,4 @@
--- The message for each reason for which the core rejects a call.
+-- The message for each reason why the core rejects a call.
 use Rattle.std.specs.Prelude.{ℕ, List, codes}
 use Rattle.init_words.specs.declared.refusals.Refusal.{Refusal}
 use Rattle.init_words.specs.declared.refusals.Refusal.TheVariants.{NotAsked, WrongAnswer, NotQuiet, Memory}

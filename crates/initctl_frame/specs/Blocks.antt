@@ -4,7 +4,7 @@ use Rattle.initctl_frame.specs.declared.frames.TheConstants.{BLOCK, FRONT}
 use Rattle.initctl_frame.specs.declared.requests.HeardRequest.{HeardRequest}
 use Rattle.initctl_frame.specs.Frames.{heard_of}
 
--- the first n parts of this size
+-- the first n parts of the byte list, each of this size
 abbrev pub parts : ℕ → ℕ → List ℕ → List (List ℕ)
 parts size zero bytes = []
 parts size (suc n) bytes = take size bytes ∷ parts size n (drop size bytes)

@@ -23,7 +23,7 @@ abbrev pub seconds_of : ℤ → ℕ
 seconds_of (pos seconds) = min seconds GRACE_LIMIT
 seconds_of (negsuc below) = 0
 
--- the request of a runlevel int: the int is the code of a character; a negative int is ignored
+-- the request that the runlevel int encodes, as the code of a character; a negative int is ignored
 abbrev pub heard_of_runlevel : ℤ → ℕ → HeardRequest
 heard_of_runlevel (pos code) seconds = heard_of_sign code seconds
 heard_of_runlevel (negsuc below) seconds = got.Nothing Character
@@ -32,7 +32,7 @@ heard_of_runlevel (negsuc below) seconds = got.Nothing Character
 abbrev pub is_left_out : ℤ → Bool
 is_left_out command = list_any (int_eq command) (pos 0 ∷ pos 5 ∷ pos 6 ∷ pos 7 ∷ pos 12345 ∷ [])
 
--- the request of a command: RUNLVL is 1, POWERFAIL 2, POWERFAILNOW 3 and POWEROK 4; all others are ignored
+-- the request that the command encodes: RUNLVL is 1, POWERFAIL 2, POWERFAILNOW 3 and POWEROK 4; all others are ignored
 abbrev pub heard_of_command : ℤ → ℤ → ℤ → HeardRequest
 heard_of_command command runlevel sleeptime =
     if int_eq command (pos 1) then heard_of_runlevel runlevel (seconds_of sleeptime)
@@ -41,16 +41,16 @@ heard_of_command command runlevel sleeptime =
     else if int_eq command (pos 4) then got.Power power.Ok
     else if is_left_out command then got.Nothing LeftOut else got.Nothing Unknown
 
--- the request of the four ints; it is ignored unless the first is the magic number
+-- the request that the four ints encode; it is ignored unless the first int is the magic number
 abbrev pub heard_of_ints : ℤ → ℤ → ℤ → ℤ → HeardRequest
 heard_of_ints magic command runlevel sleeptime =
     if int_eq magic (pos 0x03091969) then heard_of_command command runlevel sleeptime else got.Nothing Magic
 
--- the request of a block, which depends on its four ints alone
+-- the request that the block encodes, which depends only on its four ints
 abbrev pub heard_of : List ℕ → HeardRequest
 heard_of block = heard_of_ints (int_at 0 block) (int_at 4 block) (int_at 8 block) (int_at 12 block)
 
--- the command of a power event
+-- the command number for the power event
 abbrev pub power_command : PowerKind → ℕ
 power_command power.Fail = 2
 power_command power.FailNow = 3
@@ -62,12 +62,12 @@ block_of_ints command runlevel sleeptime =
     to_le_bytes w32 0x03091969 ++ to_le_bytes w32 command ++ to_le_bytes w32 runlevel ++ to_le_bytes w32 sleeptime
     ++ replicate 368 0
 
--- the block that is written for a request: the character as typed, and the seconds as given
+-- the block that is written for a request, with the character as typed and the seconds as given
 abbrev pub block_of : Request → List ℕ
 block_of (request.Runlvl sign seconds) = block_of_ints 1 sign seconds
 block_of (request.Power kind) = block_of_ints (power_command kind) 0 0
 
--- what a request means to init
+-- the request that init reads when this request is sent
 abbrev pub meaning_of : Request → HeardRequest
 meaning_of (request.Runlvl sign seconds) = heard_of_sign sign (min seconds GRACE_LIMIT)
 meaning_of (request.Power kind) = got.Power kind

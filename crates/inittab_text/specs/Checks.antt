@@ -29,7 +29,7 @@ is_missing act process = needs_process act && list_all is_blank (without_plus pr
 abbrev pub is_text : List ℕ → Bool
 is_text line = is_utf8 line && not (has_byte 0 line)
 
--- the checks of the process and all later checks, for a line with this action that follows these entries
+-- the result of the checks of the process and all later checks, for a line with this action that follows these entries
 unfoldable pub checked_as : Act → List Entry → List ℕ → FieldBytes → Result (Option Entry) LineKind
 checked_as act before line f =
     if is_too_long act f.process then Err fault.Length
@@ -39,12 +39,12 @@ checked_as act before line f =
     else if nat_le ENTRY_LIMIT (length before) then Err fault.Many
     else Ok (Some (kept_of act f))
 
--- the check of the action and all later checks
+-- the result of the check of the action and all later checks
 abbrev pub checked_with : Option Act → List Entry → List ℕ → FieldBytes → Result (Option Entry) LineKind
 checked_with None before line f = Err fault.Action
 checked_with (Some act) before line f = checked_as act before line f
 
--- the first check that fails is the fault of the line; if none fails, the entry is kept
+-- the result of all checks of a line, given its fields: the fault for the first check that fails, or else the entry
 abbrev pub checked : List Entry → List ℕ → Option FieldBytes → Result (Option Entry) LineKind
 checked before line None = Err fault.Fields
 checked before line (Some f) =
@@ -52,8 +52,8 @@ checked before line (Some f) =
     else if nat_lt MARK_LIMIT (length f.levels) then Err fault.Levels
     else checked_with (act_read f.action) before line f
 
--- the result for a line that follows these entries, after its leading blanks: an entry, none if it is ignored, or a
--- fault
+-- the result for a line that follows these entries, read without its leading blanks: an entry, nothing if the line is
+-- ignored, or a fault
 unfoldable pub verdict_of : List Entry → List ℕ → Result (Option Entry) LineKind
 verdict_of before line =
     let text = skip_blanks line in

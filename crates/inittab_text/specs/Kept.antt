@@ -8,12 +8,12 @@ use Rattle.init_words.specs.Actions.{ignores_levels, has_process, default_levels
 use Rattle.init_words.specs.Levels.{mark_read, same_mark, names}
 use Rattle.inittab_text.specs.Lines.{FieldBytes}
 
--- the runlevels that a field means: its characters, or the default of the action if the field is empty
+-- the runlevels of an entry, as characters: its runlevels field, or the default of its action if the field is empty
 abbrev pub levels_meant : Act → List ℕ → List ℕ
 levels_meant act [] = default_levels act
 levels_meant act (b ∷ field) = b ∷ field
 
--- each mark once, at its first position
+-- the marks without repeats, each at its first position
 abbrev pub without_repeats : List Mark → List Mark
 without_repeats [] = []
 without_repeats (mark ∷ marks) = mark ∷ filter (λ other. not (same_mark mark other)) (without_repeats marks)
@@ -35,7 +35,7 @@ levels_kept act field = if ignores_levels act then [] else marks_of (levels_mean
 abbrev pub process_kept : Act → List ℕ → List ℕ
 process_kept act field = if has_process act then field else []
 
--- the entry of a line with this action and these fields
+-- the entry that a line with this action and these fields describes
 abbrev pub kept_of : Act → FieldBytes → Entry
 kept_of act f = record {
   id = f.id;

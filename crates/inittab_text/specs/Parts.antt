@@ -8,7 +8,7 @@ use Rattle.inittab_text.specs.declared.reading.TheConstants.{TEXT_LIMIT}
 use Rattle.text_lines.specs.Lines.{lines_of}
 use Rattle.inittab_text.specs.Reading.{entries_from, faults_from}
 
--- the entries, followed by those of the texts; a line never spans two texts
+-- the given entries, followed by those read from the texts; a line never spans two texts
 abbrev pub entries_of_texts : List Entry → List (List ℕ) → List Entry
 entries_of_texts before [] = before
 entries_of_texts before (text ∷ texts) = entries_of_texts (entries_from before (lines_of text)) texts

@@ -6,7 +6,7 @@ use Rattle.inittab_text.specs.declared.faults.LineFault.{LineFault}
 use Rattle.text_lines.specs.Lines.{lines_of}
 use Rattle.inittab_text.specs.Checks.{verdict_of}
 
--- the entries after a line: one more if the line is an entry
+-- the entries after one more line is read: one more than before if the line is an entry
 abbrev pub entries_after : List Entry → Result (Option Entry) LineKind → List Entry
 entries_after before (Ok (Some e)) = before ++ e ∷ []
 entries_after before (Ok None) = before
@@ -17,7 +17,7 @@ abbrev pub faults_at : ℕ → Result (Option Entry) LineKind → List LineFault
 faults_at number (Ok kept) = []
 faults_at number (Err kind) = record { line = number; kind = kind } ∷ []
 
--- the entries, followed by those of the lines
+-- the given entries, followed by those read from the lines
 abbrev pub entries_from : List Entry → List (List ℕ) → List Entry
 entries_from before [] = before
 entries_from before (line ∷ lines) = entries_from (entries_after before (verdict_of before line)) lines
@@ -29,7 +29,7 @@ faults_from before number (line ∷ lines) =
     let verdict = verdict_of before line in
     faults_at number verdict ++ faults_from (entries_after before verdict) (number + 1) lines
 
--- the table of a text
+-- the table read from a text
 abbrev pub table_of_text : List ℕ → List Entry
 table_of_text text = entries_from [] (lines_of text)
 

@@ -42,7 +42,7 @@ first_level (OnCall letter ∷ marks) = first_level marks
 abbrev pub default_of : Entry → Option Level
 default_of e = if same_act e.act Initdefault then first_level e.levels.items else None
 
--- the default runlevel: the one that the first such entry specifies
+-- the default runlevel of a table: the one specified by the first entry that specifies one
 abbrev pub default_level_of : List Entry → Option Level
 default_level_of [] = None
 default_level_of (e ∷ table) = option_or (default_of e) (default_level_of table)

@@ -31,7 +31,7 @@ fields_written e = e.id ++ 58 ∷ (levels_written e.act e.levels.items ++ 58 ∷
 abbrev pub line_of : Entry → List ℕ
 line_of e = fields_written e ++ 10 ∷ []
 
--- the lines of a table
+-- the written form of a table: one line per entry
 abbrev pub text_of : List Entry → List ℕ
 text_of table = flat_map line_of table
 
@@ -55,21 +55,23 @@ abbrev pub has_no_repeat : List Mark → Bool
 has_no_repeat [] = true
 has_no_repeat (mark ∷ marks) = not (names mark marks) && has_no_repeat marks
 
--- at most MARK_LIMIT marks, each once, and none if the action ignores its runlevels
+-- the marks can be an entry's runlevels: at most MARK_LIMIT marks, each once, and none if the action ignores its
+-- runlevels
 abbrev pub is_levels : Act → List Mark → Bool
 is_levels act marks =
     nat_le (length marks) MARK_LIMIT && has_no_repeat marks && (if ignores_levels act then is_empty marks else true)
 
--- UTF-8 text without a newline that passes the checks of a process; empty if the action has no process
+-- the text can be the process of an entry with this action: UTF-8 without a newline that passes the checks of the
+-- process field, and empty if the action has no process
 abbrev pub is_process : Act → List ℕ → Bool
 is_process act process =
     not (is_too_long act process) && not (is_missing act process) && is_text process && not (has_byte 10 process)
     && (if has_process act then true else is_empty process)
 
--- an entry that reading can produce
+-- reading an inittab can produce the entry
 unfoldable pub is_written : Entry → Bool
 is_written e = is_id e.id && is_levels e.act e.levels.items && is_process e.act e.process.items
 
--- a table: at most ENTRY_LIMIT such entries, with no id twice
+-- the entries are a table: at most ENTRY_LIMIT entries that reading an inittab can produce, with no id twice
 abbrev pub is_table : List Entry → Bool
 is_table table = nat_le (length table) ENTRY_LIMIT && is_distinct table && list_all is_written table

@@ -1,4 +1,4 @@
--- The byte of a one-byte argument, and the report if memory runs out.
+-- The byte of a one-byte argument, and the message printed if memory runs out.
 use Rattle.std.specs.Prelude.{ℕ, List, [], ◌∷◌, ◌++◌, codes, Option, Some, None}
 
 -- the only byte of a text; none if the text does not have exactly one byte
@@ -7,6 +7,6 @@ only_byte [] = None
 only_byte (byte ∷ []) = Some byte
 only_byte (first ∷ second ∷ others) = None
 
--- the report if memory runs out before anything is written: the program's name, the fault, and what to do
+-- the message printed if memory runs out before anything is written: the program's name, the fault, and what to do
 unfoldable pub no_memory_text : List ℕ → List ℕ
 no_memory_text name = name ++ codes ": out of memory: nothing was written; free some memory and try again\n"

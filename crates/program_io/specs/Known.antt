@@ -1,12 +1,12 @@
--- The known texts at paths.
+-- Which texts are known to be at which paths.
 use Rattle.std.specs.Prelude.{◌≡◌, ℕ, if◌then◌else◌, List, [], ◌∷◌, Option, Some, None, IfSome}
 use Rattle.std.specs.Str.{bytes_eq}
 
--- the text at each path, if it is known
+-- a map from each path to the text there, if that text is known
 abbrev pub KnownTexts : Type 0
 KnownTexts = List ℕ → Option (List ℕ)
 
--- this is the text at the path, if that text is known; if it is not known, this may be any text
+-- the text is the one known to be at the path; it may be any text if none is known
 abbrev pub IsTextAt : KnownTexts → List ℕ → List ℕ → Type 0
 IsTextAt text_at path text = IfSome (text_at path) (λ known. text ≡ known)
 
@@ -15,7 +15,7 @@ pub record Kept : Type 0 where
   pub path : List ℕ
   pub text : List ℕ
 
--- this text, kept under this path
+-- the record of a text and the path under which it is kept
 abbrev pub kept_at : List ℕ → List ℕ → Kept
 kept_at path text = record { path = path; text = text }
 

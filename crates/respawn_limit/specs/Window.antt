@@ -7,11 +7,11 @@ use Rattle.respawn_limit.specs.declared.May.{May}
 use Rattle.respawn_limit.specs.declared.May.TheVariants.{Yes, HoldUntil}
 use Rattle.respawn_limit.specs.State.{LimiterState}
 
--- a start counts now: it is less than two minutes old
+-- a start at this time still counts toward the limit: it was less than two minutes ago
 abbrev pub is_recent : ℕ → ℕ → Bool
 is_recent now start = nat_lt (now - start) WINDOW
 
--- the window is full: at least ten starts count now
+-- the window is full: at least ten starts still count toward the limit
 abbrev pub is_full : List ℕ → ℕ → Bool
 is_full noted now = nat_le STARTS (count_by (is_recent now) noted)
 

@@ -42,7 +42,7 @@ abbrev pub after_lines : ℕ → List ℕ → Option (List ℕ)
 after_lines zero text = Some text
 after_lines (suc n) text = option_and_then (λ parts. after_lines n parts.1) (cut 10 text)
 
--- the pieces of a text between occurrences of a byte
+-- the pieces into which each occurrence of the byte splits the text
 abbrev pub pieces_of : ℕ → List ℕ → List (List ℕ)
 pieces_of mark text = slice_split (λ b. b == mark) text
 

@@ -3,7 +3,7 @@ use Rattle.std.specs.Prelude.{ℕ, ◌&&◌, if◌then◌else◌, nat_lt, List, 
 use Rattle.std.specs.Str.{bytes_eq}
 use Rattle.std.specs.Str.Parse.{digits_value, without_leading_plus}
 
--- the number whose decimal form the text is, if it is below the limit: no sign and no leading zeros
+-- the number that the text is in decimal, without a sign or leading zeros, if the number is below the limit
 abbrev pub number_read : ℕ → List ℕ → Option ℕ
 number_read limit text =
     let number = digits_value 10 (without_leading_plus text) in

@@ -11,33 +11,33 @@ use Rattle.trace_check.specs.Words.{is_order, same_acts, may_live}
 use Rattle.trace_check.specs.declared.children.UnreapedChild.{UnreapedChild}
 use Rattle.trace_check.specs.State.{JudgeState, at, among, times_at}
 
--- the table in force
+-- the table in force after the happening
 abbrev pub table_after : Event → List Entry → List Entry
 table_after (NewTable next) table = next
 table_after _ table = table
 
--- the stage in force
+-- the stage in force after the happening
 abbrev pub stage_after : Event → Option Stage → Option Stage
 stage_after (Enter next grace) stage = Some next
 stage_after _ stage = stage
 
--- the seconds between SIGTERM and SIGKILL
+-- the number of seconds between SIGTERM and SIGKILL after the happening
 abbrev pub grace_after : Event → ℕ → ℕ
 grace_after (Enter stage next) grace = next
 grace_after _ grace = grace
 
--- the time
+-- the time after the happening
 abbrev pub time_after : Event → ℕ → ℕ
 time_after (Clock reading) time = max (min reading CLOCK_LIMIT) time
 time_after _ time = time
 
--- the open order of an id
+-- the open order of an id after the happening
 abbrev pub order_after : Event → List ℕ → Option OrderKind → Option OrderKind
 order_after (Asked i ask) id before = if same_id id i then Some ask else before
 order_after (Told i) id before = if same_id id i then None else before
 order_after _ id before = before
 
--- an id has a kept child; `is_alive` says which ids had an unreaped child before the happening
+-- the id has a kept child after the happening; `is_alive` says which ids had an unreaped child before it
 abbrev pub kept_after : (List ℕ → Bool) → Event → List ℕ → Bool → Bool
 kept_after is_alive (Birth i n) id before = same_id id i || before
 kept_after is_alive (Told i) id before = if same_id id i then is_alive i else before
@@ -47,7 +47,8 @@ kept_after is_alive _ id before = before
 abbrev pub is_changed : List ℕ → List Entry → List Entry → Bool
 is_changed id table before = not (same_acts (act_of id table) (act_of id before))
 
--- a Start of an id was ordered since the last Enter and since the last table that added or changed the id
+-- after the happening, a Start of the id was ordered since the last Enter and since the last table that added or
+-- changed the id
 abbrev pub asked_after : List Entry → Event → List ℕ → Bool → Bool
 asked_after table (Enter stage grace) id before = false
 asked_after table (NewTable next) id before =
@@ -55,7 +56,7 @@ asked_after table (NewTable next) id before =
 asked_after table (Asked i Start) id before = same_id id i || before
 asked_after table _ id before = before
 
--- a power event or a letter names an entry
+-- the happening is a power event or a letter that names the entry
 abbrev pub is_named : Event → Entry → Bool
 is_named (Power kind) e = is_called_by kind e.act
 is_named (Call letter) e = is_ondemand e.act && names (OnCall letter) e.levels.items
@@ -65,11 +66,11 @@ is_named _ e = false
 abbrev pub is_named_at : List Entry → Option Stage → Event → List ℕ → Bool
 is_named_at table stage happening id = list_any (λ e. has_id id e && (is_named happening e && starts_in e stage)) table
 
--- the entry of an id stays called when it is started
+-- the id's entry stays called when it is started
 abbrev pub stays_called_in : List Entry → List ℕ → Bool
 stays_called_in table id = option_map_or stays_called (act_of id table) false
 
--- the entry of an id is called
+-- the id's entry is called after the happening
 abbrev pub called_after : List Entry → Option Stage → Event → List ℕ → Bool → Bool
 called_after table stage (Enter next grace) id before = false
 called_after table stage (NewTable next) id before = false
@@ -78,21 +79,22 @@ called_after table stage (Call letter) id before = is_named_at table stage (Call
 called_after table stage (Asked i Start) id before = (stays_called_in table id || not (same_id id i)) && before
 called_after table stage _ id before = before
 
--- a TERM was sent for the id, and init has not learned of it; `open_order` is the open order of each id before
+-- after the happening, a TERM was sent for the id, and init has not learned of it; `open_order` is the open order of
+-- each id before the happening
 abbrev pub sent_after : (List ℕ → Option OrderKind) → Event → List ℕ → Bool → Bool
 sent_after open_order (Birth i n) id before = not (same_id id i) && before
 sent_after open_order (Told i) id before = not (same_id id i) && before
 sent_after open_order (Hit i) id before = same_id id i && is_order Term (open_order i) || before
 sent_after open_order _ id before = before
 
--- the times of the last ten Starts of an id, newest first
+-- the times of the last ten Starts of an id after the happening, newest first
 abbrev pub starts_after : ℕ → Event → List ℕ → List ℕ → List ℕ
 starts_after time (NewTable next) id before = []
 starts_after time (Enter next grace) id before = []
 starts_after time (Asked i Start) id before = if same_id id i then time ∷ take (STARTS - 1) before else before
 starts_after time _ id before = before
 
--- the time of the last Hold of an id
+-- the time of the last Hold of an id after the happening
 abbrev pub hold_after : ℕ → Event → List ℕ → Option ℕ → Option ℕ
 hold_after time (NewTable next) id before = None
 hold_after time (Enter next grace) id before = None
@@ -103,7 +105,7 @@ hold_after time _ id before = before
 abbrev pub is_numbered : ℕ → Option UnreapedChild → Bool
 is_numbered number child = option_map_or (λ living. number == living.number) child false
 
--- the unreaped child of an id; `child` is the unreaped child of each id before the happening
+-- the unreaped child of an id after the happening; `child` is the unreaped child of each id before it
 abbrev pub child_after : List Entry → (List ℕ → Option UnreapedChild) → Event → List ℕ → Option UnreapedChild
 child_after table child (Birth i n) id =
     if same_id id i then Some (record { number = n; act = act_of i table }) else child id
@@ -111,12 +113,12 @@ child_after table child (Reaped i n status) id =
     if same_id id i && is_numbered n (child i) then None else child id
 child_after table child _ id = child id
 
--- the child of an id may live in the stage under the table
+-- the unreaped child of the id may live in the stage with this table
 abbrev pub child_may_live : List Entry → Option Stage → (List ℕ → Option UnreapedChild) → List ℕ → Bool
 child_may_live table stage child id =
     option_map_or (λ living. may_live (entry_of id table) living.act stage) (child id) false
 
--- the child of an id is excluded
+-- the unreaped child of the id is excluded
 abbrev pub is_child_excluded : List Entry → Option Stage → (List ℕ → Option UnreapedChild) → List ℕ → Bool
 is_child_excluded table stage child id =
     option_map_or (λ living. not (may_live (entry_of id table) living.act stage)) (child id) false
@@ -126,8 +128,8 @@ abbrev pub earliest : ℕ → Option ℕ → ℕ
 earliest time None = time
 earliest time (Some other) = min time other
 
--- the time at which init learned of the first TERM in the spell of the id's child; `child`, `is_sent` and `term` are
--- the values before the happening
+-- after the happening, the time at which init learned of the first TERM in the spell of the id's child; `child`,
+-- `is_sent` and `term` are the values before the happening
 abbrev pub term_after : List Entry → Option Stage → ℕ → (List ℕ → Option UnreapedChild) → (List ℕ → Bool)
     → (List ℕ → Option ℕ) → Event → List ℕ → Option ℕ
 term_after table stage time child is_sent term (Birth i n) id = if same_id id i then None else term id

@@ -1,5 +1,5 @@
--- The law that a happening breaks, computed from the state and the table. Each definition corresponds to one of
--- `trace_events`, which uses the past instead of the state.
+-- The law that a happening breaks, computed from the state and the table. Each definition corresponds to one in
+-- `trace_events` that uses the past instead of the state.
 use Rattle.std.specs.Prelude.{◌≡◌, IsTrue, ℕ, Bool, true, false, not, ◌&&◌, ◌||◌, ◌-◌, if◌then◌else◌, nat_lt, nat_le}
 use Rattle.std.specs.Prelude.{List, slice_get, take, find, Option, Some, None, is_none, is_some}
 use Rattle.std.specs.Map.{keys_of}
@@ -18,7 +18,7 @@ use Rattle.trace_check.specs.After.{is_child_excluded}
 abbrev pub is_alive : JudgeState → List ℕ → Bool
 is_alive s id = is_some (at id s.children)
 
--- the child of an id is excluded
+-- the id's child is excluded
 abbrev pub is_excluded_in : List Entry → JudgeState → List ℕ → Bool
 is_excluded_in table s id = is_child_excluded table s.stage (λ i. at i s.children) id
 
@@ -56,11 +56,11 @@ is_wanted_in s e =
 abbrev pub is_owed_in : JudgeState → Entry → Bool
 is_owed_in s e = waited_of e && (among e.id s.kept || is_starting s e.id || is_wanted_in s e)
 
--- the first owed entry before the entry of the id
+-- the first owed entry before the id's entry
 abbrev pub first_owed_in : List Entry → JudgeState → List ℕ → Option Entry
 first_owed_in table s id = find (is_owed_in s) (entries_before id table)
 
--- no entry before the entry of the id is owed
+-- no entry before the id's entry is owed
 abbrev pub is_in_turn_in : List Entry → JudgeState → List ℕ → Bool
 is_in_turn_in table s id = is_none (first_owed_in table s id)
 
@@ -68,12 +68,13 @@ is_in_turn_in table s id = is_none (first_owed_in table s id)
 abbrev pub IsUnowedPrefix : ℕ → List Entry → JudgeState → Type 0
 IsUnowedPrefix count table s = list_any (is_owed_in s) (take count table) ≡ false
 
--- init waits for the entry of an id, and the entry is not owed
+-- init waits for the id's entry, and the entry is not owed
 abbrev pub is_over_with : List Entry → JudgeState → List ℕ → Bool
 is_over_with table s id = option_map_or (λ e. waited_of e && not (is_owed_in s e)) (entry_of id table) false
 
--- the number of entries at the front of the table known not to be owed: a stage, a table or a call may make any entry
--- owed, and a happening about an id may make the entry of this id owed, if init waits for it and it was not owed
+-- after the happening, the number of entries at the front of the table that are known not to be owed: a stage, a table
+-- or a call may make any entry owed, and a happening about an id may make the id's entry owed, if init waits for it and
+-- it was not owed
 abbrev pub unowed_count_after : List Entry → JudgeState → Event → ℕ → ℕ
 unowed_count_after table s (Enter stage grace) count = 0
 unowed_count_after table s (NewTable next) count = 0
@@ -93,7 +94,7 @@ abbrev pub is_full_in : JudgeState → List ℕ → Bool
 is_full_in s id =
     option_map_or (λ started. nat_lt (s.time - started) WINDOW) (slice_get (times_at id s.starts) (STARTS - 1)) false
 
--- the respawn limit applies to the entry of the id
+-- the respawn limit applies to the id's entry
 abbrev pub is_limited_in : List Entry → List ℕ → Bool
 is_limited_in table id = option_map_or is_limited (act_of id table) false
 
@@ -115,12 +116,12 @@ abbrev pub is_settled_in : Level → List Entry → JudgeState → Bool
 is_settled_in level table s =
     is_level level s.stage && none_excluded_in table s && list_all (is_served_in level s) table
 
--- the grace period has passed since init learned of the first TERM of the spell
+-- the grace period has passed since init learned of the first TERM in the spell of the id's child
 abbrev pub is_over_in : JudgeState → List ℕ → Bool
 is_over_in s id =
     option_map_or (λ told. nat_le told s.time && nat_le s.grace (s.time - told)) (at id s.termed) false
 
--- a KILL of the child of the id is due
+-- a KILL of the id's child is lawful
 abbrev pub may_kill_in : List Entry → JudgeState → List ℕ → Bool
 may_kill_in table s id = is_excluded_in table s id && is_over_in s id
 

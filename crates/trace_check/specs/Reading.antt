@@ -28,7 +28,7 @@ abbrev pub newest : List ℕ → Option ℕ
 newest [] = None
 newest (time ∷ times) = Some time
 
--- a child, in the form in which the state keeps it
+-- the child in the form that the checker's state uses
 abbrev pub living_of : Child → UnreapedChild
 living_of child = record { number = child.number; act = child.act }
 

@@ -5,7 +5,7 @@ use Rattle.std.specs.List.{list_any}
 use Rattle.trace_check.specs.Words.{Stage, OrderKind, same_id}
 use Rattle.trace_check.specs.declared.children.UnreapedChild.{UnreapedChild}
 
--- the value kept for an id
+-- the value that the list has for the id
 abbrev pub at : {X : Type 0} → List ℕ → List (List ℕ × X) → Option X
 at id entries = lookup (same_id id) entries
 
@@ -13,18 +13,19 @@ at id entries = lookup (same_id id) entries
 abbrev pub among : List ℕ → List (List ℕ) → Bool
 among id ids = list_any (same_id id) ids
 
--- the times kept for an id, or none
+-- the times if there are any, otherwise the empty list
 abbrev pub times_or_none : Option (List ℕ) → List ℕ
 times_or_none None = []
 times_or_none (Some times) = times
 
--- the times kept for an id
+-- the times that the list has for the id
 abbrev pub times_at : List ℕ → List (List ℕ × List ℕ) → List ℕ
 times_at id starts = times_or_none (at id starts)
 
 -- the stage, the seconds between SIGTERM and SIGKILL, and the time; the open orders; the ids that have a kept child,
--- were asked, have a called entry, and were sent a TERM that init has not learned of; for each id, its last starts,
--- its last hold, its unreaped child, and the time at which init learned of the first TERM in the child's spell
+-- the ids that were asked, the ids whose entry is called, and the ids that were sent a TERM that init has not learned
+-- of; and for each id, its last starts, its last hold, its unreaped child, and the time at which init learned of the
+-- first TERM in the child's spell
 pub record JudgeState : Type 0 where
   pub stage : Option Stage
   pub grace : ℕ

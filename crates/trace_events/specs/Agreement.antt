@@ -7,14 +7,14 @@ use Rattle.trace_events.specs.declared.happenings.Happening.TheVariants.{Birth, 
 use Rattle.trace_events.specs.Event.{Event}
 use Rattle.trace_events.specs.Past.{is_child, unreaped_children, known_children}
 
--- there was a birth of this id and number that init has not learned of yet
+-- a child with this id and number was born, and init has not learned of its birth yet
 abbrev pub has_untold_birth : List ℕ → ℕ → List Event → Bool
 has_untold_birth id n [] = false
 has_untold_birth id n (Birth i m ∷ past) = same_id id i && n == m || has_untold_birth id n past
 has_untold_birth id n (Told i ∷ past) = not (same_id id i) && has_untold_birth id n past
 has_untold_birth id n (_ ∷ past) = has_untold_birth id n past
 
--- a child of this id and number was reaped, and init has not learned of it yet
+-- a child with this id and number was reaped, and init has not learned of it yet
 abbrev pub has_untold_end : List ℕ → ℕ → List Event → Bool
 has_untold_end id n [] = false
 has_untold_end id n (Reaped i m status ∷ past) = same_id id i && n == m || has_untold_end id n past
@@ -29,7 +29,8 @@ is_unreaped id n past = list_any (is_child id n) (unreaped_children past)
 abbrev pub is_known : List ℕ → ℕ → List Event → Bool
 is_known id n past = list_any (is_child id n) (known_children past)
 
--- the known children, corrected by the answers that init has not learned of, include this id and number
+-- the known children, corrected by the births and ends that init has not learned of, include one with this id and
+-- number
 abbrev pub is_accounted : List ℕ → ℕ → List Event → Bool
 is_accounted id n past = is_known id n past && not (has_untold_end id n past) || has_untold_birth id n past
 

@@ -6,7 +6,8 @@ use Rattle.trace_events.specs.declared.happenings.Happening.TheVariants.{Told}
 use Rattle.trace_events.specs.Event.{Event, SystemAct, act_in}
 use Rattle.trace_events.specs.Past.{Child, newborn}
 
--- the pending answer for an id after this act of the system: the act itself if it is about the id
+-- the pending answer for an id after an act of the system: the answer of the act if it is about the id, otherwise the
+-- answer that was pending before
 abbrev pub answered_by : List ℕ → Option SystemAct → Option Answer → Option Answer
 answered_by id None before = before
 answered_by id (Some act) before = if same_id id act.id then Some act.answer else before

@@ -11,12 +11,13 @@ use Rattle.trace_events.specs.Spells.{Signal, spell_hits}
 use Rattle.trace_events.specs.Timing.{start_times, hold_times}
 use Rattle.trace_events.specs.Lawful.{is_limited_id}
 
--- the tenth time of the list and all later elements are at least two minutes before `now`
+-- the tenth time in the list and all times that follow it are at least two minutes before `now`
 abbrev pub is_spaced : ℕ → List ℕ → Bool
 is_spaced now times = list_all (λ started. nat_le (started + WINDOW) now) (drop (STARTS - 1) times)
 
--- 1: when a Start of an entry with the respawn limit is ordered, its tenth-last Start and all before it were at least
--- two minutes ago, and all its Holds at least five minutes ago; only those since the last Enter or table count
+-- 1: when a Start is ordered for an entry that the respawn limit applies to, the tenth-last Start of the id and all
+-- earlier ones were at least two minutes ago, and all Holds of the id were at least five minutes ago; only Starts and
+-- Holds since the last Enter or NewTable count
 abbrev pub obeys_respawn_limit : Event → List Event → Bool
 obeys_respawn_limit (Asked id Start) past = not (is_limited_id id past)
     || is_spaced (time_of past) (start_times id past)
@@ -30,7 +31,8 @@ targets id (Asked i ask ∷ past) = if same_id id i then filter (is_child_of id)
     else targets id past
 targets id (_ ∷ past) = targets id past
 
--- 2: at a Hit, init knew of at least one child when it gave the order, and all of them are still unreaped and excluded
+-- 2: at a Hit, init knew of at least one child of the id when it gave the order, and all of those children are still
+-- unreaped and excluded
 abbrev pub hits_ordered_child : Event → List Event → Bool
 hits_ordered_child (Hit id) past =
     not (length (targets id past) == 0)
@@ -38,10 +40,10 @@ hits_ordered_child (Hit id) past =
     (targets id past)
 hits_ordered_child _ past = true
 
--- the KILLs sent to the child that init learned of in its spell
+-- the KILLs sent to the child of which init learned in the child's spell
 abbrev pub spell_kills : Child → List Event → List Signal
 spell_kills child past = filter (λ (signal : Signal). is_order Kill signal.order) (spell_hits child past)
 
--- 3: init learns of at most one KILL sent to an unreaped child in its spell
+-- 3: in the spell of each unreaped child, init learns of at most one KILL sent to it
 abbrev pub at_most_one_kill : List Event → Bool
 at_most_one_kill past = list_all (λ child. nat_le (length (spell_kills child past)) 1) (unreaped_children past)

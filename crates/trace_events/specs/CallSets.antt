@@ -9,7 +9,7 @@ use Rattle.trace_events.specs.declared.steps.Step.TheVariants.{Call, Power}
 use Rattle.trace_events.specs.Event.{Event}
 use Rattle.trace_events.specs.Wishes.{is_power_pending, is_letter_pending}
 
--- no call is pending
+-- the empty set of pending calls
 abbrev pub no_news : CallSet
 no_news = record { fail = false; fail_now = false; ok = false; a = false; b = false; c = false }
 
@@ -41,7 +41,7 @@ with_call letter.C present pending = record pending { c = present }
 abbrev pub has_news : CallSet → Bool
 has_news pending = pending.fail || pending.fail_now || pending.ok || pending.a || pending.b || pending.c
 
--- the step that carries out the first call of the set: the power events, then the letters
+-- the step that carries out the first call in the set; power events come before letters
 abbrev pub first_pending_step : CallSet → Option Step
 first_pending_step pending =
     if pending.fail then Some (Power power.Fail)

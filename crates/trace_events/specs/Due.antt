@@ -60,13 +60,13 @@ enter_level (Some wish) past =
 abbrev pub due_level : List Event → List Step
 due_level past = steps_if (is_quiet past) (enter_level (level_wish past) past)
 
--- 5: At a quiet point in a runlevel, carry out the pending power events, then the pending letters.
--- For each of these power events that is pending, the step that calls its entries.
+-- 5: At a quiet point in a runlevel, carry out the pending power events, then the pending letters. For each power event
+-- in the list that is pending, the step that calls its entries.
 abbrev pub power_steps : List PowerKind → List Event → List Step
 power_steps [] past = []
 power_steps (kind ∷ kinds) past = step_if (is_power_pending kind past) (Power kind) ++ power_steps kinds past
 
--- for each of these letters that is pending, the step that calls its entries
+-- for each letter in the list that is pending, the step that calls its entries
 abbrev pub letter_steps : List Letter → List Event → List Step
 letter_steps [] past = []
 letter_steps (letter ∷ rest) past = step_if (is_letter_pending letter past) (Call letter) ++ letter_steps rest past
@@ -95,19 +95,19 @@ abbrev pub stop_step : List ℕ → Option OrderKind → List Step
 stop_step id None = []
 stop_step id (Some ask) = Order id ask ∷ []
 
--- the signals that are due to the children of the id in this list
+-- for each child of the id in the list, the step that orders the signal due to it, if there is one
 abbrev pub stops_of : List ℕ → List Child → List Event → List Step
 stops_of id [] past = []
 stops_of id (child ∷ children) past =
     steps_if (is_child_of id child) (stop_step id (stop_due child past)) ++ stops_of id children past
 
--- the signals that are due to the known children of these ids, in order; none if the id has an open order
+-- the steps that order the signals due to the known children of these ids, in order; none for an id with an open order
 abbrev pub stops_among : List (List ℕ) → List Event → List Step
 stops_among [] past = []
 stops_among (id ∷ ids) past =
     steps_if (is_none (open_of id past)) (stops_of id (known_children past) past) ++ stops_among ids past
 
--- if no request is pending, the signals for all records
+-- if no request is pending, the steps that order signals, for all ids in record order
 abbrev pub due_stops : List Event → List Step
 due_stops past = steps_if (not (is_request_pending past)) (stops_among (record_ids past) past)
 
@@ -161,8 +161,8 @@ is_announced (happened.Enter stage grace ∷ past) = false
 is_announced (happened.NewTable table ∷ past) = false
 is_announced (_ ∷ past) = is_announced past
 
--- the entry does not keep the level from being settled: it is not owed and, if it names the level, it is served (an
--- entry that init keeps running is served if it is held or has one of these children)
+-- the entry does not keep the level from being settled: it is not owed and, if it names the level, it is served (a
+-- respawn entry is served if it is held or has a child in the list)
 abbrev pub is_served : Level → List Child → List Event → Entry → Bool
 is_served level there past e = not (is_owed e past)
     && (not (names (At level) e.levels.items)

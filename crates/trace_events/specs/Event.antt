@@ -1,4 +1,5 @@
--- A happening as the definitions see it, whatever its allocator; and the happenings that are acts of the system.
+-- Happenings in the form in which the definitions use them, with any allocator; and which of them are acts of the
+-- system.
 use Rattle.std.specs.Prelude.{ℕ, List, Option, Some, None}
 use Rattle.trace_events.specs.Words.{Entry, Answer}
 use Rattle.init_words.specs.declared.orders.Answer.TheVariants as answer
@@ -15,7 +16,7 @@ pub record SystemAct : Type 0 where
   pub id : List ℕ
   pub answer : Answer
 
--- the act that gives this answer for an id
+-- an act on an order for the id, with this answer
 abbrev pub act_on : List ℕ → Answer → Option SystemAct
 act_on id given = Some (record { id = id; answer = given })
 

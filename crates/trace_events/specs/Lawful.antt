@@ -20,7 +20,7 @@ has_no_unreaped_child id past = not (has_child id (unreaped_children past))
 abbrev pub has_startable_entry : List ℕ → List Event → Bool
 has_startable_entry id past = option_map_or (λ (e : Entry). starts_now e past) (entry_of id (table_of past)) false
 
--- 3: at a Birth, no entry before the entry of the id is owed
+-- 3: at a Birth, no entry before the id's entry is owed
 abbrev pub is_in_turn : List ℕ → List Event → Bool
 is_in_turn id past = not (is_owed_before id past)
 
@@ -48,7 +48,7 @@ is_due_hold id past = is_limited_id id past && not (is_held id past) && is_full 
 abbrev pub may_term : List ℕ → List Event → Bool
 may_term id past = list_any (λ child. is_child_of id child && is_excluded past child) (unreaped_children past)
 
--- 7: at a Kill, the id has an excluded unreaped child that was sent a TERM, and init learned of it in the child's
+-- 7: at a Kill, the id has an excluded unreaped child that was sent a TERM, and init learned of the TERM in the child's
 -- spell, at least the grace period ago
 abbrev pub may_kill : List ℕ → List Event → Bool
 may_kill id past =

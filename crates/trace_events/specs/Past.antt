@@ -21,7 +21,7 @@ stage_of [] = None
 stage_of (Enter stage grace ∷ past) = Some stage
 stage_of (_ ∷ past) = stage_of past
 
--- the seconds between SIGTERM and SIGKILL, as given by the last Enter, or 0 before the first
+-- the grace period between SIGTERM and SIGKILL, in seconds: the one given by the last Enter, or 0 before the first
 abbrev pub grace_of : List Event → ℕ
 grace_of [] = 0
 grace_of (Enter stage grace ∷ past) = grace
@@ -56,7 +56,7 @@ has_number number child = number == child.number
 abbrev pub has_child : List ℕ → List Child → Bool
 has_child id children = list_any (is_child_of id) children
 
--- the child that a birth at this point of the trace adds
+-- the child that a birth after this trace adds
 abbrev pub newborn : List ℕ → ℕ → List Event → Child
 newborn id number past = record { id = id; number = number; act = act_of id (table_of past) }
 
@@ -106,7 +106,7 @@ open_of id (Asked i ask ∷ past) = if same_id id i then Some ask else open_of i
 open_of id (Told i ∷ past) = if same_id id i then None else open_of id past
 open_of id (_ ∷ past) = open_of id past
 
--- the undone order of an id after this act: none if the act is about the id
+-- the undone order of an id after an act of the system: none if the act is about the id, otherwise the order before it
 abbrev pub undone_by : List ℕ → Option SystemAct → Option OrderKind → Option OrderKind
 undone_by id None before = before
 undone_by id (Some act) before = if same_id id act.id then None else before
@@ -118,18 +118,18 @@ undone_of id (Asked i ask ∷ past) = if same_id id i then Some ask else undone_
 undone_of id (Told i ∷ past) = if same_id id i then None else undone_of id past
 undone_of id (happening ∷ past) = undone_by id (act_in happening) (undone_of id past)
 
--- after this act, there is an act of the system for the id that init has not learned of
+-- after this act, init has yet to learn of an act about the id
 abbrev pub untold_by : List ℕ → Option SystemAct → Bool → Bool
 untold_by id None before = before
 untold_by id (Some act) before = same_id id act.id || before
 
--- the system has acted for the id, and init has not learned of it yet
+-- the system has acted on an order for the id, and init has not learned of it yet
 abbrev pub is_untold : List ℕ → List Event → Bool
 is_untold id [] = false
 is_untold id (Told i ∷ past) = not (same_id id i) && is_untold id past
 is_untold id (happening ∷ past) = untold_by id (act_in happening) (is_untold id past)
 
--- an open order and its id
+-- an open order, and the id that it is for
 pub record Open : Type 0 where
   pub id : List ℕ
   pub ask : OrderKind

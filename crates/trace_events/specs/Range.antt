@@ -15,29 +15,29 @@ use Rattle.trace_events.specs.declared.happenings.Handed.{Handed as HandOver}
 use Rattle.trace_events.specs.declared.happenings.Handed.TheVariants as handed
 use Rattle.trace_events.specs.Event.{Event}
 
--- the seconds between SIGTERM and SIGKILL are at most an hour
+-- the number of seconds between SIGTERM and SIGKILL is at most an hour
 abbrev pub is_seconds : ℕ → Bool
 is_seconds seconds = nat_lt seconds (GRACE_LIMIT + 1)
 
--- a child number has 32 bits
+-- the number can be the number of a child: it fits in 32 bits
 abbrev pub is_number : ℕ → Bool
 is_number number = nat_lt number (2 ^ 32)
 
--- a clock reading, a number of bytes or a generation has 64 bits
+-- the number can be a clock reading, a number of bytes or a generation: it fits in 64 bits
 abbrev pub is_count : ℕ → Bool
 is_count count = nat_lt count (2 ^ 64)
 
--- an exit status has 8 bits
+-- if the status is an exit code, it fits in 8 bits
 abbrev pub is_status : Status → Bool
 is_status (Exit code) = nat_lt code 256
 is_status Killed = true
 
--- if the request is for a level, its seconds are at most an hour
+-- if the request is for a level, its number of seconds is at most an hour
 abbrev pub is_request : Request → Bool
 is_request (got.Level level seconds) = is_seconds seconds
 is_request _ = true
 
--- the number in the result of a hand-over has 64 bits
+-- the number in the result of a hand-over, if any, fits in 64 bits
 abbrev pub is_hand_over : HandOver → Bool
 is_hand_over (handed.Cut bytes) = is_count bytes
 is_hand_over (handed.Older generation) = is_count generation
@@ -67,7 +67,7 @@ is_in_range _ = true
 abbrev pub are_in_range : List Event → Bool
 are_in_range trace = list_all is_in_range trace
 
--- the seconds between SIGTERM and SIGKILL in the happening, if any, are at most an hour
+-- the number of seconds between SIGTERM and SIGKILL in the happening, if any, is at most an hour
 abbrev pub is_short : Event → Bool
 is_short (Enter stage seconds) = is_seconds seconds
 is_short (Got request) = is_request request

@@ -1,5 +1,5 @@
--- Sound traces: what init may do, what the system may do, and what the two may exchange. The seven laws hold for every
--- sound trace.
+-- Sound traces: what init may do, what the system may do, and what each may learn from the other. The seven laws hold
+-- for every sound trace.
 use Rattle.std.specs.Prelude.{Bool, true, false, not, ◌&&◌, ◌||◌, List, [], ◌∷◌}
 use Rattle.std.specs.List.{list_any}
 use Rattle.trace_events.specs.Words.{Start, Look, Term, Kill, is_distinct}
@@ -15,11 +15,12 @@ use Rattle.trace_events.specs.Past.{unreaped_children}
 use Rattle.trace_events.specs.Wanted.{is_order}
 use Rattle.trace_events.specs.Due.{is_due}
 
--- The happening may come next. Init takes a step only if it is due, and a table without repeated ids only at a quiet
--- point. The outcome of a start needs an undone Start of the id, the outcome of a look an undone Look, and the outcome
--- of a signal an undone Term or Kill. A newborn child never has the number of an unreaped one, only a living child
--- dies, and a look reaps only a dead child of its id. A Told needs an act for its id that init has not learned of. A
--- failure to read inittab, a clock reading, a round, a request, and a hand-over may come at any time.
+-- The happening may come next. Init takes a step only if the step is due. It adopts a table only at a quiet point, and
+-- only if no id in the table is repeated. The outcome of a start needs an undone Start of the id, the outcome of a look
+-- an undone Look, and the outcome of a signal an undone Term or Kill. A newborn child never has the number of an
+-- unreaped one, only a living child dies, and a look reaps only a dead child of its id. A Told needs an act for its id
+-- that init has not learned of. A failure to read inittab, a clock reading, a round, a request, and a hand-over may
+-- come at any time.
 abbrev pub may_come : Goal → Event → List Event → Bool
 may_come goal (NewTable table) past = is_quiet past && is_distinct table
 may_come goal (Enter stage grace) past = is_due goal (step.Enter stage grace) past

@@ -21,7 +21,7 @@ untold_hits id (Told i ∷ past) = if same_id id i then [] else untold_hits id p
 untold_hits id (Hit i ∷ past) = if same_id id i then open_of id past ∷ untold_hits id past else untold_hits id past
 untold_hits id (_ ∷ past) = untold_hits id past
 
--- since the last birth of the id, there was a Miss of the id that init has not learned of yet
+-- since the last birth of the id, there was a Miss for the id that init has not learned of yet
 abbrev pub has_untold_miss : List ℕ → List Event → Bool
 has_untold_miss id [] = false
 has_untold_miss id (Birth i n ∷ past) = not (same_id id i) && has_untold_miss id past

@@ -27,7 +27,7 @@ abbrev pub same_acts : Option Act → Option Act → Bool
 same_acts (Some a) (Some b) = same_act a b
 same_acts _ _ = false
 
--- a table adds or changes the id: it has the id, and the table before it did not or had another action for the id
+-- a table adds or changes the id: the table has the id, and the previous table did not, or had another action for it
 abbrev pub adds_or_changes : List ℕ → List Entry → List Entry → Bool
 adds_or_changes id table before = list_any (has_id id) table && not (same_acts (act_of id table) (act_of id before))
 
@@ -70,11 +70,11 @@ abbrev pub entries_before : List ℕ → List Entry → List Entry
 entries_before id [] = []
 entries_before id (e ∷ es) = if same_id id e.id then [] else e ∷ entries_before id es
 
--- an entry before the entry of the id is owed
+-- an entry before the id's entry is owed
 abbrev pub is_owed_before : List ℕ → List Event → Bool
 is_owed_before id past = list_any (λ e. is_owed e past) (entries_before id (table_of past))
 
--- a child may live: its id has an entry in the table with the action that it had at the child's birth, and a child of
+-- a child may live: the table has an entry for its id, with the action that the child was born with, and children of
 -- that entry may live in the stage
 abbrev pub may_live : Option Entry → Option Act → Option Stage → Bool
 may_live (Some e) (Some action) (Some stage) = same_act e.act action && lives_of e stage

@@ -17,7 +17,7 @@ is_started stage e = starts_of e stage && wanted_by e.act true true false
 abbrev pub started_in : List Entry → Stage → List Entry
 started_in table stage = filter (is_started stage) table
 
--- Boot precedes every level except S
+-- the stage Boot, which init enters before the level; none if the level is S
 abbrev pub boot_before : Level → List Stage
 boot_before level = if same_level level S then [] else Boot ∷ []
 

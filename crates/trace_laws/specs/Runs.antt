@@ -7,7 +7,7 @@ use Rattle.trace_laws.specs.Words.{unreaped_children}
 use Rattle.trace_events.specs.declared.happenings.Happening.TheVariants as happened
 use Rattle.trace_events.specs.declared.steps.Step.TheVariants.{Enter}
 
--- init waits for the child to end: the table has its id with an action that init waits for
+-- init waits for the child to end: the table has an entry for its id with an action that init waits for
 abbrev pub is_awaited : List Event → Child → Bool
 is_awaited past child = option_map_or waited_of (entry_of child.id (table_of past)) false
 

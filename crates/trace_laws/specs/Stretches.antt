@@ -1,4 +1,4 @@
--- Stretches of a trace: the happenings between two given ones.
+-- Stretches of a trace: the happenings between two points in it.
 use Rattle.std.specs.Prelude.{ℕ, Bool, true, false, ◌&&◌, ◌==◌, ◌+◌, if◌then◌else◌, List, [], ◌∷◌}
 use Rattle.trace_laws.specs.Words.{Start, NewTable, Asked, Reaped, Event, Child, is_excluded, is_unreaped}
 use Rattle.init_words.specs.Ids.{same_id}
@@ -28,6 +28,6 @@ abbrev pub is_reaping_of : List ℕ → ℕ → Event → Bool
 is_reaping_of id n (Reaped i m status) = same_id id i && n == m
 is_reaping_of id n _ = false
 
--- the child of the id is excluded and unreaped
+-- the child is excluded, and its number is that of an unreaped child of the id
 abbrev pub is_stoppable : List ℕ → List Event → Child → Bool
 is_stoppable id past child = is_excluded past child && is_unreaped id child.number past

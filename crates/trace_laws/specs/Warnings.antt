@@ -1,5 +1,5 @@
--- The warning before a KILL: a TERM was sent to the child, init learned of it in the child's spell, and the grace
--- period has passed since.
+-- The warning before a KILL: a TERM was sent to the child, init learned of the TERM in the child's spell, and the grace
+-- period has passed since then.
 use Rattle.std.specs.Prelude.{◌≡◌, ◌≤◌, ◌+◌, ℕ, Bool, true, IsTrue, ◌&&◌, List, [], ◌∷◌, ◌++◌}
 use Rattle.std.specs.List.{list_any}
 use Rattle.trace_laws.specs.Words.{Term, Told, Event, Child, grace_of, time_of, is_child_of, is_order, is_unreaped}
@@ -11,8 +11,8 @@ stays_excluded child [] before = true
 stays_excluded child (happening ∷ stretch) before =
     in_spell child happening (stretch ++ before) && stays_excluded child stretch before
 
--- an unreaped child of the id was sent a TERM, and init learned of it in the child's spell, at least the grace period
--- ago
+-- an unreaped child of the id was sent a TERM, and init learned of the TERM in the child's spell, at least the grace
+-- period ago
 pub record WasTermedBefore (id : List ℕ) (past : List Event) : Type 0 where
   pub child : Child
   pub own : IsTrue (is_child_of id child)

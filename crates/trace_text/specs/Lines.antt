@@ -53,12 +53,12 @@ cause_number cause.Unknown = 2
 cause_number cause.LeftOut = 3
 cause_number cause.Character = 4
 
--- the words for how a child ended
+-- the words that describe how a child ended
 abbrev pub status_words : Status → List (List ℕ)
 status_words (Exit code) = codes "exit" ∷ decimal code ∷ []
 status_words Killed = codes "killed" ∷ []
 
--- the words of a request
+-- the words that describe a request
 abbrev pub got_words : Request → List (List ℕ)
 got_words (got.Level level grace) = codes "level" ∷ level_word level ∷ decimal grace ∷ []
 got_words (got.Call letter) = codes "call" ∷ letter_word letter ∷ []
@@ -67,14 +67,14 @@ got_words got.Reexec = codes "reexec" ∷ []
 got_words (got.Power kind) = codes "power" ∷ power_word kind ∷ []
 got_words (got.Nothing why) = codes "nothing" ∷ decimal (cause_number why) ∷ []
 
--- the words for the outcome of a hand-over
+-- the words that describe the outcome of a hand-over
 abbrev pub handed_words : HandOver → List (List ℕ)
 handed_words handed.Whole = codes "whole" ∷ []
 handed_words (handed.Cut bytes) = codes "cut" ∷ decimal bytes ∷ []
 handed_words (handed.Older generation) = codes "older" ∷ decimal generation ∷ []
 handed_words handed.Failed = codes "none" ∷ []
 
--- the words of a happening's line
+-- the words on the line for a happening
 abbrev pub words_of : Event → List (List ℕ)
 words_of (NewTable table) = codes "use" ∷ decimal (length table) ∷ []
 words_of NotRead = codes "notread" ∷ []
@@ -112,7 +112,7 @@ abbrev pub table_lines : Event → List ℕ
 table_lines (NewTable table) = text_of table
 table_lines _ = []
 
--- the text of a happening: its line, and for a new table the lines of the table
+-- the text of a happening: its line, followed by the lines of the table if it is a new table
 abbrev pub event_text : Event → List ℕ
 event_text happening = line_of_words (words_of happening) ++ table_lines happening
 

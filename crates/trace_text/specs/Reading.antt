@@ -1,5 +1,5 @@
--- How a line of a trace is read, word by word. Printing defines what a text means: it means the trace that prints as
--- this text (`Lines`). The definitions here say how the reader finds that trace.
+-- How a line of a trace is read, word by word. The meaning of a text is defined by printing: it is the trace that
+-- prints as the text (`Lines`). The definitions here say how the reader finds that trace.
 use Rattle.std.specs.Prelude.{ℕ, ◌==◌, ◌+◌, ◌&&◌, ◌^◌, if◌then◌else◌, List, [], ◌∷◌, codes, Option, Some, None}
 use Rattle.std.specs.Prelude.{option_and_then}
 use Rattle.std.specs.Option.{option_map}
@@ -104,7 +104,7 @@ one_read word =
     else if same_id word (codes "notread") then Some NotRead
     else None
 
--- the happening on a line of a word and an id
+-- the happening on a line that consists of a word and an id
 abbrev pub about_read : List ℕ → List ℕ → Option Event
 about_read word id =
     if same_id word (codes "told") then Some (Told id)
@@ -116,14 +116,14 @@ about_read word id =
     else if same_id word (codes "miss") then Some (Miss id)
     else None
 
--- the request that this single word means
+-- the request that a single word describes
 abbrev pub request_read : List ℕ → Option Request
 request_read word =
     if same_id word (codes "reload") then Some got.Reload
     else if same_id word (codes "reexec") then Some got.Reexec
     else None
 
--- the request that these two words mean
+-- the request that two words describe
 abbrev pub request_pair_read : List ℕ → List ℕ → Option Request
 request_pair_read word given =
     if same_id word (codes "call") then option_map got.Call (letter_of_word given)
@@ -131,14 +131,14 @@ request_pair_read word given =
     else if same_id word (codes "nothing") then option_map got.Nothing (cause_of_word given)
     else None
 
--- the outcome of a hand-over that this single word means
+-- the outcome of a hand-over that a single word describes
 abbrev pub handed_read : List ℕ → Option HandOver
 handed_read word =
     if same_id word (codes "whole") then Some handed.Whole
     else if same_id word (codes "none") then Some handed.Failed
     else None
 
--- the outcome of a hand-over that these two words mean
+-- the outcome of a hand-over that two words describe
 abbrev pub handed_pair_read : List ℕ → List ℕ → Option HandOver
 handed_pair_read word given =
     if same_id word (codes "cut") then option_map handed.Cut (number_read (2 ^ 64) given)
@@ -167,7 +167,7 @@ three_read word first second =
     else if same_id word (codes "handed") then option_map Handed (handed_pair_read first second)
     else None
 
--- the receipt of a request for a level, with its grace period
+-- the happening that init receives a request for this level, with this grace period
 abbrev pub level_wanted : Level → ℕ → Event
 level_wanted level seconds = Got (got.Level level seconds)
 
@@ -206,12 +206,12 @@ entries_brought _ = None
 abbrev pub words_in : List ℕ → List (List ℕ)
 words_in line = pieces_of 32 line
 
--- the happening of a new table that consists of the given number of lines
+-- the happening of a new table whose entries are the next `count` lines, and the text after them
 abbrev pub use_begun : ℕ → List ℕ → Option Begun
 use_begun count text = option_map (λ parts. (NewTable parts.0, parts.1)) (table_begun count text)
 
--- the first happening of a text, given the first line, the number of entries that this line announces, if any, and the
--- text after the line
+-- the first happening of a text, and the text after it, given the first line, the number of entries that this line
+-- announces, if any, and the text after the line
 abbrev pub begun_by : Option ℕ → List ℕ → List ℕ → Option Begun
 begun_by None line text = option_map (λ happening. (happening, text)) (words_read (words_in line))
 begun_by (Some count) line text = use_begun count text

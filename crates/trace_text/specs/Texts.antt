@@ -12,7 +12,7 @@ use Rattle.trace_text.specs.declared.reading.ReadFault.TheVariants as fault
 abbrev pub Begun : Type 0
 Begun = Event × List ℕ
 
--- the number of lines of a happening: one, and one more for each entry of a new table
+-- the number of lines that a happening has in a trace: one, and one more for each entry of a new table
 abbrev pub line_count : Event → ℕ
 line_count (NewTable table) = length table + 1
 line_count _ = 1
