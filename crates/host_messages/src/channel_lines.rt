@@ -49,14 +49,14 @@ pub(crate) fn tell_other_owner(
         Power::Wake => "wake init",
     };
     let _ = eprintln!(rt;
-        "initd: {path} belongs to user {owner}, not {before}, so whoever writes it can {power}; if that is wrong, remove it"
+        "initd: {path} belongs to user {owner}, not {before}, so whoever can write to it can {power}; if that is not intended, remove it"
     );
 }
 
 /// Reports that the channel was written to without growing.
 pub(crate) fn tell_written_over(rt: &impl Eprint, path: &str) {
     let _ = eprintln!(rt;
-        "initd: {path} was overwritten in place, and what was written is not read; requests must be appended, as telinit does"
+        "initd: {path} was overwritten in place, and the new bytes are not read; append requests, as telinit does"
     );
 }
 

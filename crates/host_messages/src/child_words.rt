@@ -23,7 +23,7 @@ pub(crate) fn tell_of_child(
         ChildMessage::Unwaited { number, error } if error.raw_os_error() == Some(NO_CHILD) => {
             let number = number.0;
             let _ = eprintln!(rt;
-                "{program}: {id} (pid {number}): it is no longer looked at or sent KILL; if this happens to every child, start {program} with env --default-signal=CHLD"
+                "{program}: {id} (pid {number}): init stops waiting for it, and does not send KILL; if this happens to every child, start {program} with env --default-signal=CHLD"
             );
         }
         _ => {}

@@ -111,7 +111,7 @@ impl<'a, R: Files + Eprint> Progress<'a, R> {
         self.is_gone = is_gone;
         let _ = if is_gone {
             eprint!(self.rt;
-                "initd: the folder of the channel is gone; no request arrives until {} exists again\n",
+                "initd: the channel's folder is gone; no requests can arrive until {} exists again\n",
                 self.folder
             )
         } else {
