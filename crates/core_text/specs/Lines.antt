@@ -1,4 +1,4 @@
--- The text of a state (telinit(8)) in each version: its lines, each of which consists of words separated by one blank.
+-- The text of a saved state (telinit(8)) in each version: lines of words, with one blank between words.
 use Rattle.std.specs.Prelude.{ℕ, Bool, if◌then◌else◌, List, [], ◌∷◌, ◌++◌, map, length, codes, decimal, Option, Some}
 use Rattle.std.specs.Prelude.{None}
 use Rattle.std.specs.List.{flat_map, join_with_byte}
@@ -82,7 +82,7 @@ wish_line reread reexec level pending =
     spaced (codes "wish" ∷ bits (reread ∷ reexec ∷ []) ∷ or_dash goal_word level ∷ bits (power_bits pending)
     ∷ bits (letter_bits pending) ∷ [])
 
--- the lines of the fields
+-- the lines for the fields of a state
 abbrev pub head_lines : CoreFields → List (List ℕ)
 head_lines fields =
     generation_line fields.generation
@@ -106,7 +106,7 @@ record_words plain =
     ∷ or_dash order_word plain.order ∷ or_dash stop_word plain.stop ∷ bits (slot_flags plain)
     ∷ or_dash decimal plain.held_until ∷ starts_word plain.starts.items ∷ []
 
--- the line of a record; version 2 adds the status of its last child
+-- the line for a record; version 2 adds the status of its last child
 abbrev pub slot_line : Version → PlainSlot → List ℕ
 slot_line V1 plain = spaced (record_words plain)
 slot_line V2 plain = spaced (record_words plain ++ or_dash status_word plain.last ∷ [])
@@ -114,8 +114,8 @@ slot_line V2 plain = spaced (record_words plain ++ or_dash status_word plain.las
 abbrev pub end_line : ℕ → List ℕ
 end_line count = spaced (codes "end" ∷ decimal count ∷ [])
 
--- the lines of a state, except the last one: the version; the fields; the number of entries of the table, and one line
--- of inittab(5) for each; and one line for each record
+-- the lines of a state, except the last one: the version; the fields; the number of entries in the table, and one line
+-- as in inittab(5) for each; and one line for each record
 abbrev pub body_lines : Version → SavedState → List (List ℕ)
 body_lines version state =
     version_line version ∷ (head_lines state.fields ++ (table_line (length state.table)
@@ -129,7 +129,7 @@ state_lines version state = body_lines version state ++ end_line (length (body_l
 abbrev pub text_of_lines : List (List ℕ) → List ℕ
 text_of_lines lines = flat_map (λ line. line ++ 10 ∷ []) lines
 
--- the text of a state in a version
+-- the text of a state in the given version
 abbrev pub text_in : Version → SavedState → List ℕ
 text_in version state = text_of_lines (state_lines version state)
 

@@ -1,5 +1,5 @@
--- The states that a version of the text can represent: numbers and table are in range, the generation is at least 1,
--- the grace period is 0 before the first stage, and no further re-execution is pending.
+-- Which states a version of the text can represent: the numbers and the table are in range, the generation is at least
+-- 1, the grace period is 0 before the first stage, and no further re-execution is pending.
 use Rattle.std.specs.Prelude.{ℕ, Bool, true, not, ◌==◌, ◌^◌, ◌+◌, ◌&&◌, nat_le, nat_lt, List, length, Option, Some}
 use Rattle.std.specs.Prelude.{None, is_none}
 use Rattle.std.specs.List.{list_all}
@@ -73,6 +73,6 @@ abbrev pub has_short_seconds : CoreState → Bool
 has_short_seconds c =
     is_stage c.fields.stage c.fields.grace && is_goal c.fields.goal && passes is_goal c.fields.level_wish
 
--- the id of the record is valid, and the text can represent the number of its child and its last status
+-- the record's id is valid, and the text can represent the number of its child and the status of its last child
 abbrev pub has_ranged_words : SlotState → Bool
 has_ranged_words slot = is_id slot.id && passes is_child (child_number slot) && passes is_status slot.last

@@ -1,5 +1,5 @@
--- How to parse a line of a state text, word by word. `Lines` defines the meaning of a text: it represents the state
--- that is written as this text. The definitions here compute that state from the text.
+-- How to parse a line of a saved state, word by word. `Lines` defines the meaning of a text: the text represents the
+-- state whose written form it is. The definitions here compute that state from the text.
 use Rattle.std.specs.Prelude.{◌≡◌, ℕ, Bool, true, false, not, ◌==◌, ◌-◌, ◌&&◌, ◌^◌, if◌then◌else◌, nat_le, List, []}
 use Rattle.std.specs.Prelude.{◌∷◌, length, take, codes, Option, Some, None, option_and_then}
 use Rattle.std.specs.Option.{option_map}
@@ -33,7 +33,7 @@ pair x y = (x, y)
 abbrev pub pair_read : {X Y : Type 0} → ℕ → (List ℕ → Option X) → (List ℕ → Option Y) → List ℕ → Option (X × Y)
 pair_read mark first second text = option_and_then (λ parts. both pair (first parts.0) (second parts.1)) (cut mark text)
 
--- the text after a name and this byte, if the text begins with both
+-- the text after this name and this byte, if the text begins with them
 abbrev pub after_prefix : List ℕ → ℕ → List ℕ → Option (List ℕ)
 after_prefix name mark text =
     option_and_then (λ parts. if same_id parts.0 name then Some parts.1 else None) (cut mark text)
@@ -41,7 +41,7 @@ after_prefix name mark text =
 abbrev pub named_read : {X : Type 0} → List ℕ → ℕ → (List ℕ → Option X) → List ℕ → Option X
 named_read name mark read text = option_and_then read (after_prefix name mark text)
 
--- an optional value: the word for no value, or the word of a value
+-- an optional value: the given word for no value, or the word for a value
 abbrev pub or_read : {X : Type 0} → List ℕ → (List ℕ → Option X) → List ℕ → Option (Option X)
 or_read none read word = if same_id word none then Some None else option_map Some (read word)
 
@@ -54,7 +54,7 @@ time_read word = number_read (2 ^ 64) word
 abbrev pub generation_read : List ℕ → Option ℕ
 generation_read word = checked_by (λ n. nat_le 1 n) (time_read word)
 
--- the flag of a digit
+-- the flag that the digit represents
 abbrev pub bit_read : ℕ → Option Bool
 bit_read byte = if byte == 48 then Some false else if byte == 49 then Some true else None
 
@@ -90,11 +90,11 @@ goal_made p = record { level = p.0; grace = p.1 }
 abbrev pub goal_read : ℕ → List ℕ → Option Goal
 goal_read mark words = option_map goal_made (pair_read mark level_of_word seconds_of_word words)
 
--- two flags: a reading of inittab is pending, and a re-execution is pending, which must be false
+-- two flags: a reading of inittab is pending, and a re-execution is pending; the second must be false
 abbrev pub reread_read : List ℕ → Option (Bool × Bool)
 reread_read word = checked_by (λ p. not p.1) (two_bits word)
 
--- the values in the line of the pending requests
+-- the values on the line for the pending requests
 abbrev pub WishWords : Type 0
 WishWords = (Bool × Bool) × (Option Goal × ((Bool × (Bool × Bool)) × (Bool × (Bool × Bool))))
 
@@ -103,7 +103,7 @@ abbrev pub wishes_read : List ℕ → Option WishWords
 wishes_read words =
     pair_read 32 reread_read (pair_read 32 (dash_read (goal_read 58)) (pair_read 32 three_bits three_bits)) words
 
--- the stop state with this signal, sent at this time
+-- the stop state after this signal was sent at this time
 abbrev pub signal_read : List ℕ × List ℕ → Option Stop
 signal_read parts =
     if same_id parts.0 (codes "term") then option_map Termed (time_read parts.1)
@@ -114,12 +114,12 @@ signal_read parts =
 abbrev pub stop_read : List ℕ → Option Stop
 stop_read word = if same_id word (codes "due") then Some Due else option_and_then signal_read (cut 58 word)
 
--- the values of all elements of a list; none if one cannot be read
+-- the values that the elements of a list represent; none if one cannot be read
 abbrev pub all_read : {X Y : Type 0} → (X → Option Y) → List X → Option (List Y)
 all_read read [] = Some []
 all_read read (x ∷ xs) = both ◌∷◌ (read x) (all_read read xs)
 
--- the times of starts, separated by commas, or a dash; no more than the respawn limit counts
+-- the times of starts, separated by commas, or a dash if there are none; at most as many as the respawn limit counts
 abbrev pub starts_read : List ℕ → Option (List ℕ)
 starts_read word =
     if same_id word (codes "-") then Some []
@@ -146,7 +146,7 @@ abbrev pub ends_read : Version → List ℕ → Option EndWords
 ends_read V1 words = option_map without_status (starts_read words)
 ends_read V2 words = pair_read 32 starts_read (dash_read status_read) words
 
--- the end of the last hold, and the values after it
+-- the end of the last hold, followed by the times of the last starts and the status of the last child
 abbrev pub LimitWords : Type 0
 LimitWords = Option ℕ × EndWords
 
@@ -220,7 +220,7 @@ slot_line_read version line = option_map slot_made (named_read (codes "slot") 32
 abbrev pub line_read : {X : Type 0} → (List ℕ → Option X) → List ℕ → Option (X × List ℕ)
 line_read read text = option_and_then (λ parts. option_map (λ x. (x, parts.1)) (read parts.0)) (cut 10 text)
 
--- the values of two parts, one after the other, and the text after both
+-- two values read one after the other, and the text after both
 abbrev pub then_read : {X Y : Type 0} → (List ℕ → Option (X × List ℕ)) → (List ℕ → Option (Y × List ℕ))
     → List ℕ → Option ((X × Y) × List ℕ)
 then_read first second text = option_and_then (λ p. option_map (λ q. ((p.0, q.0), q.1)) (second p.1)) (first text)
@@ -280,7 +280,7 @@ fields_made words =
       pending = news_made flags.1.1.1.0 flags.1.1.1.1;
     }
 
--- the value that a function makes from the value read, and the text after it
+-- the value read, converted by a function, and the text after it
 abbrev pub made_read : {X Y : Type 0} → (X → Y) → Option (X × List ℕ) → Option (Y × List ℕ)
 made_read make found = option_map (λ p. (make p.0, p.1)) found
 
@@ -303,19 +303,19 @@ last_line text =
     option_and_then
     (λ parts. if is_empty parts.1 && starts_with ◌==◌ parts.0 (codes "end ") then Some parts.0 else None) (cut 10 text)
 
--- the text before the last line, and that line; none unless the line begins with `end ` and ends with a newline
+-- the text before its last line, and that line; none unless the last line begins with `end ` and ends with a newline
 abbrev pub end_split : List ℕ → Option (List ℕ × List ℕ)
 end_split text =
     option_and_then (λ rest. option_map (λ last. (take (length text - length rest) text, last)) (last_line rest))
     (after_lines (newlines text - 1) text)
 
--- the fault names a line, and this fact holds; or the fault is lack of memory
+-- the fault names a line and `fact` holds, or the fault is that memory ran out
 abbrev pub OnLine : Type 0 → StateFault → Type 0
 OnLine fact (Line number) = fact
 OnLine fact Memory = Unit {0}
 OnLine fact _ = ⊥
 
--- the fault of a part that could not be parsed
+-- the fault of a part of the text that could not be parsed
 abbrev pub UnreadState : {X : Type 0} → Option X → StateFault → Type 0
 UnreadState found why = OnLine (found ≡ None) why
 

@@ -1,4 +1,4 @@
--- Which texts represent states, and why a text is rejected.
+-- Which texts represent states, and the reasons why a text is rejected.
 use Rattle.std.specs.Prelude.{◌≡◌, ◌≢◌, ◌==◌, ℕ, Bool, true, not, List, [], ◌∷◌, ◌++◌, map, codes, None}
 use Rattle.std.specs.List.{list_all, starts_with}
 use Rattle.core_text.specs.CommonWords.{has_byte, PlainSlot, SavedState}
@@ -35,15 +35,15 @@ IsTextOf text state = (version : Version) × IsTextIn version text state
 abbrev pub SaysNone : List ℕ → Type 0
 SaysNone text = (state : SavedState) → IsTextOf text state → ⊥
 
--- the text is the first line of this version followed by the rest
+-- the text consists of the first line for this version and the given rest
 abbrev pub BeginsAs : Version → List ℕ → List ℕ → Type 0
 BeginsAs version text rest = version_line version ++ 10 ∷ rest ≡ text
 
--- the text begins with the first line of this version
+-- the text begins with the first line for this version
 abbrev pub Begins : List ℕ → Version → Type 0
 Begins text version = (rest : List ℕ) × BeginsAs version text rest
 
--- the text begins with the first line of some version
+-- the text begins with the first line for a known version
 abbrev pub BeginsAsKnown : List ℕ → Type 0
 BeginsAsKnown text = (version : Version) × Begins text version
 
@@ -62,8 +62,8 @@ pub record IsOther (text : List ℕ) (generation : ℕ) : Type 0 where
   pub other : state.fields.generation ≢ generation
 
 -- What each reason for rejecting a text implies. The text is cut short; or it is whole, but its first line names no
--- known version; or it is whole and has a known version, but represents no state (it is not specified which line the
--- fault names); or it represents a state of another generation. Lack of memory implies nothing about the text.
+-- known version; or it is whole and has a known version, but represents no state (which line the fault names is not
+-- specified); or it represents a state of another generation. If memory ran out, nothing is implied about the text.
 abbrev pub Refused : List ℕ → ℕ → StateFault → Type 0
 Refused text generation Cut = IsCut text
 Refused text generation OtherVersion = IsOtherVersion text
@@ -72,26 +72,26 @@ Refused text generation Generation = IsOther text generation
 Refused text generation Memory = Unit {0}
 Refused text generation _ = ⊥
 
--- the lines of these records form the text in this version
+-- the text consists of the lines for these records in this version
 abbrev pub AreRecords : Version → List ℕ → List PlainSlot → Type 0
 AreRecords version text records =
     (list_all (is_record version) records ≡ true) × (text_of_lines (map (slot_line version) records) ≡ text)
 
--- the text does not consist of the lines of any records in this version
+-- the text does not consist of the lines for any list of records in this version
 abbrev pub NoRecords : Version → List ℕ → Type 0
 NoRecords version text =
     (records : List PlainSlot) → list_all (is_record version) records ≡ true
     → text_of_lines (map (slot_line version) records) ≢ text
 
--- the text consists of the lines of the state in this version, except the last one
+-- the text consists of all lines of the state in this version except the last one
 abbrev pub IsBodyIn : Version → List ℕ → SavedState → Type 0
 IsBodyIn version text state = (is_state version state ≡ true) × (text_of_lines (body_lines version state) ≡ text)
 
--- the text consists of the lines of the state in some version, except the last one
+-- the text consists of all lines of the state in some version except the last one
 abbrev pub IsBody : List ℕ → SavedState → Type 0
 IsBody text state = (version : Version) × IsBodyIn version text state
 
--- the text does not consist of the lines of any state, except the last one
+-- the text does not consist of all lines except the last of any state
 abbrev pub NoBody : List ℕ → Type 0
 NoBody text = (state : SavedState) → IsBody text state → ⊥
 

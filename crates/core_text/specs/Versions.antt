@@ -1,4 +1,4 @@
--- The versions of the state text, and their limits on ids and tables.
+-- The versions of the saved state's text, and their limits on ids and tables.
 use Rattle.std.specs.Prelude.{ℕ, Bool, ◌&&◌, nat_le, List, length}
 use Rattle.std.specs.List.{list_all}
 use Rattle.core_text.specs.CommonWords.{Entry}
@@ -13,7 +13,7 @@ abbrev pub id_limit : Version → ℕ
 id_limit V1 = OLD_ID_LIMIT
 id_limit V2 = ID_LIMIT
 
--- the maximum number of entries of a table
+-- the maximum number of entries in a table
 abbrev pub entry_limit : Version → ℕ
 entry_limit V1 = OLD_ENTRY_LIMIT
 entry_limit V2 = ENTRY_LIMIT

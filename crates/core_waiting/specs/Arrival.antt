@@ -12,16 +12,16 @@ use Rattle.initctl_frame.specs.declared.requests.HeardRequest.TheVariants as got
 use Rattle.core_waiting.specs.Rest.{AtRest, is_awaited, awaited_children, is_empty, is_gone, count_wanted_waits}
 use Rattle.core_waiting.specs.Rest.{after_rounds}
 
--- for an excluded child, how many of the two signals that stop it are still to come, as far as init was told; 0 for a
+-- for an excluded child, the number of stop signals still to come (out of two), as far as init has learned; 0 for a
 -- child that is not excluded
 abbrev pub signals_to_come : List Event → Child → ℕ
 signals_to_come past child = if is_excluded past child then 2 - length (spell_hits child past) else 0
 
--- the child was sent exactly one of the two signals, so the KILL is still to come
+-- one of the child's two stop signals was sent, as far as init has learned, so its KILL is still to come
 abbrev pub has_kill_to_come : List Event → Child → Bool
 has_kill_to_come past child = signals_to_come past child == 1
 
--- init waits for the child, and if the child is excluded, it was sent a KILL
+-- init waits for the child, and no signal to it is still to come, so the child itself has to end
 abbrev pub has_to_end : List Event → Child → Bool
 has_to_end past child = is_awaited past child && signals_to_come past child == 0
 
@@ -36,7 +36,7 @@ is_vain_look id (Still i) = same_id id i
 is_vain_look id (NoLook i) = same_id id i
 is_vain_look id _ = false
 
--- in the round a look finds the id's child ended, or no look at it fails or finds it still running
+-- in the round, a look finds that the id's child has ended, or no look at it fails or finds it still running
 abbrev pub is_found_ended : List ℕ → List Event → Bool
 is_found_ended id round = list_any (is_end_seen id) round || not (list_any (is_vain_look id) round)
 
@@ -53,23 +53,23 @@ has_no_request (Got request ∷ stretch) = false
 has_no_request (NewTable table ∷ stretch) = false
 has_no_request (happening ∷ stretch) = has_no_request stretch
 
--- in the round the clock advances by the grace period, or each child whose KILL was still to come is gone
+-- in the round, the clock advances by the grace period, or each child whose KILL was still to come disappears
 abbrev pub makes_kills_due : List Event → List Event → Bool
 makes_kills_due round past =
     nat_le (time_of past + grace_of past) (time_of (round ++ past))
     || list_all (is_gone round past) (filter (has_kill_to_come past) (kept_children past))
 
 -- The round, which follows a rest, is undisturbed. It has no request and no new table, and it has a `nudge`. The clock
--- advances by the grace period, unless each child whose KILL was still to come is gone. Each child that had to end is
--- found ended by a look. At the end, no signal to a child has failed since the last `nudge`.
+-- advances by the grace period, unless each child whose KILL was still to come is gone. For each child that had to end,
+-- a look finds that it has ended. At the end, no signal to a child has failed since the last `nudge`.
 abbrev pub is_undisturbed : List Event → List Event → Bool
 is_undisturbed round past = has_no_request round && list_any is_nudge round
     && makes_kills_due round past
     && list_all (λ child. is_found_ended child.id round) (filter (has_to_end past) (kept_children past))
     && list_all (λ child. not (is_missed child (round ++ past))) (kept_children (round ++ past))
 
--- a list of rounds, newest first, that begins at a rest with no order open: each round leads to another such rest, and
--- has no request and no new table; anything else may happen in it
+-- the list, newest round first, begins at a rest with no order open, and each round ends at such a rest and has no
+-- request and no new table; anything else may happen in the rounds
 abbrev pub AreRoundsWithoutRequests : Goal → List (List Event) → List Event → Type 0
 AreRoundsWithoutRequests goal [] past = AtRest goal past × IsTrue (is_idle past)
 AreRoundsWithoutRequests goal (round ∷ earlier) past =
@@ -87,14 +87,14 @@ abbrev pub greatest : (Child → ℕ) → List Child → ℕ
 greatest of_child [] = 0
 greatest of_child (child ∷ children) = max (of_child child) (greatest of_child children)
 
--- the stages still to come on the way up to the goal's level
+-- the stages that init has yet to enter on its way to the level
 abbrev pub stages_ahead : Level → Option Stage → List Stage
 stages_ahead level (Some stage.Sysinit) =
     if same_level level S then stage.Run S ∷ [] else stage.Boot ∷ stage.Run level ∷ []
 stages_ahead level (Some stage.Boot) = stage.Run level ∷ []
 stages_ahead level _ = []
 
--- the level at which init arrives: the level in force, or else the level of the goal
+-- the level that init is heading for: the level in force, or else the given level
 abbrev pub destination : Level → Option Stage → Level
 destination level (Some (stage.Run now)) = now
 destination level _ = level
@@ -109,14 +109,14 @@ abbrev pub waits_ahead : Bool → List Entry → List Stage → ℕ
 waits_ahead news table [] = 0
 waits_ahead news table (stage ∷ stages) = length (filter (is_ahead news stage) table) + waits_ahead news table stages
 
--- the number of entries that init will wait for before the level is settled
+-- the number of entries that init will wait for before the level is settled, including those that are wanted now
 abbrev pub waits_to_come : Goal → List Event → ℕ
 waits_to_come goal past =
     waits_ahead (are_calls_pending past) (table_of past) (stages_ahead (goal_of goal past).level (stage_of past))
     + count_wanted_waits past
 
--- The number of undisturbed rounds after which the level is settled: one for each of these entries, one if init waits
--- for a child, and one for each signal still to come to the child with the most signals to come.
+-- The number of undisturbed rounds after which the level is settled: one for each entry that init will wait for, one if
+-- init waits for a child, and one for each signal still to come to the child with the most signals to come.
 abbrev pub rounds_to_come : Goal → List Event → ℕ
 rounds_to_come goal past =
     waits_to_come goal past + (if is_empty (awaited_children past) then 0 else 1)

@@ -12,7 +12,7 @@ use Rattle.core_waiting.specs.declared.rests.WhyAwaited.{WhyAwaited}
 use Rattle.core_waiting.specs.declared.rests.WhyAwaited.TheVariants.{Excluded, WaitedFor, InTheWay}
 use Rattle.core_waiting.specs.Rest.{is_awaited, why_awaited}
 
--- a child with the reason why init waits for it; none if init does not
+-- the child with the reason why init waits for it; none if init does not wait for it
 abbrev pub with_why : List Event → Child → Option Awaited
 with_why past child =
     option_map (λ why. record { id = child.id; number = child.number; why = why }) (why_awaited past child)
@@ -31,18 +31,18 @@ abbrev pub is_wanted_in : Option Stage → Entry → SlotState → Bool
 is_wanted_in None e slot = false
 is_wanted_in (Some stage) e slot = is_wanted_record stage e slot
 
--- the reason that the entry gives to wait for its child: init waits for the entry, or the entry is wanted again
+-- the reason why init waits for a child because of its entry: init waits for the entry, or the entry is wanted again
 abbrev pub why_by_entry : Option Stage → Option Entry → SlotState → Option WhyAwaited
 why_by_entry stage None slot = None
 why_by_entry stage (Some e) slot =
     if waited_of e then Some WaitedFor else if is_wanted_in stage e slot then Some InTheWay else None
 
--- the reason why init waits for a record's child, if it does: the child must be stopped, or its entry gives a reason
+-- the reason why init waits for a record's child, if it does: the child must be stopped, or its entry is a reason
 abbrev pub why_of_record : Option Stage → List Entry → SlotState → Option WhyAwaited
 why_of_record stage table slot =
     if is_some slot.stop then Some Excluded else why_by_entry stage (entry_of slot.id table) slot
 
--- the child of a record with the reason, if init waits for it
+-- the record's child and the reason why init waits for it; none if init does not wait for a child of the record
 abbrev pub awaited_of_record : Option Stage → List Entry → SlotState → Option Awaited
 awaited_of_record stage table slot =
     option_and_then (λ (child : KnownChild).

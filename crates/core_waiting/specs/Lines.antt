@@ -1,4 +1,4 @@
--- The messages about what init waits for while no level is announced settled, one per line.
+-- The messages that report what init waits for while no level is announced as settled, one per line.
 use Rattle.std.specs.Prelude.{ℕ, ◌-◌, if◌then◌else◌, List, [], ◌∷◌, ◌++◌, codes, decimal, Option, Some, None, is_some}
 use Rattle.std.specs.Prelude.{option_and_then}
 use Rattle.core_waiting.specs.Words.{Level, Stage, Sysinit, Boot, Run, level_code, SlotState, CoreState}
@@ -23,12 +23,12 @@ stage_words (Some (Run level)) = level_words level
 abbrev pub line_start : Option Stage → List ℕ
 line_start stage = codes "initd: " ++ (stage_words stage ++ codes " is waiting for ")
 
--- the line of a record with an open order
+-- the line for a record with an open order; empty if no order is open
 abbrev pub answer_line : Option Stage → SlotState → List ℕ
 answer_line stage slot =
     if is_some slot.order then line_start stage ++ (codes "an answer about " ++ (slot.id ++ codes "\n")) else []
 
--- the lines of all records with an open order
+-- the lines for all records with an open order
 abbrev pub answers_text : Option Stage → List SlotState → List ℕ
 answers_text stage [] = []
 answers_text stage (slot ∷ slots) = answer_line stage slot ++ answers_text stage slots
@@ -37,7 +37,7 @@ answers_text stage (slot ∷ slots) = answer_line stage slot ++ answers_text sta
 abbrev pub stop_in : List ℕ → List SlotState → Option Stop
 stop_in id slots = option_and_then (λ (slot : SlotState). slot.stop) (record_by_id id slots)
 
--- a text and a number of seconds
+-- the text followed by the number of seconds and ` s`
 abbrev pub seconds_words : List ℕ → ℕ → List ℕ
 seconds_words what seconds = what ++ (decimal seconds ++ codes " s")
 
@@ -53,26 +53,26 @@ stop_words grace now (Some (Killed time)) = codes "it is being stopped; KILL was
 stop_words grace now (Some Due) = codes "it must be stopped, but no signal has reached it yet"
 stop_words grace now None = codes "it must be stopped, but no signal has reached it yet"
 
--- a text and the number of the child in parentheses
+-- the text followed by the child's number in parentheses
 abbrev pub ended_words : List ℕ → ℕ → List ℕ
 ended_words what number = what ++ (codes " (" ++ (decimal number ++ codes ")"))
 
--- the reason why init waits for a child of this id and number
+-- the message that gives this reason for waiting for the child with this id and number
 abbrev pub why_of : CoreState → List ℕ → ℕ → WhyAwaited → List ℕ
 why_of core id number Excluded = stop_words core.fields.grace core.fields.time (stop_in id core.slots)
 why_of core id number WaitedFor = ended_words (codes "init waits until it exits") number
 why_of core id number InTheWay = ended_words (codes "its earlier child must exit first") number
 
--- the reason why init waits for the child
+-- the message that gives the reason why init waits for the child
 abbrev pub why_words : CoreState → Awaited → List ℕ
 why_words core awaited = why_of core awaited.id awaited.number awaited.why
 
--- the line of a child that init waits for
+-- the line for a child that init waits for
 abbrev pub end_line : CoreState → Awaited → List ℕ
 end_line core awaited =
     line_start core.fields.stage ++ (awaited.id ++ (codes ": " ++ (why_words core awaited ++ codes "\n")))
 
--- the lines of all children that init waits for
+-- the lines for all children that init waits for
 abbrev pub ends_text : CoreState → List Awaited → List ℕ
 ends_text core [] = []
 ends_text core (awaited ∷ others) = end_line core awaited ++ ends_text core others

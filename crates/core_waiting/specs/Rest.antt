@@ -14,14 +14,14 @@ use Rattle.init_words.specs.declared.orders.OrderKind.TheVariants.{Start, Term, 
 use Rattle.core_waiting.specs.declared.rests.WhyAwaited.{WhyAwaited}
 use Rattle.core_waiting.specs.declared.rests.WhyAwaited.TheVariants.{Excluded, WaitedFor, InTheWay}
 
--- the reason why init waits for a child of the entry, if it does: init waits for the entry, or the entry is wanted
--- again
+-- the reason why init waits for a child because of its entry, if it does: init waits for the entry, or the entry is
+-- wanted again
 abbrev pub why_of_entry : Option Entry → List Event → Option WhyAwaited
 why_of_entry None past = None
 why_of_entry (Some e) past =
     if waited_of e then Some WaitedFor else if is_wanted e past then Some InTheWay else None
 
--- the reason why init waits for a kept child, if it does: the child is excluded, or its entry gives a reason
+-- the reason why init waits for a kept child, if it does: the child is excluded, or its entry is a reason
 abbrev pub why_awaited : List Event → Child → Option WhyAwaited
 why_awaited past child =
     if is_excluded past child then Some Excluded else why_of_entry (entry_of child.id (table_of past)) past
@@ -47,7 +47,7 @@ is_empty (x ∷ xs) = false
 abbrev pub AtRest : Goal → List Event → Type 0
 AtRest goal past = due goal past ≡ []
 
--- the law holds at each moment of each sound trace at which init is at rest
+-- `Law` holds at each moment of each sound trace at which init is at rest
 abbrev pub AtEachRest : (List Event → Type 0) → Type 0
 AtEachRest Law = (goal : Goal) (later past : List Event) → IsTrue (is_sound goal (later ++ past)) → AtRest goal past
     → Law past
@@ -61,8 +61,8 @@ abbrev pub is_on_power : List Event → Child → Bool
 is_on_power past child =
     option_map_or (λ (e : Entry). answers_power e.act) (entry_of child.id (table_of past)) false
 
--- the signals sent to a child since it became excluded, newest first, have not ended it yet: a TERM whose grace period
--- is not over, or a KILL
+-- the stop signals for a child, newest first, have not had their effect yet: there is a TERM whose grace period is not
+-- over, or a KILL
 abbrev pub are_in_force : ℕ → ℕ → List Signal → Bool
 are_in_force grace now [] = false
 are_in_force grace now (signal ∷ []) = is_order Term signal.order && not (is_grace_over grace now signal)
@@ -75,7 +75,7 @@ is_stopping past child =
     not (is_excluded past child) || is_missed child past
     || are_in_force (grace_of past) (time_of past) (spell_hits child past)
 
--- the child's id has an open order, or a Look for it was ordered since the last round began
+-- an order is open for the child's id, or a Look at the child was ordered since the last round began
 abbrev pub is_looked_at : List Event → Child → Bool
 is_looked_at past child = is_some (open_of child.id past) || not (wants_look child.id past)
 
@@ -88,11 +88,12 @@ is_calm (Power kind ∷ between) = false
 is_calm (Call letter ∷ between) = false
 is_calm (happening ∷ between) = is_calm between
 
--- init waits for the entry of the id
+-- init waits for the id's entry
 abbrev pub is_waited_id : List ℕ → List Event → Bool
 is_waited_id id past = option_map_or waited_of (entry_of id (table_of past)) false
 
--- whenever a calm stretch separates two Starts of an id, the law holds for the id and the trace before the first Start
+-- whenever two Starts of an id in a sound trace have only a calm stretch in between, `Law` holds of the id and the
+-- trace before the first Start
 abbrev pub BetweenCalmStarts : (List ℕ → List Event → Type 0) → Type 0
 BetweenCalmStarts Law =
     (goal : Goal) (later between past : List Event) (id : List ℕ)
@@ -109,24 +110,25 @@ abbrev pub is_waited_start : List Event → Event → Bool
 is_waited_start past (Asked i Start) = is_waited_id i past
 is_waited_start past _ = false
 
--- a child from before the stretch is gone: its id has no kept child after the stretch, or was started during it, which
--- is only possible after the child is gone
+-- a child from before the stretch is gone: its id has no kept child after the stretch, or was started again during it,
+-- which is possible only once the child is gone
 abbrev pub is_gone : List Event → List Event → Child → Bool
 is_gone between past child =
     not (has_child child.id (kept_children (between ++ past))) || list_any (is_start_of child.id) between
 
--- the law holds whenever a calm stretch separates two rests with no order open
+-- whenever two rests with no order open have only a calm stretch in between, `Law` holds of the stretch and the trace
+-- before it
 abbrev pub BetweenRests : (List Event → List Event → Type 0) → Type 0
 BetweenRests Law =
     (goal : Goal) (later between past : List Event) → IsTrue (is_sound goal (later ++ (between ++ past)))
     → IsTrue (is_calm between) → AtRest goal past → IsTrue (is_idle past) → AtRest goal (between ++ past)
     → IsTrue (is_idle (between ++ past)) → Law between past
 
--- the entry is waited for and wanted
+-- init waits for the entry, and the entry is wanted
 abbrev pub is_wanted_wait : List Event → Entry → Bool
 is_wanted_wait past e = waited_of e && is_wanted e past
 
--- the number of waited entries that are wanted
+-- the number of wanted entries that init waits for
 abbrev pub count_wanted_waits : List Event → ℕ
 count_wanted_waits past = length (filter (is_wanted_wait past) (table_of past))
 

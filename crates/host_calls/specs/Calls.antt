@@ -1,4 +1,4 @@
--- The record that a host keeps of its calls, and the conditions for reporting that a call failed.
+-- A host's record of its calls, and the conditions for reporting that a call failed.
 use Rattle.std.specs.Prelude.{◌≡◌, ◌<◌, ◌≤◌, ◌+◌, ◌-◌, ◌^◌, ◌⊎◌, min, ℕ, Bool, true, false, if◌then◌else◌}
 use Rattle.std.specs.Prelude.{List, ◌∷◌, take, Option, Some, None, IfSome, Result, Ok, Err}
 use Rattle.init_words.specs.declared.entries.Entry.{Entry}
@@ -10,32 +10,33 @@ use Rattle.host_calls.specs.declared.calls.HostFault.{HostFault}
 use Rattle.host_calls.specs.declared.calls.Reply.{Reply}
 use Rattle.host_calls.specs.declared.calls.Reply.TheVariants.{Now, Later}
 
--- a call with its answer, regardless of the memory that holds its texts, its table and its files
+-- a call with its answer, regardless of the allocator of its texts, its table and its files
 abbrev pub HostCall : Type 0
 HostCall = Call (List ℕ) (List Entry) (List NamedText)
 
--- a text, or why it could not be read
+-- a text, or the reason why it could not be read
 abbrev pub TextRead : Type 0
 TextRead = Result (List ℕ) HostFault
 
--- the files of a table, or why they could not be read
+-- the files of a table, or the reason why they could not be read
 abbrev pub PartsRead : Type 0
 PartsRead = Result (List NamedText) HostFault
 
--- if the host's record, newest call first, is complete now, it was complete before, and this call was added
+-- if the host's record, newest call first, is complete now, then it was complete before the call, and the call was
+-- added
 abbrev pub AddsCall : Option (List HostCall) → Option (List HostCall) → HostCall → Type 0
 AddsCall old new call = IfSome new (λ all. (before : List HostCall) × (old ≡ Some before) × (all ≡ call ∷ before))
 
--- the count of faults never decreases, and if a call failed, it has increased or was at its maximum
+-- the number of faults never decreases, and if a call failed, it has increased or was at its maximum
 pub record FaultIsCounted (before now : ℕ) (failed : Bool) : Type 0 where
   pub later : before ≤ now
   pub cause : failed ≡ true → (before < now) ⊎ (before ≡ 2 ^ 64 - 1)
 
--- the count of faults after a call; it stays at its maximum
+-- the number of faults after a call; it stays at its maximum once it is there
 abbrev pub counted : Bool → ℕ → ℕ
 counted failed faults = if failed then min (faults + 1) (2 ^ 64 - 1) else faults
 
--- the answers that report a fault
+-- the answer reports a fault
 abbrev pub is_failed_answer : Answer → Bool
 is_failed_answer answer.NotBorn = true
 is_failed_answer answer.NoLook = true
@@ -47,7 +48,7 @@ abbrev pub is_failed_reply : Reply → Bool
 is_failed_reply (Now given) = is_failed_answer given
 is_failed_reply Later = false
 
--- the late answer reports a fault
+-- there is an answer that arrived after its call returned, and it reports a fault
 abbrev pub is_failed_late : Option (List ℕ × Answer) → Bool
 is_failed_late (Some late) = is_failed_answer late.1
 is_failed_late None = false
@@ -62,7 +63,7 @@ abbrev pub parts_read : {T : Type 0} → (T → List NamedText) → Result T Hos
 parts_read parts (Ok held) = Ok (parts held)
 parts_read parts (Err fault) = Err fault
 
--- the text that a call wrote to the front of a buffer
+-- the text that a call wrote to the front of a buffer, or the fault that it returned
 abbrev pub front_read : Result ℕ HostFault → List ℕ → TextRead
 front_read (Ok count) buffer = Ok (take count buffer)
 front_read (Err fault) buffer = Err fault

@@ -19,18 +19,18 @@ holds_child id held = list_any (λ child. same_id id child.0) held
 abbrev pub holds_number : ℕ → HeldChildren → Bool
 holds_number number held = list_any (λ child. number == child.1) held
 
--- the children, without any child of the id
+-- the children, except those of the id
 abbrev pub without_child : List ℕ → HeldChildren → HeldChildren
 without_child id held = filter (λ child. not (same_id id child.0)) held
 
--- A start: if the answer is Born, no child of the id was held before, and one with this number is held now. Any other
--- answer changes nothing.
+-- How a start changes the held children: if the answer is Born, no child of the id was held before, and one with this
+-- number is held now. Any other answer changes nothing.
 abbrev pub StartChangesHeld : HeldChildren → HeldChildren → List ℕ → Reply → Type 0
 StartChangesHeld held now id (Now (Born number)) = (holds_child id held ≡ false) × (now ≡ held ++ (id, number) ∷ [])
 StartChangesHeld held now id _ = now ≡ held
 
--- A look: if the answer is Ended, a child of the id was held before, and none is held now. If the answer is Alive, one
--- is held. Nothing else changes.
+-- How a look changes the held children: if the answer is Ended, a child of the id was held before, and none is held
+-- now. If the answer is Alive, a child of the id is held. Nothing else changes.
 abbrev pub LookChangesHeld : HeldChildren → HeldChildren → List ℕ → Reply → Type 0
 LookChangesHeld held now id (Now (Ended status)) = IsTrue (holds_child id held) × (now ≡ without_child id held)
 LookChangesHeld held now id (Now Alive) = IsTrue (holds_child id held) × (now ≡ held)
@@ -49,8 +49,8 @@ CallChangesHeld (Signal id sent reply) held now = SignalChangesHeld held now id 
 CallChangesHeld (Late late) held now = (late ≡ None) × (now ≡ held)
 CallChangesHeld _ held now = now ≡ held
 
--- if the children that the host holds are known after a call, they were known before it, and the call had exactly its
--- effect on them
+-- if the children that the host holds after a call are known, they were known before it, and the call changed them as
+-- `CallChangesHeld` states
 abbrev pub HeldChildrenAfter : Option HeldChildren → Option HeldChildren → HostCall → Type 0
 HeldChildrenAfter old new call =
     IfSome new (λ now. (before : HeldChildren) × (old ≡ Some before) × CallChangesHeld call before now)

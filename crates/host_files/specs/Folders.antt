@@ -1,4 +1,4 @@
--- Which files of a folder are parts of an inittab, and how reading them may fail.
+-- Which files in a folder are parts of an inittab, and how reading them may fail.
 use Rattle.std.specs.Prelude.{◌≡◌, ◌⊎◌, ℕ, Bool, ◌&&◌, ◌||◌, ◌==◌, not, List, [], ◌∷◌, ◌++◌, false, codes, string_bytes}
 use Rattle.std.specs.Prelude.{Option, Some, None, Result, Ok, Err, Vec, ⊤}
 use Rattle.init_words.specs.Parts.{NamedText}
@@ -20,7 +20,7 @@ is_name_byte byte = is_ascii_alphanumeric byte || byte == 46 || byte == 95 || by
 abbrev pub ends_in_tab : List ℕ → Bool
 ends_in_tab name = ends_with (λ a b. a == b) name (codes ".tab")
 
--- the name of a part: it does not begin with a dot, has only letters, digits and . _ -, and ends in .tab
+-- the name of a part of an inittab: it does not begin with a dot, has only letters, digits and . _ -, and ends in .tab
 abbrev pub is_part_name : List ℕ → Bool
 is_part_name name = not (is_hidden name) && list_all is_name_byte name && ends_in_tab name
 

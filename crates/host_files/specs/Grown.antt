@@ -5,9 +5,9 @@ use Rattle.host_files.specs.declared.channel_files.FoundFile.{FoundFile}
 use Rattle.host_files.specs.Channels.{ChannelCall, progress_of}
 use Rattle.host_files.specs.Channels.ChannelCall.{found, read}
 
--- The answers are about one file, with this device and inode number, that only grew, and had this text in the end. At
--- each look the file was at the path, no longer than the text, and no shorter than the part already read. Each request
--- was read after a first look, and is the part of the text at its position.
+-- All answers are about a single file, with this device and inode number, which only grew, and which had this text in
+-- the end. At each look, the file was at the path, no longer than the text, and no shorter than the part already read.
+-- Each request was read after a first look, and is the part of the text at its position.
 abbrev pub AreOfFile : ℕ → ℕ → List ℕ → Bool → List ChannelCall → Type 0
 AreOfFile device number text fresh [] = ⊤
 AreOfFile device number text fresh (found file ∷ told) =

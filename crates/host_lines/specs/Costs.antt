@@ -13,14 +13,14 @@ abbrev pub is_off : Act → Bool
 is_off act.Off = true
 is_off _ = false
 
--- the effect of a table on a child in a stage, given the table's entry with the child's id, if there is one
+-- how a table affects a child in a stage, given the table's entry for the child's id, if there is one
 abbrev pub line_of : Option Entry → Stage → ChildLine
 line_of None stage = line.Gone
 line_of (Some entry) stage =
     if is_off entry.act then line.Off else if lives_of entry stage then line.ActionChanged else line.NotInLevel
 
--- the child is stopped because inittab was read again: always if the line is gone or off, otherwise only if the stage
--- has not changed since the reading
+-- the child is stopped because inittab was read again: always if its line is gone or off, otherwise only if the stage
+-- has not changed since inittab was read
 abbrev pub stops_child : ChildLine → Bool → Bool
 stops_child line.Gone same = true
 stops_child line.Off same = true

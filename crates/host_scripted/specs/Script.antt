@@ -1,4 +1,4 @@
--- The answers that a scripted host still has, its record, and how its calls change them.
+-- The answers that a scripted host has yet to give, its record, and how its calls change them.
 use Rattle.std.specs.Prelude.{◌≡◌, ℕ, Bool, true, false, if◌then◌else◌, nat_lt, Option, Some, None, Result, Ok, Err}
 use Rattle.std.specs.Prelude.{List, [], ◌∷◌, ◌++◌, length, take, drop, reverse}
 use Rattle.init_words.specs.declared.orders.Answer.{Answer}
@@ -6,7 +6,7 @@ use Rattle.host_calls.specs.declared.calls.HostFault.{HostFault}
 use Rattle.host_calls.specs.declared.calls.Reply.{Reply}
 use Rattle.host_calls.specs.Calls.{HostCall, PartsRead, TextRead}
 
--- a queue of answers for each call that answers, the record of calls, and the number of faults
+-- a queue of answers for each kind of call that returns one, the record of calls, and the number of faults
 pub record Script : Type 0 where
   pub starts : List Reply
   pub looks : List Reply
@@ -28,22 +28,22 @@ first (item ∷ items) = Some item
 abbrev pub Becomes : Script → Script → Type 0
 Becomes new expected = new ≡ record expected { told = new.told }
 
--- the record of these calls, which are given oldest first: the calls newest first, or none if one could not be
+-- the record of these calls, given oldest first: the calls in reverse order, or none if one of them could not be
 -- recorded
 abbrev pub tale : Bool → List HostCall → Option (List HostCall)
 tale true calls = Some (reverse calls)
 tale false calls = None
 
--- the rest of a piece of bytes, after the bytes that fit in this much room
+-- the rest of a piece of bytes after those that fit in this room; nothing if all of them fit
 abbrev pub left_of : ℕ → TextRead → List TextRead
 left_of room (Ok bytes) = if nat_lt room (length bytes) then Ok (drop room bytes) ∷ [] else []
 left_of room (Err fault) = []
 
--- the part of a piece that fits in this much room
+-- the part of a piece that fits in this room
 abbrev pub taken_of : ℕ → TextRead → TextRead
 taken_of room (Ok bytes) = Ok (take room bytes)
 taken_of room (Err fault) = Err fault
 
--- the pieces, after the first one was taken up to a position
+-- the pieces that remain after the first one was read up to this position
 abbrev pub pieces_from : ℕ → List ℕ → List TextRead → List TextRead
 pieces_from position under_way pieces = left_of position (Ok under_way) ++ pieces

@@ -1,5 +1,5 @@
--- What a host asks of the system for each call that it receives, and how its answer follows from that. It makes at
--- most one call to the system for each call that it receives.
+-- The calls that a host makes to the system for each call that it receives, and how its answer follows from them. For
+-- each call that it receives, it makes at most one.
 use Rattle.std.specs.Prelude.{◌≡◌, ◌⊎◌, ℕ, Bool, false, List, [], ◌∷◌, ◌++◌, map, Option, Some, None}
 use Rattle.std.specs.Prelude.{◌/◌, Result, Ok, IfOk, IsErr}
 use Rattle.std.specs.Map.{lookup}
@@ -21,9 +21,9 @@ use Rattle.host_system.specs.Logs.{log_path}
 use Rattle.host_system.specs.Systems.{SystemCall, Waited, look_answer, sent, signal_answer}
 use Rattle.host_system.specs.Systems.SystemCall.{read_clock, read_file, run, spawn, try_wait}
 
--- The arguments start the process text of the id after a delay in seconds. If there is a folder of logs, the output
--- goes to the id's log there, or, if the host cannot open the log, the process is started as if there were no logs. If
--- children have groups, the process is started in a session of its own.
+-- The arguments start the id's process text after a delay in seconds. If there is a folder for logs, the output goes to
+-- the id's log there; if the host cannot open the log, the process is started as if there were no logs. If children
+-- have process groups, the process is started in its own session.
 abbrev pub AreStarted : Option (List ℕ) → Bool → ℕ → List ℕ → List ℕ → List (List ℕ) → Type 0
 AreStarted None groups delay id text words = words ≡ launched groups delay (words_run text)
 AreStarted (Some folder) groups delay id text words =
@@ -31,13 +31,13 @@ AreStarted (Some folder) groups delay id text words =
     ⊎ (words ≡ launched groups delay (words_run text))
 
 -- If the answer is `Born`, a process was started with these arguments and has that number. After any other answer,
--- either nothing was asked, or the process could not be started.
+-- either no call was made to the system, or the process could not be started.
 abbrev pub SpawnRequests : List (List ℕ) → Answer → List SystemCall → List SystemCall → Type 0
 SpawnRequests words (Born number) old new = new ≡ spawn words (Some number) ∷ old
 SpawnRequests words _ old new = (new ≡ old) ⊎ (new ≡ spawn words None ∷ old)
 
--- A start of the id's process text after a delay: a process is started at most once, with arguments that start this
--- text, and the answer says whether it was started.
+-- A start of the id's process text after a delay: at most one process is started, with arguments that start this text,
+-- and the answer says whether it was started.
 abbrev pub StartRequests : Option (List ℕ) → Bool → ℕ → List ℕ → List ℕ → Answer → List SystemCall → List SystemCall
     → Type 0
 StartRequests logs groups delay id text answer old new =
@@ -47,24 +47,24 @@ StartRequests logs groups delay id text answer old new =
 abbrev pub number_of : List ℕ → HeldChildren → Option ℕ
 number_of id held = lookup (same_id id) held
 
--- the process with the number was waited for once, with this outcome; if there is no number, nothing was asked, and the
--- wait counts as failed
+-- the host waited once for the process with this number, with this outcome; without a number, no call was made to the
+-- system, and the wait counts as failed
 abbrev pub WaitRequest : Option ℕ → Waited → List SystemCall → List SystemCall → Type 0
 WaitRequest (Some number) outcome old new = new ≡ try_wait number outcome ∷ old
 WaitRequest None outcome old new = (new ≡ old) × (outcome ≡ None)
 
--- A look at the child with the number: the answer is the outcome of the wait.
+-- A look at the child with this number, if there is one: the answer follows from the outcome of the wait.
 abbrev pub LookRequest : Option ℕ → Answer → List SystemCall → List SystemCall → Type 0
 LookRequest child answer old new = (outcome : Waited) × WaitRequest child outcome old new
     × (answer ≡ look_answer outcome)
 
--- the signal was sent once to the process with the number, or to its group, and either reached it or did not; if there
--- is no number, nothing was asked, and the signal reached no process
+-- the host sent the signal once to the process with this number, or to its process group, and `reached` says whether
+-- that succeeded; without a number, no call was made to the system, and `reached` is false
 abbrev pub SendRequest : Bool → Option ℕ → SignalKind → Bool → List SystemCall → List SystemCall → Type 0
 SendRequest groups (Some number) signal reached old new = new ≡ sent groups signal number reached ∷ old
 SendRequest groups None signal reached old new = (new ≡ old) × (reached ≡ false)
 
--- A signal to the child with the number: the answer says whether the signal reached it.
+-- A signal to the child with this number, if there is one: the answer says whether the signal reached it.
 abbrev pub SignalRequest : Bool → Option ℕ → SignalKind → Answer → List SystemCall → List SystemCall → Type 0
 SignalRequest groups child signal answer old new =
     (reached : Bool) × SendRequest groups child signal reached old new × (answer ≡ signal_answer reached)
@@ -74,7 +74,8 @@ abbrev pub AnsweredNow : Reply → (Answer → Type 0) → Type 0
 AnsweredNow (Now answer) P = P answer
 AnsweredNow Later P = ⊥
 
--- Some helper programs of the host were run to their end, and nothing else was asked. No helper is the child of an id.
+-- Some helper programs of the host were run until they ended, and no other call was made to the system. A helper is not
+-- the child of any id.
 abbrev pub RunsHelpers : List SystemCall → List SystemCall → Type 0
 RunsHelpers old new = (helpers : List (List (List ℕ))) × (new ≡ map run helpers ++ old)
 
@@ -83,7 +84,7 @@ abbrev pub AreSecondsOf : Option ℕ → Result ℕ HostFault → Type 0
 AreSecondsOf (Some time) seconds = seconds ≡ Ok (time / 1_000_000_000)
 AreSecondsOf None seconds = IsErr seconds
 
--- A reading of the clock: the system's clock was read once, and the answer follows from that.
+-- A reading of the clock: the system's clock was read once, and the answer is its time or a fault.
 abbrev pub ClockRequest : Result ℕ HostFault → List SystemCall → List SystemCall → Type 0
 ClockRequest seconds old new = (time : Option ℕ) × (new ≡ read_clock time ∷ old) × AreSecondsOf time seconds
 
@@ -93,8 +94,8 @@ abbrev pub TablesRequest : List ℕ → PartsRead → List SystemCall → List S
 TablesRequest path parts old new =
     (text : Option (List ℕ)) × (new ≡ read_file path text ∷ old) × IfOk parts (IsOwnFirst path text)
 
--- exactly what a call asks of the system, if the host has these settings, and had received these calls, newest first,
--- and held these children before the call
+-- exactly the calls that the host makes to the system for a call that it receives, given its settings, the calls that
+-- it had received before, newest first, and the children that it held
 abbrev pub SystemCallsForCall : HostSettings → HostCall → List HostCall → HeldChildren → List SystemCall
     → List SystemCall → Type 0
 SystemCallsForCall settings (Start id text reply) calls held old new = AnsweredNow reply (λ answer. StartRequests
@@ -107,9 +108,9 @@ SystemCallsForCall settings (Clock seconds) calls held old new = ClockRequest se
 SystemCallsForCall settings (ReadTables parts) calls held old new = TablesRequest settings.inittab parts old new
 SystemCallsForCall settings _ calls held old new = new ≡ old
 
--- The calls, newest first, are possible for a host with these settings that held no child before them, and holds these
--- children after them. The system calls are exactly those for these calls, in their order, after helpers that were run
--- before the first call.
+-- A host with these settings that held no children at first can receive these calls, newest first, and then hold these
+-- children. The system calls are those for each of the calls, in order, preceded by helpers that were run before the
+-- first call.
 abbrev pub AreSystemCallsFor : HostSettings → List HostCall → HeldChildren → List SystemCall → Type 0
 AreSystemCallsFor settings [] held asked = (held ≡ []) × RunsHelpers [] asked
 AreSystemCallsFor settings (call ∷ calls) held asked =

@@ -2,11 +2,11 @@
 use Rattle.std.specs.Prelude.{ℕ, ◌≤◌, ◌<◌, ◌+◌, Option, IsSomeAnd}
 use Rattle.host_system.specs.declared.deadlines.Span.{Span}
 
--- the time of an event lies between the first and the last that are known
+-- the first and the last time of the events are known, and this time lies between them
 abbrev pub Covers : Option Span → ℕ → Type 0
 Covers span time = IsSomeAnd span (λ known. (known.first ≤ time) × (time ≤ known.last))
 
--- this deadline is not later than that of any event that has not reached the age yet
+-- there is a deadline, no later than that of any event that has not reached the age yet
 abbrev pub IsNextDeadline : Option Span → ℕ → ℕ → Option ℕ → Type 0
 IsNextDeadline span age now deadline =
     (time : ℕ) → Covers span time → now < time + age → IsSomeAnd deadline (λ next. next ≤ time + age)

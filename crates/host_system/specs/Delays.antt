@@ -25,9 +25,9 @@ time_of [] = 0
 time_of (Clock (Ok time) ∷ calls) = time
 time_of (_ ∷ calls) = time_of calls
 
--- The delay of a start at this time, given the last start that counts. If starts are delayed at all, it is twice the
--- last delay, but at least one second and at most the longest delay. It is zero if no such start exists, or if at
--- least the longest delay has passed since the delay of that start was over.
+-- The delay of a start at this time, given the last start that counts toward delays. If starts are delayed at all, it
+-- is twice the last delay, but at least one second and at most the longest delay. It is zero if there is no last start,
+-- or if at least the longest delay has passed since the delay of the last start was over.
 abbrev pub delay_after : Option ℕ → ℕ → Option LastStart → ℕ
 delay_after (Some longest) time (Some last) =
     if nat_lt (time - last.at) (last.delay + longest) then min longest (max 1 (2 * last.delay)) else 0
@@ -43,7 +43,8 @@ abbrev pub is_entering : Event → Bool
 is_entering (Enter stage grace) = true
 is_entering _ = false
 
--- the last start of the id, if it counts: its child was born and sent no signal, and no stage was entered since
+-- the last start of the id, if it counts toward delays: its child was born and sent no signal, and no stage was entered
+-- since
 abbrev pub last_start : Option ℕ → List ℕ → List HostCall → Option LastStart
 last_start longest id [] = None
 last_start longest id (Start other text reply ∷ calls) =
@@ -57,15 +58,15 @@ last_start longest id (Announce happening ∷ calls) =
     if is_entering happening then None else last_start longest id calls
 last_start longest id (_ ∷ calls) = last_start longest id calls
 
--- the delay of the next start of the id in seconds, given the longest delay, if starts are delayed, and the calls
--- before
+-- the delay in seconds of the next start of the id, given the longest delay, if starts are delayed, and the previous
+-- calls, newest first
 abbrev pub start_delay : Option ℕ → List ℕ → List HostCall → ℕ
 start_delay longest id calls = delay_after longest (time_of calls) (last_start longest id calls)
 
 -- The state on which delays depend:
 -- - `longest`: the longest delay in seconds, if starts are delayed
 -- - `time`: the time of the last reading of the clock, in seconds
--- - `starts`: the ids with a last start that counts, each with that start
+-- - `starts`: for each id whose last start counts toward delays, the id and that start
 pub record DelayState : Type 0 where
   pub longest : Option ℕ
   pub time : ℕ
@@ -82,7 +83,7 @@ delay_state delays = record {
 abbrev pub HasRoom : {A : Type 0} → Delays A → Type 0
 HasRoom delays = IsSome delays.longest → 0 < spare delays.starts
 
--- this is the state of the delays after these calls; starts are recorded only if starts are delayed
+-- the delays have this state after the calls; starts are recorded only if starts are delayed
 abbrev pub AreDelaysAfter : DelayState → List HostCall → Type 0
 AreDelaysAfter delays calls = (delays.time ≡ time_of calls)
     × (IsSome delays.longest

@@ -11,8 +11,8 @@ bytes_taken (TakeBytes room (Ok bytes) ∷ calls) = bytes_taken calls ++ bytes
 bytes_taken (_ ∷ calls) = bytes_taken calls
 
 -- The calls returned the bytes that were read from the channel's file, each once and in order, except the rest of the
--- last request, which is returned next. Each request was read whole, from the end of the one before it, unless reading
--- began, or the channel was replaced or truncated, in between.
+-- last request, which is returned next. Each request was read whole, beginning where the previous one ended, unless
+-- reading began, or the channel was replaced or truncated, in between.
 abbrev pub AreBytesOfChannel : List HostCall → ChannelState → Type 0
 AreBytesOfChannel calls channel = HandedBytes channel (bytes_taken calls)
     × ReadsConsecutively channel.fresh channel.told

@@ -1,4 +1,4 @@
--- The state of a host over the operating system.
+-- The state of a host on the operating system.
 use Rattle.std.specs.Prelude.{ℕ, Bool, true, false, List, Option}
 use Rattle.init_words.specs.declared.orders.Answer.{Answer}
 use Rattle.init_words.specs.declared.orders.Answer.TheVariants.{Born, NotBorn, Ended, Alive, NoLook, Hit, Miss}
@@ -16,12 +16,12 @@ use Rattle.host_system.specs.Systems.{SystemCall}
 -- - `strict`: init rejects an inittab with a faulty line
 -- - `verbose`: the host reports the starts, ends and signals of children
 -- - `inittab`: the path of its inittab
--- - `logs`: the folder of the logs, if the children's output goes to logs
--- - `groups`: each child has a session of its own, and signals go to its process group
+-- - `logs`: the folder for the logs, if the children's output goes to logs
+-- - `groups`: each child has its own session, and signals go to its process group
 -- - `delays`: the state on which the delays of starts depend
 -- - `channel`: the request channel
 -- - `held`: the children that it holds
--- - `calls`: its calls, newest first
+-- - `calls`: the calls that it received, newest first
 -- - `asked`: the calls that it made to the system, newest first
 pub record HostState : Type 0 where
   pub faults : ℕ
@@ -46,20 +46,20 @@ settings_of host = record {
   fresh = host.channel.fresh;
 }
 
--- an answer that a start may have
+-- the answer is one that a start can have
 abbrev pub is_start_answer : Answer → Bool
 is_start_answer (Born number) = true
 is_start_answer NotBorn = true
 is_start_answer _ = false
 
--- an answer that a look may have
+-- the answer is one that a look can have
 abbrev pub is_look_answer : Answer → Bool
 is_look_answer (Ended status) = true
 is_look_answer Alive = true
 is_look_answer NoLook = true
 is_look_answer _ = false
 
--- an answer that a signal may have
+-- the answer is one that a signal can have
 abbrev pub is_signal_answer : Answer → Bool
 is_signal_answer Hit = true
 is_signal_answer Miss = true

@@ -12,7 +12,7 @@ use Rattle.trace_events.specs.Sound.{is_sound}
 use Rattle.host_calls.specs.declared.calls.Call.TheVariants.{Start, Look, Signal, Late}
 use Rattle.host_calls.specs.Calls.{HostCall}
 
--- the id that the call concerns: the id of its order, or of the late answer that it returns
+-- the id that the call is about: the id of its order, or of the late answer that it returned
 abbrev pub subject_of : HostCall → Option (List ℕ)
 subject_of (Start id command reply) = Some id
 subject_of (Look id reply) = Some id
@@ -20,14 +20,14 @@ subject_of (Signal id sent reply) = Some id
 subject_of (Late (Some late)) = Some late.0
 subject_of _ = None
 
--- the call concerns this id, and this order for the id is open in the trace
+-- the call is about this id, and this order for the id is open in the trace
 abbrev pub IsOpenOrderOfCall : HostCall → OrderKind → List ℕ → List Event → Type 0
 IsOpenOrderOfCall call order id front = (subject_of call ≡ Some id) × (open_of id front ≡ Some order)
 
--- `front` is the trace at the call. `world` is the trace after the call, with its answer; its unreaped children are the
--- ones that exist. `front` is sound and lawful. Each unreaped child in `world` is unreaped in `front`, or the call
--- concerns its id, whose Start is open in `front`. Each unreaped child in `front` is unreaped in `world`, or the call
--- concerns its id, whose Look is open in `front`.
+-- `front` is the trace before the answer to the call; `world` is the trace with the answer, so its unreaped children
+-- are the ones that exist. `front` is sound and lawful. Each unreaped child in `world` is unreaped in `front`, or the
+-- call is about its id, whose Start is open in `front`. Each unreaped child in `front` is unreaped in `world`, or the
+-- call is about its id, whose Look is open in `front`.
 pub record LeftByCrash (call : HostCall) (goal : Goal) (front world : List Event) : Type 0 where
   pub sound : IsTrue (is_sound goal front)
   pub lawful : IsTrue (is_lawful front)
@@ -43,8 +43,10 @@ is_of_idle_look (Still id) = true
 is_of_idle_look (Told id) = true
 is_of_idle_look _ = false
 
--- The same for a trace file that lacks the newest happenings of the trace, if looks that found nothing produced them
--- and they were not written yet. The call itself may be such a look, so its Look need not be open in the file.
+-- `file` is a trace file when init is killed; it may lack the newest happenings of the trace, if looks that found
+-- nothing produced them. `file` is sound and lawful. Each unreaped child in `world` is unreaped in `file`, or the call
+-- is about its id, whose Start is open in `file`. Each unreaped child in `file` is unreaped in `world`, or the call is
+-- about its id: its Look need not be open in the file.
 pub record LeftByCrashInFile (call : HostCall) (goal : Goal) (file world : List Event) : Type 0 where
   pub sound : IsTrue (is_sound goal file)
   pub lawful : IsTrue (is_lawful file)

@@ -5,7 +5,7 @@ use Rattle.supervisor.specs.EdgeWords.{NotRead, Handed, Goal, Event, LogState, R
 use Rattle.supervisor.specs.Point.{Point, point_after}
 use Rattle.supervisor.specs.CallsLead.{Takes, IfPossibleFrom, CallsWereInPlace, are_seconds_short}
 
--- the call announces the outcome of the call before it, which read inittab or handed over a state text
+-- the call announces the outcome of the previous call, which read inittab or handed over a saved state
 abbrev pub reports_outcome_of : HostCall → HostCall → Bool
 reports_outcome_of (Announce NotRead) (ReadTables parts) = true
 reports_outcome_of (Announce (Handed how)) (Carry text back) = true
@@ -16,7 +16,7 @@ abbrev pub AtEachCall : (List HostCall → Type 0) → List HostCall → Type 0
 AtEachCall P calls = (later earlier : List HostCall) (next call : HostCall)
     → calls ≡ later ++ next ∷ call ∷ earlier → reports_outcome_of next call ≡ false → P (call ∷ earlier)
 
--- the trace had grown, and the log's later contents begin with the happenings added by then
+-- the trace has grown, and what the log contains in the end begins with the happenings that were added so far
 pub record Began (old new : LogState) (past now : List Event) : Type 0 where
   pub came : List Event
   pub grown : now ≡ came ++ past

@@ -12,7 +12,7 @@ pub record Grows (old new : LogState) : Type 0 where
   pub stays : old.failed ≡ true → new.failed ≡ true
 
 -- if the grace periods in the core were at most 3,600 seconds, they still are, and the log has only grown, whatever the
--- answers
+-- host answered
 abbrev pub ExtendsLogFromCore : CoreState → CoreState → LogState → LogState → Type 0
 ExtendsLogFromCore c new old_log new_log =
     has_short_seconds c ≡ true → (has_short_seconds new ≡ true) × Grows old_log new_log
@@ -21,7 +21,7 @@ ExtendsLogFromCore c new old_log new_log =
 abbrev pub HasReadSomeBytes : PartialBlock → Type 0
 HasReadSomeBytes blocks = (over : List ℕ) × HasReadBytes blocks over
 
--- the same, if the reader of requests had read some bytes of an incomplete block; it still has then
+-- if the reader of requests had read some bytes of an incomplete block, it still has, and `ExtendsLogFromCore` holds
 abbrev pub ExtendsLogFromReader : CoreState → CoreState → PartialBlock → PartialBlock → LogState → LogState → Type 0
 ExtendsLogFromReader c new blocks new_blocks old_log new_log =
     HasReadSomeBytes blocks → HasReadSomeBytes new_blocks × ExtendsLogFromCore c new old_log new_log

@@ -4,7 +4,7 @@ use Rattle.supervisor.specs.Words.{Entry, Level, is_distinct, NewTable, Goal, Ev
 use Rattle.supervisor.specs.Words.{opening_state, LogState, HostCall, EdgeState, Point}
 use Rattle.supervisor.specs.Parts.{HoldsAfterTurns, MadeCallsLeadFrom}
 
--- the point at which a run begins: its trace has only the table in force
+-- the point at which a run begins: its trace has only the first table
 abbrev pub start_point : List Entry → Point
 start_point table = record { over = []; lates = 0; generation = 0; past = NewTable table ∷ [] }
 

@@ -22,7 +22,8 @@ use Rattle.supervisor.specs.Fronts.{Fronts}
 
 -- The calls have this shape, and lead from points that meet the condition `fitted` to points that meet the condition
 -- `fit`. `Fronts` holds up to each call, if the answers so far were possible. At each call, the log had accepted
--- everything since `from`, or had failed. If the edge records its calls, these are the calls that it recorded.
+-- everything since `from`, or had failed. If the edge records its calls, these are the calls recorded between its two
+-- states.
 abbrev pub MadeCallsLeadFrom : {L : Type 0} → (Point → List Event) → (L → LogState) → Option (List (Made L))
     → Option (List (Made L)) → LogState → LogState → (List HostCall → Type 0) → (Goal → Point → Type 0)
     → (Goal → Point → Type 0) → Type 0
@@ -31,7 +32,8 @@ MadeCallsLeadFrom from state told now_told log now_log Shape fitted fit =
     (λ made_calls. Shape (calls_of made_calls) × IfPossibleFrom fitted (Went from fit log now_log) (calls_of made_calls)
     × Fronts from fitted log now_log (calls_of made_calls) × Kept state from fitted log made_calls)
 
--- the same between two states of an edge, if its log had received the whole trace before
+-- between these states of an edge, whose log had received the whole trace before, calls were made that have this shape
+-- and lead from points that meet `fitted` to points that meet `fit` (`MadeCallsLeadFrom`)
 abbrev pub MadeCallsLead : {H L : Type 0} → (L → LogState) → EdgeState H L → EdgeState H L → (List HostCall → Type 0)
     → (Goal → Point → Type 0) → (Goal → Point → Type 0) → Type 0
 MadeCallsLead state old new = MadeCallsLeadFrom past_of state old.told new.told (state old.log) (state new.log)
@@ -45,18 +47,19 @@ is_end _ = false
 abbrev pub IsReading : List HostCall → Type 0
 IsReading calls = (time : Result ℕ HostFault) × (calls ≡ Clock time ∷ [])
 
--- the only call asked for bytes, after the turn had taken `before` bytes, with room within the limits of a turn; it
+-- the only call asked for bytes, when the turn had taken `before` bytes, with room within the limits of a turn; it
 -- returned `count` bytes, where a failure counts as 0 bytes
 abbrev pub IsBytesCall : ℕ → ℕ → List HostCall → Type 0
 IsBytesCall before count calls = (room : ℕ) × (taken : TextRead) × (calls ≡ TakeBytes room taken ∷ [])
     × (is_room room before ≡ true) × (bytes_in taken ≡ count)
 
--- the only call asked for a late answer, after `before` such calls; `last` is true if it was the last one of the turn
+-- the only call asked for a late answer, after `before` earlier calls for late answers; `last` is true if it was the
+-- last one in the turn
 abbrev pub IsLateCall : ℕ → Bool → List HostCall → Type 0
 IsLateCall before last calls = (late : Option (List ℕ × Answer)) × (calls ≡ Late late ∷ [])
     × (last ≡ is_last late before)
 
--- the calls carry out one step other than a reading of inittab
+-- the calls carry out one step that is not a reading of inittab
 abbrev pub IsStep : List HostCall → Type 0
 IsStep calls = is_step calls ≡ true
 
@@ -64,7 +67,7 @@ IsStep calls = is_step calls ≡ true
 abbrev pub IsReread : Bool → List HostCall → Type 0
 IsReread strict calls = is_reread strict calls ≡ true
 
--- if nothing was due, no call was made; otherwise the calls carry out one step
+-- the calls carry out one step, or there are none because nothing was due
 abbrev pub IsStepUnlessIdle : Bool → Bool → List HostCall → Type 0
 IsStepUnlessIdle strict true calls = calls ≡ []
 IsStepUnlessIdle strict false calls = (is_step calls || is_reread strict calls) ≡ true
@@ -76,14 +79,14 @@ pub record AreAllSteps (strict done : Bool) (calls : List HostCall) : Type 0 whe
   pub most : count ≤ STEP_LIMIT
   pub ended : IsTrue done ⊎ (count ≡ STEP_LIMIT)
 
--- The hand-over of a state text has this outcome, and leaves init's core unchanged: the text was taken over, or
+-- The hand-over of a saved state has this outcome and leaves init's core unchanged: the text was taken over, or
 -- rejected for the reason that `how` names. This holds if the core obeys the rules, the text represents its state, and
 -- the host returned the text in a permitted way.
 abbrev pub HandOverYields : HandOver → List ℕ → TextRead → CoreState → CoreState → Type 0
 HandOverYields how text back old new = IsFit old → IsTextOf text (state_of old)
     → IsTrue (comes_back old.fields.generation text back) → (new ≡ old) × IsTrue (is_outcome how text back)
 
--- unless the text was taken over, init announced the outcome of the hand-over, with this log
+-- unless the text was taken over, init announced the outcome of the hand-over, with this log at that moment
 abbrev pub AnnouncesRefusal : {L : Type 0} → HandOver → Option (List (Made L)) → Option (List (Made L)) → L → Type 0
 AnnouncesRefusal handed.Whole told now_told log = now_told ≡ told
 AnnouncesRefusal how told now_told log = AddsStamped told now_told (Announce (Handed how)) log
@@ -106,15 +109,17 @@ pub record AnnouncesStep (made : Step) (happening : Event) : Type 0 where
       → may_announce goal happening earlier past ≡ true
 
 -- The condition after a turn: init's core tracks the trace, and the reader of requests has read the bytes of an
--- incomplete block; the unreaped children of the trace are the children in the records, corrected for the answers not
--- yet told to init; and if the turn was done, nothing is due.
+-- incomplete block; the unreaped children of the trace are the children in the records, corrected for the answers that
+-- init has not learned of; and if the turn was done, nothing is due.
 pub record HoldsAfterTurn (done : Bool) (core : CoreState) (blocks : PartialBlock) (goal : Goal) (p : Point) : Type 0
   where
     pub at : TracksPoint core blocks goal p
     pub children : (id : List ℕ) (n : ℕ) → is_unreaped id n p.past ≡ is_recorded id n core p.past
     pub rests : IsTrue done → first (due goal p.past) ≡ step.Idle
 
--- the condition after all turns: the same for the core and the children, whatever the reader of requests has read
+-- The condition after all turns: init's core tracks the trace, and the unreaped children of the trace are the children
+-- in the records, corrected for the answers that init has not learned of; the reader of requests may have read
+-- anything.
 abbrev pub HoldsAfterTurns : CoreState → Goal → Point → Type 0
 HoldsAfterTurns core goal p =
     Tracks core goal p × ((id : List ℕ) (n : ℕ) → is_unreaped id n p.past ≡ is_recorded id n core p.past)

@@ -29,7 +29,7 @@ use Rattle.core_text.specs.Reading.{generation_of}
 use Rattle.host_calls.specs.declared.calls.Reply.{Reply}
 use Rattle.supervisor.specs.declared.TheConstants.{LATE_LIMIT}
 
--- the state after some calls: the bytes of an incomplete request block, how often init asked for late answers since it
+-- the state after some calls: the bytes of an incomplete request block, the number of calls for late answers since init
 -- read the clock, the generation of init's state, and the trace
 pub record Point : Type 0 where
   pub over : List ℕ
@@ -43,7 +43,7 @@ last_birth id [] = 0
 last_birth id (happened.Birth i number ∷ past) = if same_id id i then number else last_birth id past
 last_birth id (_ ∷ past) = last_birth id past
 
--- the trace with the act that an answer reports; an end reports the death and the reaping of the last child born
+-- the trace after the act that an answer reports; an end reports the death and the reaping of the last child born
 abbrev pub acted : List ℕ → Answer → List Event → List Event
 acted id (answer.Born number) past = happened.Birth id number ∷ past
 acted id answer.NotBorn past = happened.NoBirth id ∷ past
@@ -54,7 +54,7 @@ acted id answer.NoLook past = happened.NoLook id ∷ past
 acted id answer.Hit past = happened.Hit id ∷ past
 acted id answer.Miss past = happened.Miss id ∷ past
 
--- the id has an open order of the answer's kind; init accepts no other answer
+-- the id has an open order that the answer fits; init accepts no other answer
 abbrev pub is_asked_for : List ℕ → Answer → List Event → Bool
 is_asked_for id given past = option_map_or (answers given) (open_of id past) false
 
@@ -77,16 +77,16 @@ abbrev pub order_for : SignalKind → OrderKind
 order_for signal.Term = ask.Term
 order_for signal.Kill = ask.Kill
 
--- a late answer adds the same happenings to the trace as any other answer
+-- the trace after a late answer, which adds the same happenings as any other answer; unchanged if there is none
 abbrev pub come : Option (List ℕ × Answer) → List Event → List Event
 come (Some late) past = answered late.0 late.1 past
 come None past = past
 
--- this is the last call for late answers in the turn: it returned none, or it reached the limit
+-- this is the turn's last call for late answers: it returned none, or the turn has reached its limit of such calls
 abbrev pub is_last : Option (List ℕ × Answer) → ℕ → Bool
 is_last late lates = is_none late || lates + 1 == LATE_LIMIT
 
--- the round begins after the last call for late answers
+-- the trace after a call for late answers: if it was the last one in the turn, the round begins
 abbrev pub nudged_if : Bool → List Event → List Event
 nudged_if true past = happened.Nudge ∷ past
 nudged_if false past = past
@@ -96,7 +96,7 @@ abbrev pub clocked : Result ℕ HostFault → List Event → List Event
 clocked (Ok reading) past = happened.Clock reading ∷ past
 clocked (Err fault) past = past
 
--- the point with these bytes of a block: if they complete it, the request of the block is added to the trace
+-- the point with these bytes of a block: if the block is complete, its request is added to the trace
 abbrev pub filled : List ℕ → Point → Point
 filled over p =
     if length over == BLOCK then record p { over = []; past = happened.Got (heard_of over) ∷ p.past }
@@ -116,13 +116,13 @@ abbrev pub taken_after : TextRead → Point → Point
 taken_after (Ok bytes) p = bytes_after bytes p
 taken_after (Err fault) p = p
 
--- a reading of inittab adds its table, or `notread` if it failed or the files are too many or too long
+-- the happening of a reading of inittab: its table, or `notread` if it failed or the files are too many or too long
 abbrev pub reading : PartsRead → Event
 reading (Ok parts) =
     if are_readable (texts_of parts) then happened.NewTable (table_of_texts (texts_of parts)) else happened.NotRead
 reading (Err fault) = happened.NotRead
 
--- the trace without its newest happening, if that is a reading of inittab
+-- the trace without its newest happening, if that is the reading of a table or `notread`
 abbrev pub before_reading : List Event → List Event
 before_reading (happened.NewTable table ∷ past) = past
 before_reading (happened.NotRead ∷ past) = past
@@ -132,17 +132,17 @@ before_reading past = past
 abbrev pub same_text : List ℕ → List ℕ → Bool
 same_text = pointwise ◌==◌
 
--- the host returned the state text unchanged
+-- the host returned the saved state unchanged
 abbrev pub came_whole : List ℕ → TextRead → Bool
 came_whole text (Ok back) = same_text text back
 came_whole text (Err fault) = false
 
--- the host returned the state text cut short: a proper prefix of it
+-- the host returned the saved state cut short: a proper prefix of it
 abbrev pub came_cut : List ℕ → TextRead → Bool
 came_cut text (Ok back) = starts_with ◌==◌ text back && nat_lt (length back) (length text)
 came_cut text (Err fault) = false
 
--- if a state text came back unchanged, init takes it over, which adds `handed whole` to the trace
+-- the trace after the hand-over: if the saved state came back unchanged, init takes it over, which adds `handed whole`
 abbrev pub handed_if : Bool → List Event → List Event
 handed_if true past = happened.Handed handed.Whole ∷ past
 handed_if false past = past
@@ -152,7 +152,7 @@ abbrev pub before_handing : List Event → List Event
 before_handing (happened.Handed how ∷ past) = past
 before_handing past = past
 
--- init announces this kind of happening
+-- init announces happenings of this kind
 abbrev pub is_announcement : Event → Bool
 is_announcement (happened.Enter stage grace) = true
 is_announcement (happened.Call letter) = true
@@ -162,7 +162,7 @@ is_announcement (happened.Settle level) = true
 is_announcement _ = false
 
 -- The trace after an announcement. A step of init is added. `notread` replaces the reading of a table that init did not
--- adopt. A hand-over that failed replaces the hand-over whose text was not taken over.
+-- adopt. The failure of a hand-over replaces the hand-over in the trace.
 abbrev pub announced : Event → List Event → List Event
 announced happened.NotRead past = happened.NotRead ∷ before_reading past
 announced (happened.Handed how) past = happened.Handed how ∷ before_handing past
@@ -193,17 +193,17 @@ abbrev pub is_command : List ℕ → List ℕ → List Event → Bool
 is_command id text past =
     option_map_or (λ e. same_text text (command_of e)) (entry_of id (table_of past)) false
 
--- the newest call read inittab
+-- the newest call was a reading of inittab
 abbrev pub was_reading : List HostCall → Bool
 was_reading (ReadTables parts ∷ calls) = true
 was_reading _ = false
 
--- the text names this generation
+-- the text is a saved state of this generation
 abbrev pub is_of_generation : ℕ → List ℕ → Bool
 is_of_generation generation text = option_map_or (λ g. g == generation) (generation_of text) false
 
--- The outcome `how` is right for a state text that was not taken over: it came back cut to `bytes` bytes; or as a text
--- of another generation; or the outcome is `Failed`, and the text did not come back cut.
+-- The outcome `how` is right for a saved state that was not taken over: the text came back cut to `bytes` bytes; or it
+-- came back as a text of another generation; or the outcome is `Failed`, and the text did not come back cut.
 abbrev pub is_refusal : HandOver → List ℕ → TextRead → Bool
 is_refusal (handed.Cut bytes) text (Ok back) = came_cut text (Ok back) && length back == bytes
 is_refusal (handed.Older generation) text (Ok back) =
@@ -211,12 +211,12 @@ is_refusal (handed.Older generation) text (Ok back) =
 is_refusal handed.Failed text back = not (came_cut text back)
 is_refusal _ text back = false
 
--- the calls that hand over a text and announce the outcome; `handed whole` is not announced
+-- the calls that hand over a saved state and announce the outcome; `handed whole` is not announced
 abbrev pub carrying : HandOver → List ℕ → TextRead → List HostCall
 carrying handed.Whole text back = Carry text back ∷ []
 carrying how text back = Announce (happened.Handed how) ∷ Carry text back ∷ []
 
--- the outcome `how` is right for a state text: it came back unchanged and was taken over, or `is_refusal` holds
+-- the outcome `how` is right for a saved state: the text came back unchanged and was taken over, or `is_refusal` holds
 abbrev pub is_outcome : HandOver → List ℕ → TextRead → Bool
 is_outcome handed.Whole text back = came_whole text back
 is_outcome how text back = is_refusal how text back
@@ -225,21 +225,21 @@ is_outcome how text back = is_refusal how text back
 abbrev pub is_first : Goal → Step → List Event → Bool
 is_first goal step past = same_step step (first (due goal past))
 
--- the happening is the first due step of init
+-- the happening is the first due step
 abbrev pub is_first_step : Goal → Event → List Event → Bool
 is_first_step goal happening past = option_map_or (λ step. is_first goal step past) (step_in happening) false
 
--- Init may announce the happening: it is the first due step, or it reports that such a step failed. For `notread`, the
--- previous call read inittab. For a hand-over, the previous call handed over the state text, with this outcome; or a
--- re-execution was due and init could not make the text.
+-- Init may announce the happening: it is the first due step, or it reports that the first due step failed. For
+-- `notread`, the previous call read inittab. For a hand-over, the previous call handed over the saved state, with this
+-- outcome; or a re-execution was due and init could not save its state.
 abbrev pub may_announce : Goal → Event → List HostCall → List Event → Bool
 may_announce goal happened.NotRead earlier past = was_reading earlier
 may_announce goal (happened.Handed how) (Carry text back ∷ earlier) past = is_refusal how text back
 may_announce goal (happened.Handed handed.Failed) earlier past = is_first goal step.Reexec past
 may_announce goal happening earlier past = is_announcement happening && is_first_step goal happening past
 
--- Init may make the call at this point: it carries out the first due step, and a start uses the command of the id in
--- the table in force.
+-- Init may make the call at this point: the call carries out the first due step, and a start uses the command of the
+-- id's entry in the table in force.
 abbrev pub is_in_place : Goal → HostCall → List HostCall → List Event → Bool
 is_in_place goal (Start id command reply) earlier past =
     is_first goal (step.Order id ask.Start) past && is_command id command past
@@ -263,7 +263,7 @@ tells_outcomes (Announce (happened.Handed how) ∷ Carry text back ∷ calls) = 
 tells_outcomes (Carry text back ∷ calls) = came_whole text back && tells_outcomes calls
 tells_outcomes (_ ∷ calls) = tells_outcomes calls
 
--- the calls determine a trace: init made each at a point at which it was allowed, and they show the outcome of each
+-- the calls determine a trace: init was allowed to make each call at its point, and the calls show the outcome of each
 -- hand-over
 abbrev pub has_trace : Goal → List HostCall → Point → Bool
 has_trace goal calls p = tells_outcomes calls && are_in_place goal calls p

@@ -15,7 +15,7 @@ use Rattle.supervisor.specs.declared.TheConstants.{BYTE_LIMIT, PIECE, LATE_LIMIT
 use Rattle.supervisor.specs.Point.{Point, point_after}
 use Rattle.supervisor.specs.CallsLead.{Tracks, IfPossibleFrom, are_seconds_short}
 
--- the call takes no bytes
+-- the call does not ask for bytes
 abbrev pub takes_no_bytes : HostCall → Bool
 takes_no_bytes (TakeBytes room taken) = false
 takes_no_bytes _ = true
@@ -31,7 +31,7 @@ bytes_taken [] = 0
 bytes_taken (TakeBytes room taken ∷ calls) = bytes_taken calls + bytes_in taken
 bytes_taken (_ ∷ calls) = bytes_taken calls
 
--- the room is at least one byte, at most one piece, and at most the bytes that the turn may still read
+-- the room is at least one byte, at most one piece, and at most the number of bytes that the turn may still read
 abbrev pub is_room : ℕ → ℕ → Bool
 is_room room before = nat_le 1 room && nat_le room PIECE && nat_le (before + room) BYTE_LIMIT
 
@@ -54,13 +54,13 @@ abbrev pub has_come : HostCall → Bool
 has_come (Late (Some late)) = true
 has_come _ = false
 
--- the calls asked for late answers until there was none, or the turn reached its limit of such calls
+-- the calls asked for late answers until there was none, or until the turn reached its limit of calls for late answers
 abbrev pub are_late_answers : List HostCall → Bool
 are_late_answers (Late None ∷ calls) = list_all has_come calls && nat_lt (length calls) LATE_LIMIT
 are_late_answers calls = list_all has_come calls && length calls == LATE_LIMIT
 
--- The calls carry out one step other than a reading of inittab: an order, an announcement, or a hand-over of the state
--- text, followed by the announcement of its outcome if the text was not taken over.
+-- The calls carry out one step that is not a reading of inittab: an order, an announcement, or a hand-over of a saved
+-- state followed by the announcement of its outcome if the text was not taken over.
 abbrev pub is_step : List HostCall → Bool
 is_step (Start id command reply ∷ []) = true
 is_step (Look id reply ∷ []) = true
@@ -70,7 +70,7 @@ is_step (Announce happening ∷ []) = true
 is_step (Announce (Handed how) ∷ Carry text back ∷ []) = true
 is_step _ = false
 
--- init may adopt the table of these files: they are not too many or too long, and with `--strict` no line is faulty
+-- init may adopt the table in these files: they are not too many or too long, and with `--strict` no line is faulty
 abbrev pub may_take : Bool → PartsRead → Bool
 may_take strict (Ok parts) =
     are_readable (texts_of parts) && (not strict || length (faults_of_parts (texts_of parts)) == 0)
@@ -104,8 +104,8 @@ pub record IsTurn (strict done : Bool) (calls : List HostCall) : Type 0 where
   pub ended : IsTrue done ⊎ (count ≡ STEP_LIMIT)
 
 -- The state after a turn that followed the calls `before`. The trace is sound and the core tracks it; if the turn was
--- done, nothing is due; and if the grace periods at the beginning were at most 3,600 seconds, the turn only added to
--- the trace.
+-- done, nothing is due; and if the grace periods before the turn were at most 3,600 seconds, the turn only added to the
+-- trace.
 pub record Turned (done : Bool) (core : CoreState) (before : List HostCall) (goal : Goal) (p : Point)
     (calls : List HostCall) : Type 0 where
   pub sound : IsTrue (is_sound goal (point_after calls p).past)

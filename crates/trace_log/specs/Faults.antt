@@ -1,4 +1,4 @@
--- The message for a fault of a log, and how much of the happening's text has been written when the fault occurs.
+-- The message for a fault of a log, and how much of a happening's text is written when the fault occurs.
 use Rattle.std.specs.Prelude.{ℕ, List, codes, Option}
 use Rattle.std.specs.Io.KnownBytes.{Keeps}
 use Rattle.program_io.specs.Writing.{AppendsFront}

@@ -9,10 +9,10 @@ pub record LogState : Type 1 where
   pub failed : Bool
   pub noted : Option (List ℕ)
 
--- the log has taken this happening in addition, after all that it had taken before
+-- the log has taken this happening, after all happenings that it had taken before
 abbrev pub AcceptsHappening : LogState → LogState → Event → Type 0
 AcceptsHappening old new happening = (before : List Event) → old.taken before → new.taken (before ++ happening ∷ [])
 
--- the log has taken the same happenings as before
+-- the log has not taken any more happenings
 abbrev pub Stays : LogState → LogState → Type 0
 Stays old new = (before : List Event) → old.taken before → new.taken before

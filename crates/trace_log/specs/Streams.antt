@@ -1,4 +1,4 @@
--- The state of a log that writes to a writer: the writer's bytes show which happenings the log has taken.
+-- The state of a log that writes to a writer: the bytes written show which happenings the log has taken.
 use Rattle.std.specs.Prelude.{◌≡◌, ◌<◌, ℕ, Bool, true, false, List, [], ◌++◌, length, Option, Some, None}
 use Rattle.trace_events.specs.Event.{Event}
 use Rattle.trace_events.specs.Range.{is_in_range, are_in_range}
@@ -18,8 +18,8 @@ pub record IsCut (part : List ℕ) : Type 0 where
   pub joined : part ++ rest ≡ event_text happening
   pub short : 0 < length rest
 
--- The bytes are the text of the trace, whose numbers are in range. If the log has failed, a proper prefix, possibly
--- empty, of the text of the happening that it failed to take follows.
+-- The bytes are the text of the trace, whose numbers are in range. If the log has failed, they are followed by a proper
+-- prefix, possibly empty, of the text of the happening that the log failed to take.
 pub record HasText (failed : Bool) (trace : List Event) (bytes : List ℕ) : Type 0 where
   pub ranged : are_in_range trace ≡ true
   pub part : List ℕ

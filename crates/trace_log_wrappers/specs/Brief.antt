@@ -24,7 +24,7 @@ abbrev pub with_reading : ℕ → List Event → List Event
 with_reading reading (Clock before ∷ brief) = Clock (max reading before) ∷ brief
 with_reading reading brief = Clock reading ∷ brief
 
--- adds a reading of the clock, placing it before a round that it follows directly
+-- adds a reading of the clock, before a round that the reading would otherwise directly follow
 abbrev pub with_early_reading : ℕ → List Event → List Event
 with_early_reading reading (Nudge ∷ brief) = Nudge ∷ with_reading reading brief
 with_early_reading reading brief = with_reading reading brief
@@ -46,7 +46,8 @@ abbrev pub brief_of : List Event → List Event
 brief_of [] = []
 brief_of (happening ∷ past) = with_event happening (brief_of past)
 
--- no happening of the trace can be omitted: adding a happening to those before it changes none of them
+-- no happening of the trace can be omitted: adding each one to those before it puts it in front and changes none of
+-- them
 abbrev pub IsBrief : List Event → Type 0
 IsBrief [] = Unit {0}
 IsBrief (happening ∷ past) = (with_event happening past ≡ happening ∷ past) × IsBrief past

@@ -14,7 +14,7 @@ IsJudgementOf (Lawful count) past = (first_breach past ≡ None) × (count ≡ l
 IsJudgementOf (Breach position law) past = first_breach past ≡ Some (fault_at position law)
 IsJudgementOf Unjudged past = ⊤
 
--- the verdict is right, and if no law is broken, the judge has judged exactly these happenings
+-- the verdict on these happenings is right, and if no law is broken, the judge has judged exactly these happenings
 abbrev pub JudgedSoFar : Judging → Judgement → List Event → Type 0
 JudgedSoFar judge (Lawful count) past = Judged judge past × (count ≡ length past)
 JudgedSoFar judge (Breach position law) past = first_breach past ≡ Some (fault_at position law)

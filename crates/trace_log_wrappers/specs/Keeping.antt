@@ -1,4 +1,4 @@
--- The happenings that a brief log has passed on and holds back, given the trace that it took, and its state after
+-- Which happenings a brief log has passed on and which it holds back, given the trace that it took; and its state after
 -- `end`.
 use Rattle.std.specs.Prelude.{◌≡◌, ◌≤◌, Bool, true, false, List, ◌++◌, length, reverse, None}
 use Rattle.trace_events.specs.Event.{Event}
@@ -7,7 +7,7 @@ use Rattle.trace_log_wrappers.specs.declared.held.HeldBack.{HeldBack}
 use Rattle.trace_log_wrappers.specs.Brief.{brief_of}
 use Rattle.trace_log_wrappers.specs.Holding.{Holds}
 
--- a brief log: the log to which it passes its happenings on, and the happenings that it holds back
+-- a brief log: the log that it passes happenings on to, and the happenings that it holds back
 pub record Brief (L : Type 0) : Type 0 where
   pub log : L
   pub held : HeldBack
@@ -22,8 +22,8 @@ pub record Writes (log : LogState) (held : HeldBack) (trace : List Event) : Type
   pub is : log.taken written
   pub holds : Holds held (reverse written) (reverse trace)
 
--- The happenings are a prefix of the brief form of the trace, or of the trace followed by the one happening that the
--- log failed to take.
+-- The happenings written are a prefix of the brief form of the trace, or of the trace followed by the one happening
+-- that the log failed to take.
 pub record IsPart (trace written : List Event) : Type 0 where
   pub more : List Event
   pub most : length more ≤ 1
@@ -52,7 +52,7 @@ abbrev pub HandsOn : Bool → (List Event → Type 0) → List Event → Type 0
 HandsOn true taken trace = taken (brief_first trace)
 HandsOn false taken trace = HasPart taken trace
 
--- the state after `end`; the flag says whether the other log passed on everything that it took
+-- the state after `end`; the second flag says whether the brief log passed on everything that it took
 abbrev pub EndsBrief : (Bool → List Event → Type 0) → Bool → List Event → Type 0
 EndsBrief has_ended true trace = has_ended true (brief_first trace)
 EndsBrief has_ended false trace = HasPart (λ written. (whole : Bool) × has_ended whole written) trace

@@ -20,22 +20,22 @@ abbrev pub is_wanted : List ℕ → Option (List ℕ) → Bool
 is_wanted id None = false
 is_wanted id (Some wanted) = same_id id wanted
 
--- if an id is noted, this is its last exit status in the trace, newest first
+-- if the last exit status of an id is noted, this is that status in the trace, newest first
 abbrev pub IsLast : Option Status → Option (List ℕ) → List Event → Type 0
 IsLast last wanted past = (id : List ℕ) → is_wanted id wanted ≡ true → last ≡ last_end id past
 
--- the number of this id in the list
+-- the number that the list has for the id
 abbrev pub number_in : List ℕ → List (List ℕ × ℕ) → Option ℕ
 number_in id running = lookup (same_id id) running
 
--- the list has no id twice, and has for each id the number of its unreaped child in this trace, newest first, or none
--- if the id has no unreaped child
+-- no id is in the list twice; and for each id, the list has the number of its unreaped child in the trace, newest
+-- first, or none if it has no unreaped child
 abbrev pub IsRunning : List (List ℕ × ℕ) → List Event → Type 0
 IsRunning running past =
     IsDistinct same_id (keys_of running) × ((id : List ℕ) → number_in id running ≡ number_of id past)
 
--- the notes are right for this trace, newest first; if memory ran out before all children were noted, nothing is stated
--- about the list
+-- the notes are right for this trace, newest first; if memory ran out before all children were noted, the list may have
+-- any contents
 pub record AreNotesOf (notes : Notes) (past : List Event) : Type 0 where
   pub last : IsLast notes.last notes.wanted past
   pub running : notes.complete ≡ true → IsRunning notes.running past

@@ -1,5 +1,5 @@
 -- Properties that the brief form of a trace preserves: the lasting happenings, the first law broken, and the values
--- that functions such as `time_of` derive from it. Also, when the looks of a trace are free.
+-- that functions such as `time_of` derive from the trace. Also, when the looks of a trace are free.
 use Rattle.std.specs.Prelude.{◌≡◌, ℕ, Bool, IsTrue, true, false, not, ◌&&◌, List, [], ◌∷◌, filter, Option, Some, None}
 use Rattle.std.specs.Prelude.{is_none}
 use Rattle.init_words.specs.declared.orders.OrderKind.TheVariants.{Look}
@@ -25,8 +25,8 @@ is_lasting _ = true
 abbrev pub lasting_events : List Event → List Event
 lasting_events past = filter is_lasting past
 
--- the looks of a trace are free: init ordered each when the id had no open order and init had learned of all acts for
--- it
+-- the looks of a trace are free: init ordered each look when the id had no open order and init had learned of all acts
+-- for the id
 abbrev pub are_looks_free : List Event → Bool
 are_looks_free [] = true
 are_looks_free (Asked id Look ∷ past) = is_none (open_of id past) && not (is_untold id past) && are_looks_free past

@@ -6,7 +6,7 @@ use Rattle.trace_log_wrappers.specs.declared.judgements.Judgement.{Judgement}
 use Rattle.trace_log_wrappers.specs.Judgements.{JudgedSoFar}
 use Rattle.trace_log_wrappers.specs.Notes.{Notes, AreNotesOf}
 
--- the other log, the notes on what it took, the judge, and its verdict
+-- the other log, the notes on the happenings that it took, the judge, and the judge's verdict
 pub record Watched (L : Type 0) : Type 0 where
   pub log : L
   pub notes : Notes

@@ -1,5 +1,5 @@
--- The list of a trace's pieces (`TRACE.0.pieces`, init-trace(5)): the text of its lines, and the pieces of the last run
--- that the list describes.
+-- The list of a trace's pieces (`TRACE.0.pieces`, init-trace(5)): the text of each of its lines, and the pieces of the
+-- last run that the list describes.
 use Rattle.std.specs.Prelude.{◌≡◌, ℕ, Bool, true, false, ◌&&◌, if◌then◌else◌, nat_lt, nat_le, min, ◌^◌, ◌+◌, ◌-◌}
 use Rattle.std.specs.Prelude.{List, [], ◌∷◌, ◌++◌, length, map, not, codes, decimal, Option, Some, None}
 use Rattle.std.specs.Prelude.{option_and_then, ◌==◌}
@@ -24,7 +24,7 @@ line_text (Taken number) = decimal number ++ codes " taken\n"
 abbrev pub read : List ℕ → Option ℕ
 read text = number_read (2 ^ 64) text
 
--- the line for a piece with this number, if the remaining words are a length and `piece`
+-- the line for a piece with this number, if the words after the number are a length and `piece`
 abbrev pub piece_line : ℕ → List ℕ × List ℕ → Option ListLine
 piece_line number words =
     if bytes_eq words.1 (codes "piece")
@@ -40,7 +40,7 @@ line_after number words =
     else if bytes_eq words (codes "taken") then Some (Taken number)
     else option_and_then (piece_line number) (cut 32 words)
 
--- the meaning of a line without its newline; none if the line is not valid
+-- the list line that a text without a newline represents; none if the text is not a valid line
 abbrev pub line_at : List ℕ → Option ListLine
 line_at line =
     option_and_then (λ parts. option_and_then (λ number. line_after number parts.1) (read parts.0)) (cut 32 line)
@@ -63,7 +63,7 @@ abbrev pub rises_to : Option ℕ → ℕ → Bool
 rises_to None number = false
 rises_to (Some next) number = nat_le next number
 
--- the number after another one, at most 2^64 - 1
+-- the next number, but at most 2^64 - 1
 abbrev pub number_behind : ℕ → ℕ
 number_behind number = min (number + 1) (2 ^ 64 - 1)
 
@@ -81,8 +81,8 @@ moved_up number piece =
 abbrev pub all_moved_up : ℕ → List Piece → List Piece
 all_moved_up number pieces = if has_number pieces number then map (moved_up number) pieces else pieces
 
--- The list before a piece with this number is added. If the number is below the next one, a user assigned it by
--- renaming files: later pieces have moved up by one, and the next number is no longer known.
+-- The list before a piece with this number is added. If the number is below the list's next number, a user assigned it
+-- by renaming files: later pieces have moved up by one, and the next number is no longer known.
 abbrev pub room_for : PieceList → ℕ → PieceList
 room_for list number =
     if rises_to list.next number
@@ -112,25 +112,25 @@ with_line list (Away number length) = with_piece (room_for list number) number l
 with_line list (Gone length) = with_piece (record list { next = None }) 0 length
 with_line list (Taken number) = without_oldest list
 
--- the list after one more line, or unchanged if there is none
+-- the list after the line, if there is one, otherwise unchanged
 abbrev pub with_found : PieceList → Option ListLine → PieceList
 with_found list None = list
 with_found list (Some line) = with_line list line
 
--- the list after the text of one more line, which is ignored if it is not valid
+-- the list after one more line, given as text; the line is ignored if it is not valid
 abbrev pub with_text : PieceList → List ℕ → PieceList
 with_text list line = with_found list (line_at line)
 
--- the list after the texts of more lines
+-- the list after more lines, given as texts
 abbrev pub with_lines : PieceList → List (List ℕ) → PieceList
 with_lines list [] = list
 with_lines list (line ∷ lines) = with_lines (with_text list line) lines
 
--- the list that results from a text
+-- the list that a text describes
 abbrev pub list_of : List ℕ → PieceList
 list_of text = with_lines no_line (lines_of text)
 
--- the piece with the next number, if a file with that number exists which was put away but is not in the list yet
+-- the piece with the next number, if a file with that number was put away but is not in the list yet
 abbrev pub unlisted : Option ℕ → Bool → List Piece
 unlisted (Some number) true = record { number = number; length = None } ∷ []
 unlisted _ _ = []
@@ -141,7 +141,7 @@ abbrev pub pieces_before : PieceList → Bool → Bool → List Piece
 pieces_before list is_empty has_next =
     if list.is_ending && is_empty then [] else list.pieces ++ unlisted list.next has_next
 
--- pieces before the listed ones were removed
+-- pieces older than the listed ones were removed
 abbrev pub lacks_front : PieceList → Bool → Bool
 lacks_front list is_empty = list.lacks_front && not (list.is_ending && is_empty)
 
@@ -150,16 +150,16 @@ abbrev pub first_piece : List Piece → Option Piece
 first_piece [] = None
 first_piece (piece ∷ pieces) = Some piece
 
--- the oldest piece, if there are more than this many
+-- the oldest piece, if there are more pieces than this number
 abbrev pub oldest_beyond : PieceList → ℕ → Option Piece
 oldest_beyond list most = if nat_le (length list.pieces) most then None else first_piece list.pieces
 
--- a file of this length matches the length in the list, if the list has one
+-- the list gives this length for the file, or gives no length
 abbrev pub is_length : Option ℕ → ℕ → Bool
 is_length None length = true
 is_length (Some listed) length = listed == length
 
--- according to the list, a file of this length can be the whole piece
+-- according to the list, a file of this length can be all of the piece
 abbrev pub is_whole : Piece → ℕ → Bool
 is_whole piece length = is_length piece.length length
 
@@ -168,12 +168,12 @@ abbrev pub with_all : PieceList → List ListLine → PieceList
 with_all list [] = list
 with_all list (line ∷ lines) = with_all (with_line list line) lines
 
--- the lines for files of these lengths that init puts away, numbered from this number on
+-- the lines for files that init puts away, given their lengths, numbered from this number on
 abbrev pub away_from : ℕ → List ℕ → List ListLine
 away_from number [] = []
 away_from number (length ∷ lengths) = Away number length ∷ away_from (number_behind number) lengths
 
--- the pieces for files of these lengths, numbered from this number on
+-- the pieces for files with these lengths, numbered from this number on
 abbrev pub numbered : ℕ → List ℕ → List Piece
 numbered number [] = []
 numbered number (length ∷ lengths) =
@@ -188,12 +188,12 @@ abbrev pub without_found : PieceList → Option Piece → PieceList
 without_found list None = list
 without_found list (Some piece) = with_line list (Taken piece.number)
 
--- the list after init has removed its oldest piece, if it has more than this many
+-- the list after init has removed its oldest piece, if it has more pieces than this number
 abbrev pub with_most : ℕ → PieceList → PieceList
 with_most most list = without_found list (oldest_beyond list most)
 
--- the list after init has put away files of these lengths, numbered from this number on, and each time removed the
--- oldest piece beyond the limit
+-- the list after init has put away files with these lengths, numbered from this number on, and has removed the oldest
+-- piece each time the list exceeded the limit
 abbrev pub keeping : ℕ → PieceList → ℕ → List ℕ → PieceList
 keeping most list number [] = list
 keeping most list number (length ∷ lengths) =

@@ -33,12 +33,13 @@ number_in trace name =
 abbrev pub numbers_among : List ℕ → List ℕ → List ℕ
 numbers_among trace names = filter_map (number_in trace) (pieces_of 0 names)
 
--- these are the numbers of the trace's pieces among the file names in its folder, if those names are known
+-- if the file names in the trace's folder are known, these are the numbers of the trace's pieces among them
 abbrev pub AreNumbers : KnownTexts → List ℕ → List ℕ → Type 0
 AreNumbers names_beside trace numbers =
     IfSome (names_beside trace) (λ names. numbers ≡ numbers_among (name_at trace) names)
 
--- this is the greatest of these numbers, or 0 if there is no piece
+-- if the file names in the trace's folder are known, this is the greatest number of a piece of the trace, or 0 if there
+-- is no piece
 abbrev pub IsNewest : KnownTexts → List ℕ → ℕ → Type 0
 IsNewest names_beside trace newest =
     IfSome (names_beside trace) (λ names. newest ≡ fold max 0 (numbers_among (name_at trace) names))

@@ -26,8 +26,9 @@ pub record IsFirst (trace : List Event) (breach : Named) : Type 0 where
   pub line : breach.line ≡ newlines (trace_text (take breach.position trace)) + 1
   pub text : breach.text ≡ option_map_or event_text (slice_get trace breach.position) []
 
--- The answer to a text is right: the verdict, the line at which an incomplete last happening begins, and the number of
--- complete happenings. Either the text is torn at a line, or the verdict is the verdict on the complete happenings.
+-- The answer to a text is right; it consists of the verdict, the line at which an incomplete last happening begins, and
+-- the number of complete happenings. Either the text is torn at a line, or the verdict is the one on the complete
+-- happenings.
 abbrev pub Answers : List ℕ → Finding Named → Option ℕ → ℕ → Type 0
 Answers text Lawful open_line count = (trace : List Event) × IsFront trace open_line text
     × (first_breach (reverse trace) ≡ None) × (count ≡ length trace)

@@ -19,12 +19,12 @@ lines_of line = option_map_or (λ count. count + 1) (entries_brought (words_in l
 abbrev pub lines_due : List ℕ → ℕ
 lines_due text = option_map_or (λ parts. lines_of parts.0) (cut 10 text) 1
 
--- the text ends before the last line of its first happening does
+-- the text ends before the last line of its first happening is complete
 abbrev pub is_unfinished : List ℕ → Bool
 is_unfinished text = nat_lt (newlines text) (lines_due text)
 
--- the maximum length in bytes of an incomplete happening with this number of newlines: with none, the length of a line;
--- otherwise, that of a `use` line and its table
+-- the maximum length in bytes of an incomplete happening with this number of newlines: the length of a line if it has
+-- none, otherwise the length of a `use` line and its table
 abbrev pub size_limit : ℕ → ℕ
 size_limit zero = LINE_LIMIT
 size_limit (suc lines) = LINE_LIMIT + TEXT_LIMIT
@@ -33,12 +33,12 @@ size_limit (suc lines) = LINE_LIMIT + TEXT_LIMIT
 abbrev pub is_open : List ℕ → Bool
 is_open text = is_unfinished text && nat_le (length text) (size_limit (newlines text))
 
--- the text cannot be the beginning of a happening: it does not end within its first happening, or is too long for that;
--- and it does not begin with a happening, whatever text follows
+-- the text cannot be the beginning of a happening: it does not end within its first happening, or it is too long to do
+-- so; and it does not begin with a happening, whatever text follows
 abbrev pub BeginsNever : List ℕ → Type 0
 BeginsNever text = (is_open text ≡ false) × ((more : List ℕ) → BeginsNone (text ++ more))
 
--- the number of the line at which the unread text begins, after this number of lines; none if there is no unread text
+-- the number of the line at which the unread text begins, after the given number of lines; none if no text is unread
 abbrev pub line_left : ℕ → List ℕ → Option ℕ
 line_left lines [] = None
 line_left lines (byte ∷ over) = Some (lines + 1)

@@ -1,4 +1,4 @@
--- The judge of a text that arrives in pieces, and the text that it has taken.
+-- The judge of a text that arrives in pieces, and the text that the judge has taken.
 use Rattle.std.specs.Prelude.{◌≡◌, ◌⊎◌, ◌<◌, ◌^◌, ℕ, Bool, true, false, List, ◌++◌, length, reverse, Option, None}
 use Rattle.text_lines.specs.Lines.{newlines}
 use Rattle.trace_events.specs.Event.{Event}

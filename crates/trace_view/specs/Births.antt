@@ -1,4 +1,4 @@
--- The births of the children of an id: how many there were, the time of the latest, and which preceded the first level.
+-- The births of an id's children: how many there were, the time of the latest, and which preceded the first level.
 use Rattle.std.specs.Prelude.{ℕ, Bool, false, ◌&&◌, ◌+◌, ◌-◌, ◌^◌, min, if◌then◌else◌, List, [], ◌∷◌, ◌++◌, Option}
 use Rattle.std.specs.Prelude.{Some, None}
 use Rattle.std.specs.List.{list_any}
@@ -7,7 +7,7 @@ use Rattle.trace_view.specs.Words.{Entry, ignores_levels, same_id, Birth, Event,
 use Rattle.trace_view.specs.Words.{same_acts}
 use Rattle.trace_view.specs.declared.rows.Births.{Births}
 
--- one more birth at this time; the count stops at 2^64 - 1
+-- the births with one more at this time; the count stops at 2^64 - 1
 abbrev pub one_more : ℕ → Option Births → Births
 one_more time None = record { count = 1; latest = time }
 one_more time (Some births) = record { count = min (births.count + 1) (2 ^ 64 - 1); latest = time }
@@ -23,7 +23,7 @@ births_of id (_ ∷ past) = births_of id past
 abbrev pub is_early : Child → Bool
 is_early child = option_map_or ignores_levels child.act false
 
--- the children with this one appended, if it was born before the first level
+-- the children, with this child appended if it was born before the first level
 abbrev pub or_early : Child → List Child → List Child
 or_early child before = if is_early child then before ++ child ∷ [] else before
 
@@ -33,10 +33,10 @@ early_children [] = []
 early_children (Birth id number ∷ past) = or_early (newborn id number past) (early_children past)
 early_children (_ ∷ past) = early_children past
 
--- the child was born for the entry, which had the same action then
+-- the child was born for the entry's id, which had the same action at that time
 abbrev pub is_born_as : Entry → Child → Bool
 is_born_as e child = is_child_of e.id child && same_acts child.act (Some e.act)
 
--- a child was born for the entry before the first level, when the entry had the same action
+-- before the first level, a child was born for the entry's id, which had the same action at that time
 abbrev pub ran_early : Entry → List Event → Bool
 ran_early e past = list_any (is_born_as e) (early_children past)

@@ -8,7 +8,7 @@ use Rattle.init_words.specs.declared.orders.PowerKind.TheVariants as power
 use Rattle.init_words.specs.Levels.{names}
 use Rattle.trace_events.specs.declared.call_sets.CallSet.{CallSet}
 
--- init has called the entries for this power event since the last Enter or table
+-- init has called entries for this power event since the last Enter or NewTable
 abbrev pub is_called_for : PowerKind → List Event → Bool
 is_called_for kind [] = false
 is_called_for kind (Enter stage grace ∷ past) = false
@@ -16,7 +16,7 @@ is_called_for kind (NewTable table ∷ past) = false
 is_called_for kind (Power k ∷ past) = same_power kind k || is_called_for kind past
 is_called_for kind (_ ∷ past) = is_called_for kind past
 
--- init has called the entries of this letter since the last Enter or table
+-- init has called the ondemand entries for this letter since the last Enter or NewTable
 abbrev pub is_lettered : Letter → List Event → Bool
 is_lettered letter [] = false
 is_lettered letter (Enter stage grace ∷ past) = false

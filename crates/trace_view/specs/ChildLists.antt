@@ -1,4 +1,4 @@
--- A list of children from which all children of an id are removed at once.
+-- A list of children from which all children of an id can be removed at once.
 use Rattle.std.specs.Prelude.{◌≡◌, ℕ, ◌≤◌, Bool, true, false, not, if◌then◌else◌, nat_lt, nat_le, List, ◌∷◌, filter}
 use Rattle.std.specs.Prelude.{find, map, unwrap_or, Option, Some, None}
 use Rattle.std.specs.List.{list_all}
@@ -6,7 +6,8 @@ use Rattle.std.specs.Option.{option_map_or}
 use Rattle.trace_view.specs.Words.{Child, at, has_number, is_child_of}
 use Rattle.trace_view.specs.declared.child_lists.Arrival.{Arrival}
 
--- the arrival is still in the list: its number is not below the number under which the arrivals of its id are gone
+-- the arrival is still in the list: `gone` marks the earlier arrivals of an id as removed by a number above theirs, and
+-- the number of this arrival is not below the mark for its id
 abbrev pub stays : List (List ℕ × ℕ) → Arrival → Bool
 stays gone a = nat_le (unwrap_or (at a.child.id gone) 0) a.number
 
@@ -34,7 +35,7 @@ abbrev pub with_child : Option Child → List Child → List Child
 with_child None children = children
 with_child (Some child) children = child ∷ children
 
--- the list without the children of the id, if the youngest of them has this number
+-- the list without the children of the id, if the youngest of these children has this number
 abbrev pub without : List ℕ → ℕ → List Child → List Child
 without id number children =
     if option_map_or (has_number number) (find (is_child_of id) children) false

@@ -1,5 +1,6 @@
 -- The line of a trace's text at which the last happening of each kind begins, and the line that explains why an entry
--- is not started. Lines are counted from 1. A happening has one line, but a table has one more for each entry.
+-- is not started. Lines are counted from 1. A happening has one line, except that a new table has one more for each
+-- entry.
 use Rattle.std.specs.Prelude.{◌≡◌, ℕ, ◌+◌, Bool, true, false, not, max, if◌then◌else◌, List, [], ◌∷◌, reverse, Option}
 use Rattle.std.specs.Prelude.{Some, None}
 use Rattle.trace_view.specs.Words.{newlines, Entry, Stage, same_id, NewTable, Enter, Asked, Hold, Birth, NoBirth}
@@ -30,34 +31,35 @@ abbrev pub is_table : Event → Bool
 is_table (NewTable table) = true
 is_table _ = false
 
--- a stage begins
+-- the happening is that a stage begins
 abbrev pub is_entering : Event → Bool
 is_entering (Enter stage grace) = true
 is_entering _ = false
 
--- a re-execution is requested
+-- the happening is a request to re-execute init
 abbrev pub is_reexec : Event → Bool
 is_reexec (Got got.Reexec) = true
 is_reexec _ = false
 
--- a level is requested
+-- the happening is a request for a level
 abbrev pub is_goal : Event → Bool
 is_goal (Got (got.Level level grace)) = true
 is_goal _ = false
 
--- entries are to be called by a letter or for a power event
+-- the happening is a request to call entries by a letter or for a power event
 abbrev pub is_news : Event → Bool
 is_news (Got (got.Call letter)) = true
 is_news (Got (got.Power kind)) = true
 is_news _ = false
 
--- a request that causes init to reread inittab: a reload, or a request for a level that is not in force
+-- the happening is a request that causes init to reread inittab: a reload, or a request for a level that is not in
+-- force
 abbrev pub is_reread : Option Stage → Event → Bool
 is_reread stage (Got got.Reload) = true
 is_reread stage (Got (got.Level level grace)) = not (is_level level stage)
 is_reread stage _ = false
 
--- the line of the last such request
+-- the line of the last request that caused init to reread inittab
 abbrev pub reread_line : List Event → Option ℕ
 reread_line [] = None
 reread_line (happening ∷ past) =
@@ -68,7 +70,7 @@ abbrev pub born_in : Event → Option (List ℕ)
 born_in (Birth id number) = Some id
 born_in _ = None
 
--- the id of the start that failed, if the happening is such a failure
+-- the id that could not be started, if the happening is a failed start
 abbrev pub unborn_in : Event → Option (List ℕ)
 unborn_in (NoBirth id) = Some id
 unborn_in _ = None
@@ -78,7 +80,7 @@ abbrev pub reaped_in : Event → Option (List ℕ)
 reaped_in (Reaped id number status) = Some id
 reaped_in _ = None
 
--- the id of the order, if the happening is one
+-- the id that an order is for, if the happening is an order
 abbrev pub ordered_in : Event → Option (List ℕ)
 ordered_in (Asked id ask) = Some id
 ordered_in _ = None
@@ -88,7 +90,7 @@ abbrev pub held_in : Event → Option (List ℕ)
 held_in (Hold id) = Some id
 held_in _ = None
 
--- the happening is about this id
+-- there is an id, and it is this one
 abbrev pub names : List ℕ → Option (List ℕ) → Bool
 names id None = false
 names id (Some other) = same_id id other
@@ -104,7 +106,7 @@ abbrev pub early_in : List Entry → Event → Option (List ℕ)
 early_in table (Birth id number) = if is_early (newborn_in table id number) then Some id else None
 early_in table _ = None
 
--- the line at which the last such birth of the id begins
+-- the line at which the last birth of the id before the first level begins
 abbrev pub early_line : List ℕ → List Event → Option ℕ
 early_line id [] = None
 early_line id (happening ∷ past) =
@@ -124,11 +126,12 @@ wish_line (wish.Level level) past = last_line is_goal past
 wish_line wish.News past = last_line is_news past
 
 -- The line that explains each reason, if there is one. For a missing entry or an action that is never started, it is
--- the line of the table in force; for an entry of another stage, of the stage in force, or of its birth before the
--- first level. For a child, it is the line of its birth, or of the last reaping of the id if that is later; for an open
--- order, of that order; for an entry that was not called, of the last stage or table; for an entry that was started, or
--- too often, of its last start. For an entry that init waits for, it is the line of the birth of its child, or of the
--- stage if that is later; for an excluded child, of its birth; for a request or a hold, of the request or hold.
+-- the line of the table in force; for an entry that belongs to another stage, the line of the stage in force, or of the
+-- entry's birth before the first level. For a child, it is the line of its birth, or of the id's last reaping if that
+-- is later; for an open order, the line of the order; for an entry that was not called, the line of the last stage or
+-- table; for an entry that was started already, or too often, the line of its last birth or failed start. If init waits
+-- for another entry, it is the line of the birth of that entry's child, or of the stage if that is later; for an
+-- excluded child, the line of its birth; for a request or a hold, its line.
 abbrev pub line_at_fault : List ℕ → Why → List Event → Option ℕ
 line_at_fault id why.NoEntry past = last_line is_table past
 line_at_fault id why.NeverStarts past = last_line is_table past
@@ -159,7 +162,8 @@ kinds_of past = record {
   news = last_line is_news past;
 }
 
--- the recorded lines: those of happenings that are not about an id, and for each other kind one line per id
+-- the recorded lines: the lines of the last happenings that are not about an id, and for each kind that is about an id,
+-- one line per id
 pub record LinesState : Type 0 where
   pub kinds : KindLines
   pub births : List (List ℕ × ℕ)

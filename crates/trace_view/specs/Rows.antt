@@ -1,4 +1,4 @@
--- The report about an id: its action, the reason why it is not started next, its child, and its last end.
+-- The report about an id: its action, the reason why it is not started next, its child, and how and when it last ended.
 use Rattle.std.specs.Prelude.{ℕ, Bool, if◌then◌else◌, false, List, [], ◌∷◌, map, filter, Option, Some, None, is_none}
 use Rattle.std.specs.Option.{option_map, option_map_or}
 use Rattle.trace_view.specs.Words.{Entry, Stage, Run, same_id, entry_of, act_of, NoBirth, Reaped, Event, table_of}
@@ -10,7 +10,7 @@ use Rattle.trace_view.specs.declared.rows.Ending.{Ending}
 use Rattle.trace_view.specs.declared.rows.Row.{Row}
 use Rattle.trace_view.specs.Why.{number_of, why}
 
--- an end at this time: with this status, or none if a start failed
+-- an end at this time, with this status, or with no status if it was a failed start
 abbrev pub ended_at : ℕ → Option Status → Option Ending
 ended_at time status = Some (record { status = status; time = time })
 
@@ -22,12 +22,12 @@ ended_of id (Reaped i number status ∷ past) =
     if same_id id i then ended_at (time_of past) (Some status) else ended_of id past
 ended_of id (_ ∷ past) = ended_of id past
 
--- the stage is a level that could be announced settled at this moment, judged by the unreaped children
+-- the stage is a level that could be announced as settled now, judged by the unreaped children
 abbrev pub complete_in : Option Stage → List Event → Bool
 complete_in (Some (Run level)) past = is_settled level (unreaped_children past) past
 complete_in _ past = false
 
--- the stage in force is a level that could be announced settled at this moment
+-- the stage in force is a level that could be announced as settled now
 abbrev pub is_complete_now : List Event → Bool
 is_complete_now past = complete_in (stage_of past) past
 
@@ -44,13 +44,13 @@ row_of id past = record {
   last = ended_of id past;
 }
 
--- the table has no entry for the child
+-- the table has no entry for the child's id
 abbrev pub is_gone : List Entry → Child → Bool
 is_gone table child = is_none (entry_of child.id table)
 
 abbrev pub id_of : Child → List ℕ
 id_of child = child.id
 
--- the ids of the children for which the table has no entry
+-- the ids of those children for whose ids the table has no entry
 abbrev pub gone_ids : List Entry → List Child → List (List ℕ)
 gone_ids table children = map id_of (filter (is_gone table) children)

@@ -33,13 +33,14 @@ abbrev pub begins_run : List Event → Bool
 begins_run [] = true
 begins_run (happening ∷ trace) = is_table happening
 
--- for this reason, a view of the text ends after this trace
+-- this is a reason why a view of the text ends after this trace
 abbrev pub StopsAt : ViewEnd → List Event → List ℕ → Type 0
 StopsAt (Breach law line) trace text = IsBefore trace law line text
 StopsAt (Torn number) trace text = IsUpTo trace number text
 StopsAt Within trace text = (trace ≡ []) × BeginsWithin text
 
--- the trace is the whole text except an incomplete last happening, or the text up to the place where the view ended
+-- the trace is the whole text except for an incomplete last happening, or it is the text up to the place where the view
+-- ended
 abbrev pub ShownBy : Option ViewEnd → Option ℕ → List Event → List ℕ → Type 0
 ShownBy None open_line trace text = IsFront trace open_line text
 ShownBy (Some stop) open_line trace text = StopsAt stop trace text × (open_line ≡ None)

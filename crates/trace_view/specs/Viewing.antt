@@ -13,7 +13,7 @@ use Rattle.trace_view.specs.Rows.{ended_of}
 use Rattle.trace_view.specs.Wishes.{wishes_of}
 
 -- the judge; the unreaped and the kept children, youngest first; the pending requests; the calls of entries; the births
--- of each id; the children born before the first level; and the last end of each id
+-- of each id; the children born before the first level; and how and when each id last ended
 pub record ViewState : Type 0 where
   pub judging : Judging
   pub unreaped : List Child
@@ -53,10 +53,10 @@ abbrev pub ViewAfterHappening : Option Law → ViewState → ViewState → Event
 ViewAfterHappening None old new happening = (past : List Event) → Viewed old past → Viewed new (happening ∷ past)
 ViewAfterHappening (Some law) old new happening = new ≡ old
 
--- the child of a birth, according to this table
+-- the child that a birth adds, with the action that this table has for its id
 abbrev pub newborn_in : List Entry → List ℕ → ℕ → Child
 newborn_in table id number = record { id = id; number = number; act = act_of id table }
 
--- the child is excluded according to this table and stage
+-- the child is excluded in this stage by this table
 abbrev pub is_excluded_by : List Entry → Option Stage → Child → Bool
 is_excluded_by table stage child = not (may_live (entry_of child.id table) child.act stage)

@@ -1,4 +1,4 @@
--- The state of a view of a text that arrives in pieces, and the text that it has taken.
+-- The state of a view of a text that arrives in pieces, and the text that the view has taken.
 use Rattle.std.specs.Prelude.{◌≡◌, ◌==◌, ◌||◌, ℕ, Bool, true, false, not, List, [], ◌∷◌, ◌++◌, reverse, Option, Some}
 use Rattle.std.specs.Prelude.{None}
 use Rattle.trace_view.specs.Words.{newlines, Event, broken, are_in_range, law_number, trace_text, is_open, Reading}
@@ -8,7 +8,7 @@ use Rattle.trace_view.specs.declared.text_views.ViewEnd.TheVariants.{Breach, Tor
 use Rattle.trace_view.specs.LastLines.{is_table}
 use Rattle.trace_view.specs.Shown.{StopsAt, begins_run}
 
--- the unread part and the number of lines read; the view of the trace; and the reason why it ended, if it did
+-- the unread part and the number of lines read; the view of the trace; and the reason why the view ended, if it did
 pub record TextState : Type 0 where
   pub reading : Reading
   pub viewing : ViewState
@@ -47,16 +47,16 @@ TakenBy (Some stop) state trace text = StopsBy stop state.viewing trace text
 abbrev pub HasShown : TextState → List Event → List ℕ → Type 0
 HasShown state trace text = TakenBy state.stop state trace text
 
--- the view continues with the text and has seen one more happening, or it has taken the text
+-- the view has seen one more happening and is still reading the text, or it has taken the text
 abbrev pub ViewGoesOn : Option Event → TextState → TextState → List Event → List ℕ → Type 0
 ViewGoesOn (Some happening) old new trace text = IsAt old trace text → IsAt new (trace ++ happening ∷ []) text
 ViewGoesOn None old new trace text = IsAt old trace text → HasShown new trace text
 
--- a run can have the happening at this line, because the first happening of a run must be a table
+-- a run can have the happening at this line: a run must have a table at line 1
 abbrev pub may_be : ℕ → Event → Bool
 may_be line happening = not (line == 1) || is_table happening
 
--- the view after the next happening, which begins at this line: the view has seen it, or has ended before it
+-- the view after the next happening, which begins at this line: the view has seen the happening, or has ended before it
 abbrev pub SeesStop : Option ViewEnd → ViewState → ViewState → Event → ℕ → Type 0
 SeesStop None old new happening line =
     (may_be line happening ≡ true) × ((past : List Event) → Viewed old past → Viewed new (happening ∷ past))

@@ -20,18 +20,18 @@ use Rattle.trace_view.specs.Births.{ran_early}
 use Rattle.trace_view.specs.Calls.{was_named}
 use Rattle.trace_view.specs.Wishes.{first_wish}
 
--- the first entry that init waits for, among those before the entry of the id
+-- the first owed entry before the id's entry
 abbrev pub first_owed : List ℕ → List Event → Option Entry
 first_owed id past = find (λ e. is_owed e past) (entries_before id (table_of past))
 
--- the first entry of the table that init waits for
+-- the first owed entry in the table
 abbrev pub first_awaited : List Event → Option Entry
 first_awaited past = find (λ e. is_owed e past) (table_of past)
 
 abbrev pub entry_id : Entry → List ℕ
 entry_id e = e.id
 
--- the kept child of the id is excluded
+-- the id's kept child is excluded
 abbrev pub stops_now : List ℕ → List Event → Bool
 stops_now id past = option_map_or (is_excluded past) (find (is_child_of id) (kept_children past)) false
 
@@ -41,7 +41,7 @@ number_of child = child.number
 abbrev pub excluded_as : Child → Excluded
 excluded_as child = record { id = child.id; number = child.number }
 
--- the state of an entry: everything that can prevent its start
+-- everything about an entry that can prevent its start
 abbrev pub standing_of : Entry → List Event → Standing
 standing_of e past = record {
   starts = starts_now e past;
@@ -72,20 +72,21 @@ is_past act.Sysinit booted _ = true
 is_past action booted Boot = false
 is_past action booted (Run level) = booted && ignores_levels action
 
--- the reason for an entry whose stage is still to come: before the first level, init may be waiting for another entry
+-- the reason why an entry whose stage is still to come is not started: before the first level, init may be waiting for
+-- another entry
 abbrev pub by_awaited : Stage → Option (List ℕ) → Why
 by_awaited (Run level) awaited = OtherStage
 by_awaited _ (Some id) = StageOwed id
 by_awaited _ None = OtherStage
 
--- the reason for an entry of another stage: that stage is over, and the entry did or did not run in it; or that stage
--- is still to come
+-- the reason why an entry that belongs to another stage is not started: that stage is over, and the entry did or did
+-- not run in it; or that stage is still to come
 abbrev pub elsewhere : Act → Stage → Standing → Why
 elsewhere action stage s =
     if is_past action s.booted stage then (if s.ran then RanBefore else StageOver) else by_awaited stage s.awaited
 
--- the reason for an entry that does not start in the stage in force: no stage has begun, its action is never started,
--- it has a child that may live, or it belongs to another stage
+-- the reason why an entry that does not start in the stage in force is not started: no stage has begun, its action is
+-- never started, it has a child that may live, or it belongs to another stage
 abbrev pub not_here : Act → Option Stage → Standing → Why
 not_here action None s = NoStage
 not_here action (Some stage) s =
@@ -93,8 +94,8 @@ not_here action (Some stage) s =
     else if s.stops then elsewhere action stage s
     else by_child s.child (elsewhere action stage s)
 
--- the reason for an entry that starts in the stage, is not wanted, and has neither a child nor an open order: it was
--- started already, or it needs a call and was not named by one
+-- the reason why an entry is not started that starts in the stage, is not wanted, and has neither a child nor an open
+-- order: it was started already, or it needs a call and no call has named it
 abbrev pub not_wanted : Act → Bool → Why
 not_wanted action named = if wanted_by action true true false || named then WasStarted else NotCalled
 
@@ -119,7 +120,7 @@ abbrev pub by_hold : Option ℕ → Why → Why
 by_hold (Some since) later = Held since
 by_hold None later = later
 
--- the first of these reasons that applies
+-- the first reason that applies to an entry with this action, in this stage and in this state
 abbrev pub why_by : Act → Option Stage → Standing → Why
 why_by action stage s =
     if not s.starts then not_here action stage s
@@ -135,7 +136,7 @@ why_by action stage s =
 abbrev pub why_entry : Entry → List Event → Why
 why_entry e past = why_by e.act (stage_of past) (standing_of e past)
 
--- the reason why the start of an id is not due; `Nothing` if it is due
+-- the reason why no start of the id is due; `Nothing` if one is due
 abbrev pub why : List ℕ → List Event → Why
 why id past = option_map_or (λ e. why_entry e past) (entry_of id (table_of past)) NoEntry
 

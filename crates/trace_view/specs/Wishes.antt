@@ -13,7 +13,7 @@ use Rattle.trace_view.specs.declared.wishes.Wish.{Wish}
 use Rattle.trace_view.specs.declared.wishes.Wish.TheVariants as wish
 use Rattle.trace_view.specs.declared.wishes.Wishes.{Wishes}
 
--- a request for a level precedes the calls of entries
+-- the pending request for a level if there is one, otherwise the request to call entries if one is pending
 abbrev pub or_news : Bool → Option Goal → Option Wish
 or_news news (Some heard) = Some (wish.Level heard.level)
 or_news news None = if news then Some wish.News else None
@@ -29,7 +29,7 @@ first_wish past =
     first_of (wants_reexec past) (wants_reread past) (level_wish past)
     (in_run (stage_of past) && are_calls_pending past)
 
--- the level, unless it is the stage in force
+-- the requested level, unless it is in force
 abbrev pub unless_here : Option Stage → Option Goal → Option Level
 unless_here stage None = None
 unless_here stage (Some heard) = if is_level heard.level stage then None else Some heard.level
@@ -38,7 +38,7 @@ unless_here stage (Some heard) = if is_level heard.level stage then None else So
 abbrev pub asked_level : List Event → Option Level
 asked_level past = unless_here (stage_of past) (last_requested_level past)
 
--- the stage that the first of these steps enters, with the seconds between SIGTERM and SIGKILL
+-- the stage that the first of the steps enters, if it enters one, and the seconds between SIGTERM and SIGKILL
 abbrev pub entered_by : List Step → Option (Stage × ℕ)
 entered_by (step.Enter stage grace ∷ steps) = Some (stage, grace)
 entered_by _ = None
