@@ -61,8 +61,8 @@ AreTexts goal (Carry text back ∷ calls) p =
     × AreTexts goal calls p
 AreTexts goal (_ ∷ calls) p = AreTexts goal calls p
 
--- What the log accepted, newest first: all the happenings that came, followed by `more`, if the log has not failed;
--- otherwise only those that came before its failure. A log that has failed accepts nothing more.
+-- What the log accepted, newest first: all happenings that came if the log has not failed, otherwise those before its
+-- failure. If it missed none of them, it accepted `more` after them. A log that had already failed accepts nothing.
 pub record Takes (old new : LogState) (before came more : List Event) : Type 0 where
   pub took : List Event
   pub missed : List Event
