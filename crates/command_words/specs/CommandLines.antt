@@ -1,4 +1,4 @@
--- The command line that a table of options and arguments defines in clap's terms, and the values that arguments give
+-- The command line that a table of options and arguments defines in clap's terms, and the values that arguments assign
 -- to the rows of the table. `line_of` and `bare_line` are opaque, because a goal in which they unfold contains the
 -- whole parser.
 use Rattle.std.specs.Prelude.{◌≡◌, ℕ, Bool, true, false, List, [], ◌∷◌, ◌++◌, ◌==◌, if◌then◌else◌, codes, drop, length}
@@ -28,37 +28,37 @@ Written = record { now : Text }
 abbrev pub written : List (Written × Written × Written) → List Line
 written = map (λ row. (row.0.now, row.1.now, row.2.now))
 
--- the `NAME` of `--NAME`
+-- the long option name `NAME`, if the name has the form `--NAME`
 abbrev pub long_of : Text → Option Text
 long_of name = if starts_with (λ a b. a == b) name (codes "--") then Some (drop 2 name) else None
 
--- the character `C` of `-C`
+-- the option character `C`, if the name has the form `-C`
 abbrev pub letter_of : Text → Option ℕ
 letter_of (dash ∷ letter ∷ []) = if dash == 45 then Some letter else None
 letter_of _ = None
 
--- the rule of an option: a flag if the placeholder is empty, otherwise one with a value and, unless it is empty, a
--- default
+-- the rule for an option: a flag if the placeholder is empty, otherwise an option with a value, which has a default
+-- unless the default is empty
 abbrev pub taking : Text → Text → Rule → Rule
 taking value default rule =
     if length value == 0 then record rule { action = Some SetTrue }
     else if length default == 0 then record rule { value_names = 1 }
     else record rule { value_names = 1; defaults = default ∷ [] }
 
--- the rule of a positional argument: optional for `?`, one or more for `..`, otherwise required
+-- the rule for a positional argument: optional for `?`, one or more for `..`, otherwise required
 abbrev pub standing : Text → Rule → Rule
 standing count rule =
     if bytes_eq count (codes "?") then rule
     else if bytes_eq count (codes "..") then record rule { required = true; action = Some Append }
     else record rule { required = true }
 
--- the rule of a row, given its long name or its character, if it has one: an option, otherwise a positional argument
+-- the rule for a row: if it has a long name or a character, an option, otherwise a positional argument
 abbrev pub rule_by : Option Text → Option ℕ → Line → Rule
 rule_by (Some long) letter row = taking row.1 row.2 (record (new_rule row.0) { long = Some long })
 rule_by None (Some letter) row = taking row.1 row.2 (record (new_rule row.0) { short = Some letter })
 rule_by None None row = standing row.1 (new_rule row.0)
 
--- the rule of a row
+-- the rule for a row of the table
 abbrev pub row_rule : Line → Rule
 row_rule row = rule_by (long_of row.0) (letter_of row.0) row
 
@@ -74,7 +74,7 @@ bare_line name =
     let named = new_app name in
     record named { top = record named.top { no_binary_name = true; args_override_self = true } }
 
--- the command line of a table
+-- the command line that a table defines
 unfoldable pub line_of : Text → List Line → App
 line_of name table = with_rules (bare_line name) (map row_rule table)
 
@@ -87,7 +87,7 @@ pub record AddsAll (old : Command) (rules : List Rule) (new : Command) : Type 0 
 abbrev pub IsLine : App → Command → Type 0
 IsLine app made = (app_of made ≡ app) × ((out-Command made).has_globals ≡ false)
 
--- the values that the arguments give to the rows of a command line; none if clap finds a fault in the arguments
+-- the values that the arguments assign to the rows of a command line; none if clap finds a fault in the arguments
 abbrev pub given_by : App → List Text → Option (List Row)
 given_by line words = if length (fault_of line words) == 0 then Some (matches_of line words) else None
 

@@ -1,4 +1,4 @@
--- The reasons for rejecting a command line, and the reports about it.
+-- The reasons for rejecting a command line, and the reports about the rejection.
 use Rattle.std.specs.Prelude.{◌==◌, if◌then◌else◌, ◌++◌, codes, length, Option, Some, None, string_bytes}
 use Rattle.clap.specs.Words.{Text}
 use Rattle.program_io.specs.Reports.{AppendsReport, ReportList}

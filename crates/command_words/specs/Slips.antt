@@ -17,7 +17,8 @@ is_swapped (a ∷ b ∷ word) (c ∷ d ∷ meant) =
     eq_ignore_ascii_case a d && (eq_ignore_ascii_case b c && same_but_case word meant)
 is_swapped _ _ = false
 
--- the first letter is replaced, added, missing, or swapped with the next, and the rest is equal, ignoring ASCII case
+-- the first letter is replaced, added, missing, or swapped with the next, and the rest is equal, ignoring ASCII case;
+-- or both words are empty
 abbrev pub is_slip_here : List ℕ → List ℕ → Bool
 is_slip_here [] [] = true
 is_slip_here [] (b ∷ []) = true
@@ -27,12 +28,12 @@ is_slip_here (a ∷ word) (b ∷ meant) =
     || (same_but_case word (b ∷ meant) || (same_but_case (a ∷ word) meant || is_swapped (a ∷ word) (b ∷ meant)))
 is_slip_here _ _ = false
 
--- the words differ by one such slip after their common prefix
+-- after their common prefix, the words are equal, or one letter is replaced, added, missing, or swapped with the next
 abbrev pub is_slip : List ℕ → List ℕ → Bool
 is_slip (a ∷ word) (b ∷ meant) =
     if eq_ignore_ascii_case a b then is_slip word meant else is_slip_here (a ∷ word) (b ∷ meant)
 is_slip word meant = is_slip_here word meant
 
--- the first known word that differs from this one by one slip
+-- the first known word that differs from this one by at most one slip
 abbrev pub meant_of : List (Bor Text) → Text → Option (Bor Text)
 meant_of known word = find (λ meant. is_slip word meant.now) known

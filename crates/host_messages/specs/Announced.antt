@@ -1,4 +1,4 @@
--- The lines that init prints about the happenings that it announces; it prints nothing about any other.
+-- The lines that init prints about the happenings that it announces; it prints nothing about other happenings.
 use Rattle.std.specs.Prelude.{ℕ, List, [], ◌∷◌, ◌++◌, codes}
 use Rattle.init_words.specs.declared.stages.Stage.{Stage}
 use Rattle.init_words.specs.declared.stages.Stage.TheVariants as stage

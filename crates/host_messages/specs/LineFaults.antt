@@ -6,16 +6,16 @@ use Rattle.inittab_text.specs.declared.faults.LineKind.{LineKind}
 use Rattle.inittab_text.specs.declared.faults.PartFault.{PartFault}
 use Rattle.inittab_text.specs.Faults.{kind_text}
 
--- the name of a file, and a blank; nothing if there is no such file
+-- the name of a file, followed by a blank; empty if there is no such file
 abbrev pub name_text : Option NamedText → List ℕ
 name_text None = []
 name_text (Some part) = part.name ++ codes " "
 
--- the name of the file with this number, in which a fault is; nothing for the first file
+-- the name of the file in which a fault is, given the file's number; empty for the first file
 abbrev pub place_text : List NamedText → ℕ → List ℕ
 place_text parts number = if number == 0 then [] else name_text (slice_get parts number)
 
--- the number of a line, and the check that it fails
+-- the text that gives the number of a line and the check that it fails
 abbrev pub line_text : ℕ → LineKind → List ℕ
 line_text line kind = codes "line " ++ decimal line ++ codes ": " ++ kind_text kind ++ codes "\n"
 

@@ -19,7 +19,7 @@ use Rattle.initd_command.specs.declared.run.TheConstants.{CAPPED, UNLED, UNPRINT
 use Rattle.initd_command.specs.Turned.{End, ReportsEnd, ReportsText, end_status}
 use Rattle.command_words.specs.Faults.{usage_report}
 
--- The report about a trace that was judged, in addition to the verdict:
+-- What is reported about a judged trace, in addition to the verdict:
 -- - `within`: its path, if it begins within a run
 -- - `open_line`: the line at which its last happening begins, if that is incomplete
 -- - `count`: the number of its complete happenings
@@ -28,9 +28,9 @@ pub record TraceJudgement : Type 0 where
   pub open_line : Option ℕ
   pub count : ℕ
 
--- The report about a run that reaches its turns:
--- - `unled`: neither the arguments nor the inittab name its level
--- - `capped`: no option specifies its end, so that it has the default limit of turns
+-- What determines the report about a run that made turns:
+-- - `unled`: neither the arguments nor the inittab name the level to go to
+-- - `capped`: no option specifies when the run ends, so it has the default limit of turns
 -- - `told`: the faults of its inittab were written
 -- - `printed`: its host printed all its output
 pub record RunRemarks : Type 0 where
@@ -41,8 +41,8 @@ pub record RunRemarks : Type 0 where
 
 -- An ending:
 -- - `done`: success
--- - `usage`: the arguments are not a command line; with the usage of the command with which they begin, if they begin
---   with a command, and the reason
+-- - `usage`: the arguments are not a command line; with the usage of the command that they begin with, if any, and the
+--   reason
 -- - `refused`: there is an obstacle
 -- - `stopped`: the simulated run over this script ended before the end of the script because of this fault
 -- - `unflushed`: the output could not be flushed
@@ -51,7 +51,7 @@ pub record RunRemarks : Type 0 where
 -- - `torn`: no happening begins at the line of the trace with this number
 -- - `unfinished`: the happening at this line of the trace is incomplete; with the verdict on the part before it
 -- - `unwritten`: the verdict could not be written
--- - `turned`: the turns of a run over the operating system had this end
+-- - `turned`: a run on the operating system made turns, which ended like this
 -- - `unversioned`: the version could not be written
 pub data Ending : Type 0 where
   done : Ending
@@ -104,12 +104,12 @@ status_of unversioned = DEVICE_FAULT
 abbrev pub reason_message : List ℕ → Objection → List ℕ
 reason_message line why = codes "initd: " ++ line_told line ++ codes ": " ++ objection_text why ++ codes "\n"
 
--- the line about the script line whose number a fault contains; empty for any other fault
+-- the message about the script line whose number the fault gives; empty if the fault gives none
 abbrev pub reason_of : List ℕ → SimFault → List ℕ
 reason_of script (fault.Forbidden number why) = reason_message (line_at number script) why
 reason_of script _ = []
 
--- the report of a fault of a run over this script, followed by the reason if a line is not allowed at its place
+-- the report about a fault of a run over this script, followed by the reason if a line is not allowed at its place
 abbrev pub fault_message : List ℕ → SimFault → List ℕ
 fault_message script f = codes "initd: " ++ fault_text f ++ codes "\n" ++ reason_of script f
 
@@ -158,7 +158,7 @@ shared_message one other =
 abbrev pub unlisted_message : List ℕ → List ℕ
 unlisted_message id = codes "initd: no entry has the id " ++ (id ++ codes "; use --result with an id in the inittab\n")
 
--- the faults of an inittab that must have none are reported, and that the inittab is rejected
+-- the faults of an inittab that must have none are reported, followed by the message that the inittab is rejected
 abbrev pub ReportsFlawed : List ℕ → ReportList → ReportList → Type 0
 ReportsFlawed told old new = (mid : ReportList) × AppendsReport old mid told × AppendsReport mid new FLAWED.now
 
@@ -167,17 +167,17 @@ abbrev pub ReportsIf : Bool → List ℕ → ReportList → ReportList → Type 
 ReportsIf true text old new = AppendsReport old new text
 ReportsIf false text old new = new ≡ old
 
--- if the last happening is incomplete, that is reported
+-- if the last happening is incomplete, this is reported
 abbrev pub ReportsOpenLine : Option ℕ → ReportList → ReportList → Type 0
 ReportsOpenLine None old new = new ≡ old
 ReportsOpenLine (Some line) old new = ReportsText (left_message line) old new
 
--- if the trace begins within a run, that is reported
+-- if the trace begins within a run, this is reported
 abbrev pub ReportsWithin : Option (List ℕ) → ReportList → ReportList → Type 0
 ReportsWithin None old new = new ≡ old
 ReportsWithin (Some path) old new = ReportsText (within_message path) old new
 
--- the report of the number of happenings
+-- the report that the trace has this number of happenings
 abbrev pub count_message : ℕ → List ℕ
 count_message count = codes "initd: " ++ decimal count ++ codes " happenings\n"
 
@@ -235,7 +235,7 @@ ReportsRefused None [] old new = ReportsAll old new
 ReportsRefused help reason old new =
     AppendsReport old new (usage_report (codes "initd") reason (unwrap_or help []) SHORT_USAGE.now)
 
--- the report about each ending
+-- the reports about this ending, and no others, were added
 abbrev pub Reports : Ending → ReportList → ReportList → Type 0
 Reports done old new = new ≡ old
 Reports (usage help reason) old new = ReportsRefused help reason old new

@@ -16,8 +16,8 @@ NextRequestIs stood request bytes = (front later : List ℕ) (calls : List HostC
     → stood ≡ front ++ later → length front % BLOCK ≡ 0 → p.over ≡ [] → front ++ bytes_of calls ≡ bytes
     → requests_in (point_after calls p).past ≡ requests_in p.past ++ (requests_in_blocks later ++ request ∷ [])
 
--- if the bytes of the channel that the arguments name were known, the request of the arguments is the next one in the
--- channel, after the earlier requests
+-- if the bytes of the channel that the arguments name were known, the request that the arguments make is the next one
+-- in the channel, after the earlier requests
 abbrev pub IsNext : List ℕ → List (List ℕ) → KnownBytes → KnownBytes → Type 0
 IsNext home words old new = (path block : List ℕ) × IsRequestFor home words path block
     × ((stood : List ℕ) → old path ≡ Some stood

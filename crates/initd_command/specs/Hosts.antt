@@ -1,4 +1,4 @@
--- The host that the arguments of a run describe, and the records of the hosts over the operating system.
+-- The host that the arguments of a run describe, and the records of the hosts on the operating system.
 use Rattle.std.specs.Prelude.{List, [], Option, Some, None, ℕ}
 use Rattle.host_calls.specs.Held.{HeldChildren}
 use Rattle.host_calls.specs.Settings.{HostSettings}
@@ -10,9 +10,9 @@ use Rattle.host_system.specs.Systems.{SystemCall}
 use Rattle.initd_command.specs.Words.{HostCall, RunArguments}
 
 -- The state of a new host for the arguments of a run. The arguments determine its inittab, logs, groups and longest
--- delay, and whether it is strict, reports on children, and skips earlier requests. None of its calls failed, it has
--- read nothing from its channel, it has started nothing, and it holds no child. The arguments do not determine what it
--- has asked of the system.
+-- delay, and whether it is strict, reports on children, and skips earlier requests. None of its calls has failed, and
+-- it has read nothing from its channel, started nothing, and holds no child. The arguments do not determine which calls
+-- it has made to the system.
 abbrev pub host_with : List SystemCall → RunArguments → HostState
 host_with asked service = record {
   faults = 0;
@@ -35,7 +35,8 @@ pub record HostsState : Type 0 where
   pub asked : List SystemCall
   pub heard : List ChannelCall
 
--- for some settings of the host, the system was asked exactly what the calls to the host ask
+-- for some settings, the calls made to the system are exactly those that a host with these settings makes for the calls
+-- that it receives
 abbrev pub IsAsked : List HostCall → List SystemCall → Type 0
 IsAsked calls asked = (settings : HostSettings) × (held : HeldChildren) × AreSystemCallsFor settings calls held asked
 

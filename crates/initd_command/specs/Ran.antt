@@ -47,8 +47,8 @@ pub record MakesTurns (fresh : Type 0) (service : RunArguments) (table : List En
   pub asked : IsJudged service noted
   pub ends : end ≡ end_of service noted served
 
--- the calls are those of such turns; and if the log was fresh, it had this end, and at each call it had taken
--- everything up to that moment, or had failed
+-- the calls are those of the turns of a run (`MakesTurns`); and if the log was fresh, it has ended as its outcome
+-- states, and at each call it had taken everything so far, or had failed
 abbrev pub MakesLogged : {L : Type 0} → (L → LogState) → Type 0 → (Bool → List Event → Type 0) → RunArguments
     → List Entry → End → List HostCall → Type 0
 MakesLogged state fresh has_ended service table end calls = (made : MakesTurns fresh service table end calls)
@@ -56,15 +56,15 @@ MakesLogged state fresh has_ended service table end calls = (made : MakesTurns f
     × (fresh → HadAll state (IsOpening service.level table) calls)
 
 -- The bytes are the text of this trace, given oldest first, or, if the first flag is true, of its brief form. If not
--- all of it was written, they are a prefix of that text; for a brief form, they may be a prefix of the brief form of a
--- trace that continues this one.
+-- all of it was written, they are a prefix of that text; if the form is brief, they may be a prefix of the brief form
+-- of a longer trace that begins with this one.
 abbrev pub IsWritten : Bool → List ℕ → Bool → List Event → Type 0
 IsWritten false bytes whole trace = KnowsEnd whole trace (Some bytes)
 IsWritten true bytes whole trace = EndsBrief (λ all written. KnowsEnd all written (Some bytes)) whole trace
 
--- The calls are those of such turns, and these bytes of their trace were written to files. If the run writes a trace,
--- the bytes are the written part of the trace of the calls, which is all of it if the turns ended with their log
--- whole. Otherwise there are no bytes.
+-- The calls are those of the turns of a run (`MakesTurns`), and these bytes of their trace were written to files. If
+-- the run writes a trace, the bytes are the written part of the trace of the calls, which is all of it if the turns
+-- ended with their log whole. Otherwise there are no bytes.
 abbrev pub MakesTraced : RunArguments → List Entry → End → List ℕ → List HostCall → Type 0
 MakesTraced service table end bytes calls = (made : MakesTurns ⊤ service table end calls)
     × (service.trace ≡ None → bytes ≡ [])
@@ -100,11 +100,11 @@ HasSettings service known = IfSome known (λ settings. settings ≡ settings_of 
 abbrev pub AsksNothing : RunRecord → RunRecord → Type 0
 AsksNothing old new = (new.calls ≡ old.calls) × (new.trace ≡ old.trace)
 
--- A run that reaches its turns makes them over the table of the inittab at its paths. It accepts this inittab, writes
--- the inittab's faults, and reports if neither the arguments nor the table name a level. Its host is opened with its
+-- A run that makes turns makes them with the table of the inittab at its paths. It accepts this inittab, writes the
+-- inittab's faults, and reports if neither the arguments nor the table name a level. Its host is opened with its
 -- arguments; if the settings of the host are known, they are those of the arguments; and `conforms` holds for these
--- settings. The bytes of its trace are added to those of earlier traces. A run that ends in any other way makes no
--- call to a host, and writes no trace.
+-- settings. The bytes of its trace are added to those of earlier traces. A run that ends in any other way makes no call
+-- to a host, and writes no trace.
 abbrev pub RanBy : KnownTexts → RunArguments → (Option HostSettings → Type 0) → Ending → RunRecord → RunRecord → Type 0
 RanBy text_at service conforms (turned spoken end) old new =
     HasInittab text_at service (λ parts. TakesParts service parts
@@ -116,14 +116,14 @@ RanBy text_at service conforms (turned spoken end) old new =
     × (known : Option HostSettings) × HasSettings service known × conforms known
 RanBy text_at service conforms _ old new = AsksNothing old new
 
--- what a command line asks of hosts and writes to a trace: for `initd run`, what the run asks and writes; for any
--- other command, nothing
+-- the effect of a command line on hosts and trace files: for `initd run`, the effect of the run; for any other command,
+-- none
 abbrev pub CommandLineAsks : KnownTexts → Option InitdArguments → (Option HostSettings → Type 0) → Ending → RunRecord
     → RunRecord → Type 0
 CommandLineAsks text_at (Some (runs service)) conforms ending old new = RanBy text_at service conforms ending old new
 CommandLineAsks text_at _ conforms ending old new = AsksNothing old new
 
--- the same for the arguments from which the command line is read
+-- the effect on hosts and trace files of the command line that these arguments are
 abbrev pub ArgumentsAsk : KnownTexts → List (List ℕ) → (Option HostSettings → Type 0) → Ending → RunRecord → RunRecord
     → Type 0
 ArgumentsAsk text_at words conforms ending old new =

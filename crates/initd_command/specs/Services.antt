@@ -1,4 +1,4 @@
--- How a run over the operating system ends: its output, and the exit status that follows from the end of its turns.
+-- How a run on the operating system ends: its output, and the exit status that follows from how its turns ended.
 use Rattle.std.specs.Prelude.{◌≡◌, ◌≤◌, ◌<◌, ◌⊎◌, ◌&&◌, ◌==◌, not, if◌then◌else◌, ℕ, Bool, true, false, List, [], ◌∷◌}
 use Rattle.std.specs.Prelude.{◌++◌, length, string_bytes, Option, Some, None, option_map, is_none, is_some, unwrap_or}
 use Rattle.std.specs.Prelude.{IfSome, IsTrue, ⊤, ◌≢◌}
@@ -28,7 +28,7 @@ abbrev pub has_no_level : Option Level → List Entry → Bool
 has_no_level (Some level) table = false
 has_no_level None table = is_none (default_level_of table)
 
--- the run rejects an inittab with faulty lines, and there are lines that report faults
+-- the run rejects an inittab with faulty lines, and there are messages about faults
 abbrev pub is_flawed : RunArguments → List ℕ → Bool
 is_flawed service told = service.strict && not (length told == 0)
 
@@ -65,7 +65,7 @@ noted_of notes waiting judgement = record {
 abbrev pub judgement_for : RunArguments → Judgement → Option Judgement
 judgement_for service judgement = then_some service.judge judgement
 
--- the end of the entry of --result, if that is given
+-- the entry of --result and how its last child ended; none if the option is not given
 abbrev pub entry_end : Option Status → Option (List ℕ) → Option EntryEnd
 entry_end last entry = option_map (λ id. record { id = id; last = last }) entry
 
@@ -93,13 +93,13 @@ IsServed service served =
 abbrev pub IsJudged : RunArguments → Noted → Type 0
 IsJudged service noted = is_some noted.judgement ≡ service.judge
 
--- turns were made, and the run had this end
+-- the run made turns and ended like this
 abbrev pub EndsServed : RunArguments → End → Type 0
 EndsServed service end =
     (served : Served) × (noted : Noted) × (end ≡ end_of service noted served) × IsServed service served
     × IsJudged service noted
 
--- these are the notes of the trace, given newest first; `wanted` is the id whose last end is noted
+-- these notes are right for the trace, given newest first; `wanted` is the id whose last exit status is noted
 pub record AreNotesOfRun (wanted : Option (List ℕ)) (noted : Noted) (past : List Event) : Type 0 where
   pub last : (id : List ℕ) → is_wanted id wanted ≡ true → noted.last ≡ last_end id past
   pub running : IfSome noted.running (λ running. IsRunning running past)
@@ -107,15 +107,15 @@ pub record AreNotesOfRun (wanted : Option (List ℕ)) (noted : Noted) (past : Li
       × (noted.waiting ≡ waiting_text core)
   pub judgement : IfSome noted.judgement (λ judgement. IsJudgementOf judgement past)
 
--- The end of a log that was given this trace, oldest first: if the flag is true, the log took the whole trace and
--- passed everything on; otherwise it took a prefix of the trace.
+-- How a log ended that was given this trace, oldest first: if the flag is true, the log took the whole trace and passed
+-- everything on; otherwise it took a prefix of the trace.
 abbrev pub LogEnds : (Bool → List Event → Type 0) → Bool → List Event → Type 0
 LogEnds has_ended true trace = has_ended true trace
 LogEnds has_ended false trace = (taken : List Event) × (missed : List Event) × (taken ++ missed ≡ trace)
     × (whole : Bool) × has_ended whole taken
 
--- the property holds for the trace of these calls from the opening on, if the answers to them were possible, and the
--- texts that were carried came back in a permitted way
+-- the property holds for the trace of these calls, from the start of the run on, if the answers to them were possible
+-- and the host returned the saved states in a permitted way
 abbrev pub TurnsFrom : Option Level → List Entry → List HostCall → (List Event → Type 0) → Type 0
 TurnsFrom level table calls So =
     IsTrue (is_allowed (opening_goal level table) (point_after calls (start_point table)).past)
@@ -133,7 +133,7 @@ abbrev pub HasInittab : KnownTexts → RunArguments → (List NamedText → Type
 HasInittab text_at service So =
     (parts : List NamedText) × AreFiles text_at service parts × (are_readable (texts_of parts) ≡ true) × So parts
 
--- the table of the files of an inittab
+-- the table read from the files of an inittab
 abbrev pub table_in : List NamedText → List Entry
 table_in parts = table_of_texts (texts_of parts)
 
@@ -141,7 +141,7 @@ table_in parts = table_of_texts (texts_of parts)
 abbrev pub told_of : List NamedText → List ℕ
 told_of parts = faults_text parts (faults_of_parts (texts_of parts))
 
--- the run accepts the inittab of these files
+-- the run accepts the inittab that consists of these files
 abbrev pub TakesParts : RunArguments → List NamedText → Type 0
 TakesParts service parts = is_taken service (told_of parts) (table_in parts) ≡ true
 
@@ -149,7 +149,7 @@ TakesParts service parts = is_taken service (told_of parts) (table_in parts) ≡
 abbrev pub run_paths : RunArguments → List (List ℕ)
 run_paths service = service.inittab ∷ service.initctl ∷ service.state ∷ unwrap_or service.trace [] ∷ []
 
--- the list has one path, and the other path after it
+-- the list has both paths, `one` before `other`
 abbrev pub AppearInOrder : List ℕ → List ℕ → List (List ℕ) → Type 0
 AppearInOrder one other paths =
     (before between after : List (List ℕ)) × (paths ≡ before ++ one ∷ (between ++ other ∷ after))
@@ -159,8 +159,8 @@ abbrev pub AreDistinctPaths : List (List ℕ) → Type 0
 AreDistinctPaths [] = ⊤
 AreDistinctPaths (path ∷ paths) = AllByRecursion (λ other. path ≢ other) paths × AreDistinctPaths paths
 
--- The obstacle prevents this run, for the reason that it names. Nothing is stated about lack of memory, nor about
--- children that cannot be waited for, because the definitions do not cover signals.
+-- The obstacle prevents this run, for the reason that it names. This states nothing if memory ran out, or if children
+-- cannot be waited for, because the definitions do not cover signals.
 abbrev pub IsRunObstacle : KnownTexts → RunArguments → Obstacle → Type 0
 IsRunObstacle text_at service (why.Unread path error) = (string_bytes path ≡ service.inittab)
     ⊎ ((folder : List ℕ) × (service.inittab_dir ≡ Some folder) × IsWithin folder (string_bytes path))
@@ -187,14 +187,14 @@ abbrev pub Writes : Bool → List ℕ → Option (List ℕ) → Option (List ℕ
 Writes true text old new = Appends old new text
 Writes false text old new = AppendsPrefix old new text
 
--- turns were made, and the run had this end; before the turns, the faults of the inittab were written, or, if
--- `written` is false, a prefix of them
+-- the run made turns and ended like this; before the turns, the faults of the inittab were written, or, if `written` is
+-- false, a prefix of them
 abbrev pub EndsTold : RunArguments → List ℕ → Bool → End → Option (List ℕ) → Option (List ℕ) → Type 0
 EndsTold service told written end old new = EndsServed service end × Writes written told old new
 
--- How a run ends. Either there is an obstacle, and nothing is written. Or its paths are all different, it accepts the
--- inittab at its paths, writes the inittab's faults, and makes turns; it reports if neither the arguments nor the
--- table name a level, and if no option specifies its end.
+-- How a run ends. Either there is an obstacle, and nothing is written. Or its paths are all different, and it accepts
+-- the inittab at its paths, writes the inittab's faults, and makes turns; it reports if neither the arguments nor the
+-- table name a level, and if no option specifies when it ends.
 abbrev pub EndsRun : KnownTexts → RunArguments → Ending → Option (List ℕ) → Option (List ℕ) → Type 0
 EndsRun text_at service ending old new =
     ((obstacle : Obstacle) × (ending ≡ refused obstacle) × IsRunObstacle text_at service obstacle × Keeps old new)
@@ -204,7 +204,7 @@ EndsRun text_at service ending old new =
     × (end : End) × (ending ≡ turned spoken end)
     × EndsTold service (told_of parts) spoken.told end old new)
 
--- the files are neither too many nor too long, and this is their table, with the lines that report their faults
+-- the files are neither too many nor too long, and `read` is their table, with the messages about their faults
 abbrev pub IsReadOf : List NamedText → Inittab → Type 0
 IsReadOf parts read =
     (are_readable (texts_of parts) ≡ true) × (read.faults.items ≡ told_of parts) × (read.table ≡ table_in parts)

@@ -31,7 +31,7 @@ pub record End : Type 0 where
   pub whole : Bool
   pub judgement : Option Judgement
 
--- the exit status for the last end of an entry
+-- the exit status of a run, given how an entry's last child ended, if one has ended
 abbrev pub result_status : Option Status → ℕ
 result_status (Some (Exit code)) = code
 result_status (Some Killed) = KILLED
@@ -42,7 +42,7 @@ abbrev pub drained_status : Option EntryEnd → ℕ
 drained_status None = DONE
 drained_status (Some entry) = result_status entry.last
 
--- the exit status for a verdict: there is one for a breach, and one if not everything was judged
+-- the exit status that a verdict requires, if it is a breach or not everything was judged; none otherwise
 abbrev pub judgement_status : Judgement → Option ℕ
 judgement_status (Lawful count) = None
 judgement_status (Breach position law) = Some UNLAWFUL
@@ -71,7 +71,7 @@ last_text (Some (Exit code)) = codes " exited with status " ++ (decimal code ++ 
 last_text (Some Killed) = codes " was killed\n"
 last_text None = codes " never ended\n"
 
--- the report of how the last child of an entry ended
+-- the report about how the last child of an entry ended
 abbrev pub result_text : EntryEnd → List ℕ
 result_text entry = codes "initd: " ++ (entry.id ++ last_text entry.last)
 
@@ -84,7 +84,7 @@ abbrev pub listed_after : List ℕ → List (List ℕ × ℕ) → List ℕ
 listed_after front [] = []
 listed_after front (child ∷ children) = front ++ (child_text child ++ listed_after (codes ", ") children)
 
--- the report of the children that are still running
+-- the report about the children that are still running
 abbrev pub running_text : List (List ℕ × ℕ) → List ℕ
 running_text children = listed_after (codes "initd: still running: ") children ++ codes "\n"
 
@@ -99,22 +99,23 @@ abbrev pub breach_text : ℕ → List ℕ → List ℕ
 breach_text position why =
     codes "initd: the run was unlawful: happening " ++ (decimal position ++ (codes ": " ++ (why ++ codes "\n")))
 
--- the report of the verdict on a run, given whether its trace was written in full
+-- the report about the verdict on a run, given whether its trace was written in full
 abbrev pub judgement_text : Bool → Judgement → List ℕ
 judgement_text whole (Lawful count) = lawful_text whole count
 judgement_text whole (Breach position law) = breach_text position (law_words law)
 judgement_text whole Unjudged = UNJUDGED.now
 
--- the text is reported, or that there was no memory for it
+-- the text is reported, or it is reported that there was no memory for the text
 abbrev pub ReportsText : List ℕ → ReportList → ReportList → Type 0
 ReportsText text old new = AppendsReport old new text ⊎ AppendsReport old new NO_MEMORY.now
 
--- the last end of the entry of --result is reported, if the option is given
+-- if --result is given, it is reported how the last child of its entry ended
 abbrev pub ReportsResult : Option EntryEnd → ReportList → ReportList → Type 0
 ReportsResult None old new = new ≡ old
 ReportsResult (Some entry) old new = ReportsText (result_text entry) old new
 
--- the children that are still running are reported, if there are any; or that there was no memory to note all of them
+-- the children that are still running are reported, if there are any; or it is reported that there was no memory to
+-- note all of them
 abbrev pub ReportsRunning : Option (List (List ℕ × ℕ)) → ReportList → ReportList → Type 0
 ReportsRunning None old new = AppendsReport old new UNNAMED.now
 ReportsRunning (Some []) old new = new ≡ old
@@ -125,15 +126,14 @@ abbrev pub ReportsJudgement : Bool → Option Judgement → ReportList → Repor
 ReportsJudgement whole None old new = new ≡ old
 ReportsJudgement whole (Some judgement) old new = ReportsText (judgement_text whole judgement) old new
 
--- the report if all turns were made: that the limit is reached, the children that are still running, and what init
+-- if all turns were made, the report: that the limit is reached, the children that are still running, and what init
 -- waits for
 abbrev pub ReportsLimit : Option (List (List ℕ × ℕ)) → List ℕ → ReportList → ReportList → Type 0
 ReportsLimit running waiting old new =
     (limit : ReportList) × AppendsReport old limit LIMITED.now
     × (mid : ReportList) × ReportsRunning running limit mid × ReportsText waiting mid new
 
--- the report about how the turns ended; if the trace was not written in full, this does not specify which children are
--- named
+-- the report about how the turns ended; if the trace was not written in full, the report may name any children
 abbrev pub ReportsTurns : TurnsEnd → ReportList → ReportList → Type 0
 ReportsTurns (drained result) old new = ReportsResult result old new
 ReportsTurns (limited running waiting) old new = ReportsLimit running waiting old new

@@ -85,8 +85,8 @@ abbrev pub cut_at : Bool → Option ℕ → Option ℕ
 cut_at true open_line = None
 cut_at false open_line = open_line
 
--- how `initd check` ends for a text that is incomplete at this line: the text is no trace, and the verdict on the part
--- before the line is reported
+-- how `initd check` ends for a text that is incomplete at this line: the text is not a trace, and the verdict on the
+-- part before the line is reported
 abbrev pub EndsUnfinished : ℕ → Finding Named → Ending → Option (List ℕ) → Option (List ℕ) → Type 0
 EndsUnfinished line finding (unfinished at verdict) old new =
     (at ≡ line) × (verdict ≡ verdict_of finding) × Keeps old new
@@ -107,7 +107,7 @@ EndsTrace options text ending old new = (finding : Finding Named) × (open_line 
       count = count;
     }) ending old new
 
--- how `initd check` ends for the text at a path: the text is not read, or the command ends as it does for that text
+-- how `initd check` ends for a path: the text at the path is not read, or the command ends as it must for that text
 abbrev pub EndsCheck : KnownTexts → CheckArguments → Ending → Option (List ℕ) → Option (List ℕ) → Type 0
 EndsCheck text_at options ending old new = EndsUnread options.trace ending old new
     ⊎ ((text : List ℕ) × IsTextAt text_at options.trace text × EndsTrace options text ending old new)

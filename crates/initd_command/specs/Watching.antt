@@ -11,7 +11,7 @@ use Rattle.core_model.specs.Words.{SlotState, child_number}
 use Rattle.level_core.specs.Words.{record_by_id}
 use Rattle.initd_command.specs.Words.{CoreState, Entry, Status}
 
--- an end other than exit status 0
+-- how a child ended, unless it ended with exit status 0
 abbrev pub failed_end : Option Status → Option Status
 failed_end (Some (status.Exit code)) = if code == 0 then None else Some (status.Exit code)
 failed_end last = last
@@ -32,7 +32,7 @@ abbrev pub holds_child : ℕ → SlotState → Bool
 holds_child number slot = option_map_or (λ held. held == number) (child_number slot) false
 
 -- the failure to report for the child with this number, for which init waited, given the entry and the record of its
--- id, and the stage: how the child ended, if it is gone, failed, and was not stopped by the stage
+-- id, and the stage: how the child ended, if it is gone, failed, and was not stopped because of the stage
 abbrev pub told_of_child : Option Entry → Option SlotState → Option Stage → ℕ → Option Status
 told_of_child (Some entry) (Some slot) (Some stage) number =
     if holds_child number slot then None else if was_not_stopped entry stage then failed_end slot.last else None

@@ -29,13 +29,13 @@ pub record SimulateArguments : Type 0 where
   pub table : Text
   pub script : Text
 
--- whether the trace may end in an incomplete happening, whether it is judged with the pieces before it, and its path
+-- whether the trace may end in an incomplete happening, whether the pieces before it are judged with it, and its path
 pub record CheckArguments : Type 0 where
   pub growing : Bool
   pub pieces : Bool
   pub trace : Text
 
--- print the version, simulate a run of init, judge a trace, or run init over the operating system
+-- what initd is to do: print its version, simulate a run of init, judge a trace, or run init on the operating system
 pub data InitdArguments : Type 0 where
   version : InitdArguments
   simulates : SimulateArguments → InitdArguments
@@ -93,11 +93,11 @@ command_arguments command words =
     else if bytes_eq command (codes "run") then option_map runs (run_read_of words)
     else None
 
--- the arguments of `initd` other than `--version`
+-- what the arguments of `initd` ask for, except `--version`; none if they are not valid
 abbrev pub line_arguments : List Text → Option InitdArguments
 line_arguments [] = None
 line_arguments (command ∷ words) = command_arguments command words
 
--- the arguments of `initd`; none if they are not valid
+-- what the arguments of `initd` ask for; none if they are not valid
 abbrev pub initd_read_of : List Text → Option InitdArguments
 initd_read_of words = if asks_version words then Some version else line_arguments words

@@ -18,11 +18,11 @@ use Rattle.initd_options.specs.declared.options.TheConstants.{TURNS_LIMIT, UNITS
 use Rattle.init_words.specs.Levels.{level_read}
 use Rattle.program_io.specs.Arguments.{only_byte}
 
--- the level of a word of one character
+-- the level that a one-character word names
 abbrev pub level_word_read : Text → Option Level
 level_word_read word = option_and_then level_read (only_byte word)
 
--- the level of a word, if one is given; none if it is not valid
+-- the level that the word names: `Some None` if no word is given, none if the word is not a level
 abbrev pub level_in : Option Text → Option (Option Level)
 level_in None = Some None
 level_in (Some word) = option_map Some (level_word_read word)
@@ -36,7 +36,7 @@ abbrev pub without_zeros : Text → Text
 without_zeros [] = []
 without_zeros (byte ∷ word) = if byte == 48 then without_zeros word else byte ∷ word
 
--- a number of turns, from 1 to the limit
+-- the number of turns that the word gives, from 1 to the limit
 abbrev pub turns_read : Text → Option ℕ
 turns_read word =
     option_and_then (λ turns. if nat_lt 0 turns then Some turns else None)
@@ -62,7 +62,7 @@ names_end rows =
 abbrev pub digit_read : ℕ → Option ℕ
 digit_read byte = if is_ascii_digit byte then Some (byte - 48) else None
 
--- the hundredths of one or two digits after the point
+-- the number of hundredths that the one or two digits after the point give
 abbrev pub part_read : List ℕ → Option ℕ
 part_read (tenth ∷ []) = option_map (λ t. t * 10) (digit_read tenth)
 part_read (tenth ∷ hundredth ∷ []) =
@@ -74,7 +74,7 @@ abbrev pub whole_read : List ℕ → Option ℕ
 whole_read [] = Some 0
 whole_read digits = number_read (PAUSE_SECONDS + 1) digits
 
--- the hundredths of a decimal number whose whole part is at most the longest pause
+-- the number of hundredths in a decimal number whose whole part is at most the longest pause
 abbrev pub hundredths_in : List ℕ → Option (List ℕ × List ℕ) → Option ℕ
 hundredths_in word None = option_map (λ whole. whole * 100) (number_read (PAUSE_SECONDS + 1) word)
 hundredths_in word (Some parts) =
@@ -83,17 +83,18 @@ hundredths_in word (Some parts) =
 abbrev pub hundredths_read : List ℕ → Option ℕ
 hundredths_read word = hundredths_in word (cut 46 word)
 
--- the hundredths of a decimal number of seconds, from 0.01 to the longest pause
+-- the number of hundredths in a decimal number of seconds, from 0.01 to the longest pause
 abbrev pub pause_read : Text → Option ℕ
 pause_read word = option_and_then
     (λ length. if nat_lt 0 length && nat_le length PAUSE_LIMIT then Some length else None) (hundredths_read word)
 
--- the longest pause if none is given: a minute if the children are watched and a request rings the bell, else a second
+-- the longest pause if none is given: a minute if the children are watched and each request rings the bell, otherwise a
+-- second
 abbrev pub pause_default : List Row → ℕ
 pause_default rows =
     if is_set (codes "--watch") rows && is_set (codes "--bell") rows then PAUSE_LIMIT else PAUSE_DEFAULT
 
--- the longest pause, which has this default
+-- the longest pause, in hundredths of a second: the given one, or else the default
 abbrev pub pause_in : ℕ → Option Text → Option ℕ
 pause_in default None = Some default
 pause_in default (Some word) = pause_read word
@@ -102,7 +103,7 @@ pause_in default (Some word) = pause_read word
 abbrev pub pause_option : List Row → Option ℕ
 pause_option rows = pause_in (pause_default rows) (first_of (codes "--pause") rows)
 
--- the id of a word, if one is given; none if it is not an id
+-- the id that the word is: `Some None` if no word is given, none if the word is not an id
 abbrev pub result_in : Option Text → Option (Option (List ℕ))
 result_in None = Some None
 result_in (Some word) = option_map Some (id_read word)
@@ -111,7 +112,7 @@ result_in (Some word) = option_map Some (id_read word)
 abbrev pub result_option : List Row → Option (Option (List ℕ))
 result_option rows = result_in (first_of (codes "--result") rows)
 
--- whether the trace is brief, which requires a trace
+-- whether the trace is brief; none if it is to be brief but no trace is given
 abbrev pub brief_in : Bool → Option Text → Option Bool
 brief_in true None = None
 brief_in brief trace = Some brief
@@ -120,18 +121,18 @@ brief_in brief trace = Some brief
 abbrev pub brief_option : List Row → Option Bool
 brief_option rows = brief_in (is_set (codes "--brief") rows) (first_of (codes "--trace") rows)
 
--- the bytes of this many units; the digits must be followed by the letter only
+-- the number of bytes in this many units of `unit` bytes; none if anything follows the letter after the number
 abbrev pub in_units : ℕ → Option (List ℕ × List ℕ) → Option ℕ
 in_units unit None = None
 in_units unit (Some parts) =
     option_and_then (λ number. if length parts.1 == 0 then Some (number * unit) else None)
     (number_read UNITS_LIMIT parts.0)
 
--- the bytes of a number of units: the word is the number followed by the letter
+-- the number of bytes that the word gives, as a number of units followed by the letter of the unit
 abbrev pub units_read : ℕ → ℕ → Text → Option ℕ
 units_read letter unit word = in_units unit (cut letter word)
 
--- a number of bytes, or of kibibytes (K), mebibytes (M) or gibibytes (G), within the limits
+-- the number of bytes that the word gives in bytes, kibibytes (K), mebibytes (M) or gibibytes (G), within the limits
 abbrev pub size_read : Text → Option ℕ
 size_read word =
     option_and_then (λ size. if nat_le SIZE_LEAST size && nat_le size SIZE_MOST then Some size else None)
@@ -139,7 +140,8 @@ size_read word =
     (option_or (option_or (number_read (2 ^ 64) word) (units_read 75 1024 word)) (units_read 77 1048576 word))
     (units_read 71 1073741824 word))
 
--- the length at which a trace is put away, if one is given, which requires a trace
+-- the length at which a trace is put away: `Some None` if no length is given; none if it is not valid or no trace is
+-- given
 abbrev pub size_in : Option Text → Option Text → Option (Option ℕ)
 size_in None trace = Some None
 size_in (Some word) None = None
@@ -154,7 +156,8 @@ abbrev pub keep_read : Text → Option ℕ
 keep_read word =
     option_and_then (λ keep. if nat_lt 0 keep then Some keep else None) (number_read (KEEP_LIMIT + 1) word)
 
--- the number of put-away files that are kept, if it is given, which requires a length at which they are put away
+-- the number of put-away files that are kept: `Some None` if no number is given; none if it is not valid, or if no
+-- length at which they are put away is given
 abbrev pub keep_in : Option Text → Option Text → Option (Option ℕ)
 keep_in None size = Some None
 keep_in (Some word) None = None
@@ -169,7 +172,7 @@ abbrev pub delay_read : Text → Option ℕ
 delay_read word =
     option_and_then (λ delay. if nat_lt 0 delay then Some delay else None) (number_read (DELAY_LIMIT + 1) word)
 
--- the longest delay of a start, if one is given; none if it is not valid
+-- the longest delay of a start: `Some None` if no delay is given, none if it is not valid
 abbrev pub delay_in : Option Text → Option (Option ℕ)
 delay_in None = Some None
 delay_in (Some word) = option_map Some (delay_read word)
@@ -214,7 +217,7 @@ pub record RunArguments : Type 0 where
   pub bell : Bool
   pub watch : Bool
 
--- the arguments as the parser returns them
+-- the arguments, in the form in which the parser returns them, as lists
 abbrev pub run_of : RunWords → RunArguments
 run_of arguments = record {
   inittab = string_bytes arguments.inittab;
@@ -274,7 +277,7 @@ service_with rows level turns pause result brief size keep delay = record {
 }
 
 -- the arguments after `run`; none if the level, the turns, the pause, the id, the length, the number of files or the
--- delay is not valid, or if an option lacks the one that it requires
+-- delay is not valid, or if an option is given without another one that it requires
 abbrev pub run_arguments : List Row → Option RunArguments
 run_arguments rows =
     option_and_then

@@ -16,21 +16,21 @@ use Rattle.inittab_lint.specs.Warnings.{run_by}
 abbrev pub is_read : List ℕ → Bool
 is_read word = list_any is_special word || is_shell_word word || is_assigned word || begins_with 64 word
 
--- the word, if it is just the name of a program; otherwise no characters
+-- the word if it is just the name of a program, otherwise empty
 abbrev pub named_by : List ℕ → List ℕ
 named_by word = if is_read word then [] else word
 
--- the program of an entry, if its action is known and needs a process; otherwise no characters
+-- the program of an entry, if its action is known and needs a process, otherwise empty
 abbrev pub program_with : Option Act → FieldBytes → List ℕ
 program_with None f = []
 program_with (Some action) f = named_by (first_word (run_by action f.process))
 
--- the program of a line with these fields; no characters if the line has too few fields
+-- the program of a line with these fields; empty if the line has too few fields
 abbrev pub program_at : Option FieldBytes → List ℕ
 program_at None = []
 program_at (Some f) = program_with (act_read f.action) f
 
--- the program that a line starts; no characters if the line is empty or a comment
+-- the program that a line starts; empty if the line is empty or a comment
 abbrev pub program_of : List ℕ → List ℕ
 program_of line =
     let text = skip_blanks line in

@@ -107,7 +107,8 @@ operator_in parts false start (b ∷ text) =
     (if is_deep parts b c then None
     else operator_in (parts_after parts b c) (is_two part b c) (starts_word part b c) text)
 
--- the operator of a process
+-- the first operator in a process, outside all parts and before any comment; `Unclosed` if a part is not closed before
+-- there is one
 abbrev pub operator_of : List ℕ → Option Operator
 operator_of process = operator_in [] false true process
 
@@ -131,12 +132,12 @@ abbrev pub is_name_byte : ℕ → Bool
 is_name_byte b =
     nat_le 48 b && nat_le b 57 || (nat_le 65 b && nat_le b 90 || (nat_le 97 b && nat_le b 122 || b == 95))
 
--- the shell expands a $ before this character: a character of a name, or one of the special ones below
+-- the shell expands a $ before this character: a letter, a digit, _, or one of {(@*#?-$!
 abbrev pub is_expansion : ℕ → Bool
 is_expansion b = is_name_byte b || list_any (λ c. c == b) (codes "{(@*#?-$!")
 
--- the shell expands a $, without a backslash before it, in the text up to the closing double quote; the flag is true if
--- the first character follows a backslash
+-- in the text up to the closing double quote, the shell expands a $ that has no backslash before it; the flag is true
+-- if a backslash precedes the first character
 abbrev pub expands : Bool → List ℕ → Bool
 expands was_read [] = false
 expands true (b ∷ text) = expands false text
@@ -163,13 +164,14 @@ flag_expands (Some parts) = is_command_flag parts.0 && quote_expands (skip_blank
 abbrev pub is_shell : List ℕ → Bool
 is_shell word = not (list_any is_special word) && list.ends_with (λ a b. a == b) word (codes "sh")
 
--- the text, cut at its first blank, is a shell, followed by a flag and command as in `flag_expands`
+-- the text, cut at its first blank, is a shell, followed by a flag and a command for which `flag_expands` holds
 abbrev pub shell_expands : Option (List ℕ × List ℕ) → Bool
 shell_expands None = false
 shell_expands (Some parts) = is_shell parts.0 && flag_expands (cut 32 (skip_blanks parts.1))
 
--- A shell, flag and command as in `shell_expands` begin at a word among the commands of a text. The arguments are the
--- open parts, whether the first character forms a unit with the one before it, and whether a word begins with it.
+-- A shell, flag and command for which `shell_expands` holds begin at a word among the commands of a text. The arguments
+-- are the open parts, whether the first character forms a unit with the one before it, and whether a word begins with
+-- it.
 abbrev pub early_in : List ℕ → Bool → Bool → List ℕ → Bool
 early_in parts was_read start [] = false
 early_in parts true start (b ∷ text) = early_in parts false start text
@@ -194,12 +196,12 @@ has_hash before (b ∷ text) = before && b == 35 || has_hash (is_blank b) text
 abbrev pub has_comment : List ℕ → Bool
 has_comment process = not (list_any is_special process) && has_hash true process
 
--- the first word, or no characters
+-- the first of the words; empty if there is none
 abbrev pub first_of : List (List ℕ) → List ℕ
 first_of [] = []
 first_of (word ∷ words) = word
 
--- the first word of a process, or no characters
+-- the first word of a process; empty if there is none
 abbrev pub first_word : List ℕ → List ℕ
 first_word process = first_of (words_of process)
 
@@ -224,7 +226,7 @@ builtins =
     ∷ codes "hash" ∷ codes "getopts" ∷ codes "alias" ∷ codes "unalias" ∷ codes "jobs" ∷ codes "fg" ∷ codes "bg"
     ∷ codes "fc" ∷ []
 
--- the word has a meaning to the shell: it is one of the words above, or begins with a parenthesis
+-- the word has a meaning to the shell: it is a reserved word or a builtin, or begins with a parenthesis
 abbrev pub is_shell_word : List ℕ → Bool
 is_shell_word word =
     begins_with 40 word

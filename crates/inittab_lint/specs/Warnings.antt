@@ -18,27 +18,27 @@ use Rattle.inittab_lint.specs.declared.traps.Warning.TheVariants as warning
 use Rattle.inittab_lint.specs.Shell.{begins_with, ends_with, expands_early, first_word, has_comment, is_assigned}
 use Rattle.inittab_lint.specs.Shell.{is_shell_word, operator_of}
 
--- the character of the runlevels has a meaning: a letter for an ondemand entry, no character for sysinit, boot and
--- bootwait, and a level for all other entries
+-- the character has a meaning in the runlevels field of entries with this action: a letter for ondemand, no character
+-- for sysinit, boot and bootwait, and a level for all other actions
 abbrev pub counts : Act → ℕ → Bool
 counts action b =
     if ignores_levels action then false
     else if is_ondemand action then is_some (letter_read b)
     else is_some (level_read b)
 
--- some character of the runlevels is ignored
+-- some character in the runlevels field is ignored
 abbrev pub has_idle : Act → List ℕ → Bool
 has_idle action levels = list_any (λ b. not (counts action b)) levels
 
--- no character of the runlevels, or of their default, has a meaning
+-- no character in the runlevels field, or in its default, has a meaning
 abbrev pub counts_none : Act → List ℕ → Bool
 counts_none action levels = not (list_any (counts action) (levels_meant action levels))
 
--- the process of an entry without a leading +; no characters if its action starts no process
+-- the process of an entry without a leading +; empty if its action starts no process
 abbrev pub run_by : Act → List ℕ → List ℕ
 run_by action process = if needs_process action then without_plus process else []
 
--- the operator that was found is this one
+-- an operator was found, and it is this one
 abbrev pub is_operator : Operator → Option Operator → Bool
 is_operator operator.Chain (Some operator.Chain) = true
 is_operator operator.Pipe (Some operator.Pipe) = true
@@ -102,7 +102,7 @@ warnings_of_line line =
     if begins_marked line then warning.Marked ∷ []
     else if is_ignored text then [] else warnings_at (fields_of text)
 
--- a warning about a line and a file, both given by number
+-- the warning for the line with this number in the file with this number
 abbrev pub at_line : ℕ → ℕ → Warning → LineWarning
 at_line part line kind = record { part = part; line = line; kind = kind }
 

@@ -35,13 +35,13 @@ command_line = line_of (codes "initview") (written OPTIONS.now)
 abbrev pub words_said : List Row → List Text
 words_said rows = unwrap_or (all_of (codes "WORD") rows) []
 
--- the row of the table is an option in the command line
+-- the command line gives the option that the row of the table describes
 abbrev pub is_given : List Row → Line → Bool
 is_given rows row =
     if length row.1 == 0 then is_set row.0 rows
     else not (bytes_eq row.1 (codes "..")) && is_some (first_of row.0 rows)
 
--- a level is a single character
+-- the level that a word names, if it is a single character that names a level
 abbrev pub level_in : Text → Option Level
 level_in [] = None
 level_in (code ∷ []) = level_read code
@@ -52,7 +52,7 @@ abbrev pub level_given : Option Text → Option (Option Level)
 level_given None = Some None
 level_given (Some word) = option_map Some (level_in word)
 
--- the level in the command line
+-- the level that the command line gives
 abbrev pub level_said : List Row → Option (Option Level)
 level_said rows = level_given (first_of (codes "--level") rows)
 
@@ -64,14 +64,14 @@ shape_said rows = if is_set (codes "--json") rows then shape.Json else shape.Lin
 abbrev pub which_said : List Row → WhichRows
 which_said rows = if is_set (codes "--faults") rows then which.Faulty else which.All
 
--- the form that --svg or --width selects; none for a bad width, or if both are given
+-- the form that --svg or --width selects; none if the width is not valid, or if both options are given
 abbrev pub form_given : WhichRows → Bool → Option Text → Option Form
 form_given rows false None = Some (Lines WIDTH rows)
 form_given rows false (Some width) = option_map (λ columns. Lines columns rows) (width_of width)
 form_given rows true None = Some (Svg rows)
 form_given rows true (Some width) = None
 
--- the form in the command line
+-- the form that the command line selects
 abbrev pub form_said : List Row → Option Form
 form_said rows = form_given (which_said rows) (is_set (codes "--svg") rows) (first_of (codes "--width") rows)
 
@@ -84,64 +84,64 @@ abbrev pub some_lines : Option ℕ → Option ℕ
 some_lines (Some (suc count)) = Some (suc count)
 some_lines _ = None
 
--- the number of lines that an argument means, 1 to 10,000; none if it is not such a number
+-- the number of lines that an argument specifies; none if it is not a number from 1 to 10,000
 abbrev pub last_of : Text → Option ℕ
 last_of word = some_lines (number_read (LAST_LIMIT + 1) word)
 
--- the value of -n: none if it is not such a number, `Some None` if the option is not given
+-- the value of -n: none if it is not a number from 1 to 10,000, `Some None` if the option is not given
 abbrev pub last_given : Option Text → Option (Option ℕ)
 last_given None = Some None
 last_given (Some word) = option_map Some (last_of word)
 
--- the number of lines in the command line
+-- the number of lines that the command line requests
 abbrev pub last_said : List Row → Option (Option ℕ)
 last_said rows = last_given (first_of (codes "-n") rows)
 
--- status [--json] [--local] TRACE [ID]
+-- the command `status [--json] [--local] TRACE [ID]`
 abbrev pub show_of : List Row → List Text → Option Command
 show_of rows (trace ∷ []) = Some (Show (question.Status (shape_said rows)))
 show_of rows (trace ∷ id ∷ []) = option_map (λ i. Show (question.Row i (shape_said rows))) (id_read id)
 show_of rows _ = None
 
--- timeline [--svg | --width N] [--faults] [--local] TRACE
+-- the command `timeline [--svg | --width N] [--faults] [--local] TRACE`
 abbrev pub draw_of : List Row → List Text → Option Command
 draw_of rows (trace ∷ []) = option_map Draw (form_said rows)
 draw_of rows _ = None
 
--- the command why for an id; none if the id is not valid
+-- the command `why` for an id; none if the id is not valid
 abbrev pub explained : Text → Option Command
 explained id = option_map Explain (id_read id)
 
--- why ID TRACE [TABLE..]
+-- the command `why ID TRACE [TABLE..]`
 abbrev pub explain_of : List Text → Option Command
 explain_of (id ∷ trace ∷ tables) = explained id
 explain_of _ = None
 
--- the command diff, which is about a trace if --trace is given
+-- the command `diff`, which is about a trace if --trace is given
 abbrev pub diff_by : Bool → Option Level → Command
 diff_by traced level = if traced then Reload level else Tables (table.Diff level)
 
--- diff [--trace TRACE] [--level LEVEL] OLD NEW
+-- the command `diff [--trace TRACE] [--level LEVEL] OLD NEW`
 abbrev pub diff_of : List Row → List Text → Option Command
 diff_of rows (old ∷ new ∷ []) = option_map (diff_by (is_some (first_of (codes "--trace") rows))) (level_said rows)
 diff_of rows _ = None
 
--- the command plan, which is about a trace if --trace is given
+-- the command `plan`, which is about a trace if --trace is given
 abbrev pub plan_by : Bool → Option Level → Command
 plan_by traced level = if traced then Timing level else Tables (table.Plan level)
 
--- plan [--trace TRACE] [--level LEVEL] TABLE [FILE..]
+-- the command `plan [--trace TRACE] [--level LEVEL] TABLE [FILE..]`
 abbrev pub plan_of : List Row → List Text → Option Command
 plan_of rows [] = None
 plan_of rows words = option_map (plan_by (is_some (first_of (codes "--trace") rows))) (level_said rows)
 
--- lint [--programs FOLDERS] TABLE [FILE..]
+-- the command `lint [--programs FOLDERS] TABLE [FILE..]`
 abbrev pub lint_of : List Row → List Text → Option Command
 lint_of rows [] = None
 lint_of rows words =
     Some (Tables (if is_some (first_of (codes "--programs") rows) then table.Programs else table.Lint))
 
--- the command about inittabs with this name
+-- the command with this name, if it is one of the commands about inittabs: diff, plan and lint
 abbrev pub tables_of : List Row → Text → List Text → Option Command
 tables_of rows verb words =
     if bytes_eq verb (codes "diff") then diff_of rows words
@@ -149,7 +149,7 @@ tables_of rows verb words =
     else if bytes_eq verb (codes "lint") then lint_of rows words
     else None
 
--- left [--json] TRACE, and follow [-n N] [--local] TRACE
+-- the command `left [--json] TRACE` or `follow [-n N] [--local] TRACE`
 abbrev pub plain_of : List Row → Text → List Text → Option Command
 plain_of rows verb (trace ∷ []) =
     if bytes_eq verb (codes "left") then Some (Show (question.Left (shape_said rows)))
@@ -187,18 +187,18 @@ abbrev pub trace_takes : TraceQuery → Text → Bool
 trace_takes (question.Left shape) option = bytes_eq option (codes "--json")
 trace_takes _ option = bytes_eq option (codes "--json") || bytes_eq option (codes "--local")
 
--- timeline accepts the option
+-- the command `timeline` accepts the option
 abbrev pub draw_takes : Text → Bool
 draw_takes option =
     bytes_eq option (codes "--svg") || (bytes_eq option (codes "--width")
     || (bytes_eq option (codes "--faults") || bytes_eq option (codes "--local")))
 
--- diff --trace and plan --trace accept the option
+-- the commands `diff --trace` and `plan --trace` accept the option
 abbrev pub goes_by_level : Text → Bool
 goes_by_level option =
     bytes_eq option (codes "--inittab-dir") || (bytes_eq option (codes "--trace") || bytes_eq option (codes "--level"))
 
--- the command accepts the option; those that read files of inittabs accept --inittab-dir
+-- the command accepts the option; each command that reads files of an inittab accepts --inittab-dir
 abbrev pub takes : Command → Text → Bool
 takes (Show question) option = trace_takes question option
 takes (Draw form) option = draw_takes option
@@ -208,7 +208,7 @@ takes (Reload level) option = goes_by_level option
 takes (Timing level) option = goes_by_level option
 takes (Tables question) option = bytes_eq option (codes "--inittab-dir") || table_takes question option
 
--- the command accepts the row of the table, or the row is not an option in the command line
+-- the command accepts the option that the row of the table describes, or the command line does not give it
 abbrev pub belongs : List Row → Command → Line → Bool
 belongs rows what row = not (is_given rows row) || takes what row.0
 
@@ -253,12 +253,13 @@ path_of (Tables question) rows words = value_said (codes "--programs") rows
 path_of (Explain id) rows words = third_word words
 path_of _ rows words = second_word words
 
--- the paths of the files of inittabs
+-- the paths of the inittab files
 abbrev pub files_of : Command → List Text → List Text
 files_of (Explain id) words = after_third words
 files_of _ words = after_first words
 
--- the paths, and the folder with additional files of an inittab
+-- the path of the trace or the folders with programs, the paths of the inittab files, and the folder with additional
+-- files of an inittab
 pub record PathTexts : Type 0 where
   pub path : Text
   pub files : List Text

@@ -9,14 +9,14 @@ use Rattle.initview_command.specs.declared.charting.TheConstants.{WIDTH_LEAST, W
 use Rattle.initview_command.specs.declared.growing.Writer.{Writer}
 use Rattle.initview_command.specs.Showing.{stop_status}
 
--- a width is 40 to 1,000 columns
+-- the width, if it is at least 40 columns (WIDTH_LEAST)
 abbrev pub width_if : ℕ → Option ℕ
 width_if width = if nat_le WIDTH_LEAST width then Some width else None
 
 abbrev pub width_of : List ℕ → Option ℕ
 width_of word = option_and_then width_if (number_read (WIDTH_LIMIT + 1) word)
 
--- the timeline of a trace in its form
+-- the timeline of a trace, in the given form
 abbrev pub drawing : Form → List Event → Line
 drawing (Lines width which) past = line.Chart width which (timeline_of (drawn_of past))
 drawing (Svg which) past = line.Svg which (timeline_of (drawn_of past))

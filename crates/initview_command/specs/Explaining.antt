@@ -23,6 +23,6 @@ abbrev pub explained : List ℕ → List ℕ → List Line → Writer → Option
 explained path id told writer stop past =
     (explanation path (chain_of id past) told (present writer stop past), stop_status stop)
 
--- the answer to the query, including the lines of the id in the files
+-- the answer to the query, including the lines about the id in the files
 abbrev pub explained_with : List ℕ → List ℕ → List NamedText → Writer → Option ViewEnd → List Event → List Line × ℕ
 explained_with path id files = explained path id (files_lines id files)

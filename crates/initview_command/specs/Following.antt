@@ -9,11 +9,11 @@ use Rattle.initview_command.specs.declared.following.Reader.{Reader}
 use Rattle.initview_command.specs.declared.following.Reader.TheVariants.{Run, Part}
 use Rattle.initview_command.specs.Showing.{EndsUnwritten, stop_status}
 
--- the text is all of the input, if that is known
+-- if the input is known, the text is all of it
 abbrev pub IsAllOf : Option (List ℕ) → List ℕ → Type 0
 IsAllOf input text = IfSome input (λ known. text ≡ known)
 
--- the text is a prefix of the input, if that is known
+-- if the input is known, the text is a prefix of it
 abbrev pub BeginsAllOf : Option (List ℕ) → List ℕ → Type 0
 BeginsAllOf input text = IfSome input (λ known. (rest : List ℕ) × (text ++ rest ≡ known))
 
@@ -43,7 +43,8 @@ IsHidden (Some count) input hidden =
     × AreLinesOf (begins_run there) there stop line (hidden ++ shown)
     × (length hidden ≡ length (hidden ++ shown) - count)
 
--- the start of following: the number of lines requested, the lines that are not written, and the previous output
+-- what is known when following starts: the number of lines requested, the lines that are not written, and the output so
+-- far
 pub record Start : Type 0 where
   pub last : Option ℕ
   pub hidden : List Line
@@ -62,7 +63,7 @@ WritesPart start input now =
     × AreLinesOf (is_judged start.last text) text stop line (start.hidden ++ shown)
     × WritesLinePrefix start.heard now shown
 
--- the start of following with these lines hidden
+-- the start of following, with these lines hidden
 abbrev pub start_of : Option ℕ → List Line → KnownOutput → Start
 start_of last hidden heard = record { last = last; hidden = hidden; heard = heard }
 
@@ -94,7 +95,7 @@ abbrev pub HasLines : Reader → List Line → List ℕ → Type 0
 HasLines (Run state) past_lines text = HasFollowedText state past_lines text
 HasLines (Part state) past_lines text = HasTold state past_lines text
 
--- the reader is of the right kind for the text, whatever text follows
+-- the reader is of the right kind for the text, whatever follows the text
 abbrev pub IsFor : Option ℕ → Reader → List ℕ → Type 0
 IsFor last reader text = (more : List ℕ) → is_judged last (text ++ more) ≡ judges reader
 

@@ -14,14 +14,15 @@ usage_line usage = codes "usage: " ++ (usage ++ codes "\n")
 abbrev pub memory_line : Text
 memory_line = codes "initview: out of memory\n"
 
--- initview reported a reason and a usage line, or the whole usage if help is requested; or it reported lack of memory
+-- initview reported a reason and a usage line, or the whole usage if help is requested; or it reported that memory ran
+-- out
 abbrev pub ReportsRefusal : ℕ → ReportList → ReportList → Type 0
 ReportsRefusal status old new =
     ((status ≡ REFUSED) × (usage : Text)
     × ReportsUsage (codes "initview") USAGE.now (usage_line usage) old new)
     ⊎ ((status ≡ DEVICE_FAULT) × AppendsReport old new memory_line)
 
--- the exit status if files are not an inittab
+-- the exit status for files that cannot be read as an inittab
 abbrev pub fault_status : TableFault → ℕ
 fault_status fault.Memory = DEVICE_FAULT
 fault_status fault.TooLong = REFUSED

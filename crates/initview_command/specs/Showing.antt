@@ -73,7 +73,7 @@ Writes lines ends status old new =
 abbrev pub Answer : Type 0
 Answer = Result (List Line × ℕ) ℕ
 
--- an answer of the program, as lists
+-- the answer that the program returns, as lists
 abbrev pub answer_value : {A : Type 0} → Result (Vec Line A × ℕ) Refusal → Answer
 answer_value (Ok given) = Ok (given.0.items, given.1)
 answer_value (Err refusal) = Err (refusal_status refusal)
@@ -97,7 +97,8 @@ abbrev pub unless_within : Bool → List Line × ℕ → Answer
 unless_within true given = Err REFUSED
 unless_within false given = Ok given
 
--- a query: the lines and the exit status, given the writer of the trace, the reason why the view ended, and the past
+-- a query: how the lines and the exit status depend on the writer of the trace, the reason why the view ended, and the
+-- past
 abbrev pub Gives : Type 0
 Gives = Writer → Option ViewEnd → List Event → List Line × ℕ
 

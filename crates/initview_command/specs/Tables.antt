@@ -21,19 +21,19 @@ use Rattle.initview_command.specs.Showing.{Answer}
 use Rattle.initview_command.specs.declared.asking.TableQuestion.{TableQuestion}
 use Rattle.initview_command.specs.declared.asking.TableQuestion.TheVariants as table
 
--- the files at the paths, in order: each has its path as its name, and the text at that path
+-- `parts` are the files at the paths, in order: the name of each is its path, and its text is the one at the path
 abbrev pub AreFilesAt : KnownTexts → List (List ℕ) → List NamedText → Type 0
 AreFilesAt text_at [] parts = parts ≡ []
 AreFilesAt text_at (path ∷ paths) parts =
     (text : List ℕ) × (others : List NamedText) × (parts ≡ record { name = path; bytes = text } ∷ others)
     × IsTextAt text_at path text × AreFilesAt text_at paths others
 
--- the files `parts` are the files `own`, followed by those of a folder, if one is given
+-- `parts` are the files `own`, followed by the files in a folder, if one is given
 abbrev pub IsFolderBehind : Option (List ℕ) → List NamedText → List NamedText → Type 0
 IsFolderBehind None own parts = parts ≡ own
 IsFolderBehind (Some folder) own parts = (more : List NamedText) × (parts ≡ own ++ more)
 
--- the files at the paths, followed by those of the folder
+-- `parts` are the files at the paths, followed by the files in the folder, if one is given
 abbrev pub AreFiles : KnownTexts → PathTexts → List NamedText → Type 0
 AreFiles text_at paths parts =
     (own : List NamedText) × AreFilesAt text_at paths.files own × IsFolderBehind paths.folder own parts
@@ -44,7 +44,7 @@ found_status found.Nothing = DONE
 found_status found.Faults = REFUSED
 found_status found.Warnings = 2
 
--- the table of the files
+-- the table read from the files
 abbrev pub table_in : List NamedText → List Entry
 table_in parts = table_of_texts (texts_of parts)
 
@@ -65,7 +65,7 @@ plan_by level entries = plan_in (level_asked level entries) entries
 abbrev pub old_of : List NamedText → List NamedText
 old_of parts = take 1 parts ++ drop 2 parts
 
--- these can be the warnings about missing programs: any with --programs (the file system decides), otherwise none
+-- these are possible warnings about missing programs: any with --programs (the file system decides), none without it
 abbrev pub AreMissing : TableQuestion → List LineWarning → Type 0
 AreMissing table.Programs missing = list_all is_missing missing ≡ true
 AreMissing _ missing = missing ≡ []
@@ -87,15 +87,15 @@ IsAnswer asked parts lines status =
     (missing : List LineWarning) × AreMissing asked missing
     × (lines ≡ (answer_of asked missing parts).0) × (status ≡ (answer_of asked missing parts).1)
 
--- the files are not a table: there are too many, or they are too long
+-- the files cannot be read as a table: there are too many, or they are too long
 abbrev pub AreNone : List NamedText → Type 0
 AreNone parts = AreTooMany (texts_of parts) ⊎ AreTooLong (texts_of parts)
 
--- the files of the old or the new inittab of a diff are not a table
+-- the files of the old or of the new inittab of a diff cannot be read as a table
 abbrev pub NoneOf : List NamedText → Type 0
 NoneOf parts = AreNone (old_of parts) ⊎ AreNone (drop 1 parts)
 
--- the files are rejected for the question
+-- the command rejects the files
 abbrev pub IsRefused : TableQuestion → List NamedText → Type 0
 IsRefused (table.Diff level) parts = NoneOf parts
 IsRefused _ parts = AreNone parts
@@ -106,13 +106,13 @@ FailsWith refused fault.Memory = Unit {0}
 FailsWith refused fault.TooLong = refused
 FailsWith refused fault.Parts = refused
 
--- the answer for these files; or they are rejected
+-- the answer is the one for these files, or the exit status for files that are rejected
 abbrev pub AnswersOf : TableQuestion → List NamedText → Answer → Type 0
 AnswersOf asked parts answer =
     ((missing : List LineWarning) × AreMissing asked missing × (answer ≡ Ok (answer_of asked missing parts)))
     ⊎ ((answer ≡ Err REFUSED) × IsRefused asked parts)
 
--- the answer for the files at the paths; or one could not be read, or memory ran out
+-- the answer is the one for the files at the paths, or the exit status if a file could not be read or memory ran out
 abbrev pub Answers : KnownTexts → PathTexts → TableQuestion → Answer → Type 0
 Answers text_at paths asked answer =
     ((parts : List NamedText) × AreFiles text_at paths parts × AnswersOf asked parts answer)

@@ -6,13 +6,13 @@ use Rattle.initview_command.specs.Showing.{Answer, Gives, Shows}
 use Rattle.initview_command.specs.Tables.{AreFiles}
 use Rattle.initview_command.specs.Writers.{KnownWriters}
 
--- the answer for these files; or they are not an inittab
+-- the answer is the one for these files, or the exit status for files that are not an inittab
 abbrev pub ShowsWith : KnownTexts → KnownWriters → PathTexts → List NamedText → (List NamedText → Gives)
     → (List NamedText → Type 0) → Answer → Type 0
 ShowsWith text_at writers paths files gives AreRefused answer =
     Shows text_at writers paths.path (gives files) answer ⊎ ((answer ≡ Err REFUSED) × AreRefused files)
 
--- the answer for the files at the paths; or one could not be read
+-- the answer is the one for the files at the paths, or the exit status if a file could not be read
 abbrev pub ShowsWithFiles : KnownTexts → KnownWriters → PathTexts → (List NamedText → Gives)
     → (List NamedText → Type 0) → Answer → Type 0
 ShowsWithFiles text_at writers paths gives AreRefused answer =

@@ -1,4 +1,4 @@
--- The writer of a trace, and the current state of a trace.
+-- Which program writes a trace, and the current state of a trace.
 use Rattle.std.specs.Prelude.{◌≡◌, ℕ, ◌+◌, ◌-◌, ◌^◌, min, List, ◌∷◌, Option, None, IfSome}
 use Rattle.initview_command.specs.Words.{Clock, Event, time_of, ViewEnd}
 use Rattle.initview_command.specs.declared.growing.Writer.{Writer}
@@ -8,7 +8,7 @@ use Rattle.initview_command.specs.declared.growing.Writer.TheVariants.{Init}
 abbrev pub KnownWriters : Type 0
 KnownWriters = List ℕ → Option Writer
 
--- this is the writer of the trace at the path, if it is known
+-- if the writer of the trace at the path is known, this is the writer
 abbrev pub IsWriterAt : KnownWriters → List ℕ → Writer → Type 0
 IsWriterAt writers path writer = IfSome (writers path) (λ known. writer ≡ known)
 

@@ -1,4 +1,5 @@
--- The lines of an inittab's files that have a given id: the position of each, and its text or the reason to ignore it.
+-- The lines in an inittab's files that have a given id: the position of each, and its text or the reason why it is
+-- ignored.
 use Rattle.std.specs.Prelude.{ℕ, Bool, ◌+◌, ◌&&◌, ◌==◌, if◌then◌else◌, List, [], ◌∷◌, ◌++◌, find, Option, Some, None}
 use Rattle.std.specs.Str.{bytes_eq}
 use Rattle.text_lines.specs.Lines.{cut, lines_of, skip_blanks}
@@ -49,10 +50,10 @@ lines_from id faults part (file ∷ files) =
 abbrev pub or_none : List ℕ → List NamedText → List Line → List Line
 or_none id files lines = lines ++ note_if (is_empty lines) files (told.NoLine id)
 
--- the messages about the lines of the id, given the faults that the reader found
+-- the messages about the lines that have the id, given the faults that the reader found
 abbrev pub lines_by : List ℕ → List PartFault → List NamedText → List Line
 lines_by id faults files = or_none id files (lines_from id faults 0 files)
 
--- the messages about the lines of the id in the files of an inittab
+-- the messages about the lines that have the id, in the files of an inittab
 abbrev pub id_lines : List ℕ → List NamedText → List Line
 id_lines id files = lines_by id (faults_of_parts (texts_of files)) files

@@ -1,4 +1,4 @@
--- The remains of a run: the children that were born and not reaped, and the entries whose start is open.
+-- What is left after a run: the children that were born and not reaped, and the entries whose start is open.
 use Rattle.std.specs.Prelude.{Bool, true, false, List, ◌++◌, filter, map, ℕ, Option, Some, None}
 use Rattle.initview_lines.specs.CommonWords.{Entry, Event, Child, table_of, unreaped_children, Row, row_of}
 use Rattle.init_words.specs.declared.orders.OrderKind.{OrderKind}

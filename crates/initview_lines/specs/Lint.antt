@@ -39,7 +39,7 @@ abbrev pub up_to : Option (List ℕ × List ℕ) → List ℕ → List ℕ
 up_to None text = text
 up_to (Some parts) text = parts.0
 
--- the first line of a text; empty if there is no text
+-- the first line of a text; empty if no text is given
 abbrev pub line_begun : Option (List ℕ) → List ℕ
 line_begun None = []
 line_begun (Some text) = up_to (cut 10 text) text
@@ -48,7 +48,7 @@ line_begun (Some text) = up_to (cut 10 text) text
 abbrev pub line_at : ℕ → List ℕ → List ℕ
 line_at number text = line_begun (after_lines (number - 1) text)
 
--- a position in the files is right: the rest is the text after this number of lines
+-- the cursor is right: `rest` is the text of its file after the first `before` lines
 abbrev pub IsCursor : List NamedText → Cursor → Type 0
 IsCursor parts cursor = after_lines cursor.before (text_of (slice_get parts cursor.part)) ≡ Some cursor.rest.now
 
@@ -103,7 +103,7 @@ has_nameless parts faults = list_any (is_nameless parts) faults
 abbrev pub warning_line : List NamedText → LineWarning → Line
 warning_line parts found = File (name_of (slice_get parts found.part)) (told.Warning found.line found.kind)
 
--- a message about the whole inittab, which names its first file, if the condition holds
+-- a message about the whole inittab, under the name of its first file, if the condition holds
 abbrev pub note_if : Bool → List NamedText → FileLine → List Line
 note_if so parts note = if so then File (name_of (slice_get parts 0)) note ∷ [] else []
 

@@ -1,4 +1,4 @@
--- The output so far, to the extent that it is known.
+-- The output so far, as far as it is known.
 use Rattle.std.specs.Prelude.{◌≡◌, Bool, true, List, [], ◌++◌, Option, Some, None, ⊤}
 use Rattle.initview_lines.specs.declared.lines.Line.{Line}
 
@@ -14,7 +14,7 @@ AppendsLines None new lines = ⊤
 AppendsLines (Some before) None lines = ⊥
 AppendsLines (Some before) (Some after) lines = after ≡ before ++ lines
 
--- these lines have been appended, and the time zone is the same as before
+-- these lines have been appended, and the choice of local times is unchanged
 abbrev pub WritesLines : KnownOutput → KnownOutput → List Line → Type 0
 WritesLines old new lines = (new.local ≡ old.local) × AppendsLines old.lines new.lines lines
 

@@ -1,5 +1,5 @@
 -- The lines for a text that begins in the middle of a run. The message about each happening does not depend on the
--- past, and has the time of the clock in the text. No law is checked.
+-- past, and its time is that of the last clock reading in the text. No law is checked.
 use Rattle.std.specs.Prelude.{◌≡◌, ℕ, Bool, true, false, List, [], ◌∷◌, ◌++◌, reverse, Option, Some, None}
 use Rattle.text_lines.specs.Lines.{newlines}
 use Rattle.initview_lines.specs.CommonWords.{Event, time_of, Reading, ViewEnd, ShownBy, StopsAt}
@@ -37,7 +37,7 @@ abbrev pub ReadBy : Option ViewEnd → Reading → List Event → List ℕ → T
 ReadBy None reading trace text = IsReadOf reading trace text
 ReadBy (Some stop) reading trace text = StopsAt stop trace text
 
--- as in `ReadBy`, and unless the view has ended, the unread part ends within a happening
+-- `ReadBy` holds, and unless the view has ended, the unread part ends within a happening
 abbrev pub TakenBy : Option ViewEnd → Reading → List Event → List ℕ → Type 0
 TakenBy None reading trace text = IsReadOf reading trace text × (is_open reading.over ≡ true)
 TakenBy (Some stop) reading trace text = StopsAt stop trace text

@@ -18,7 +18,7 @@ abbrev pub stages_lines : List Entry → List Stage → List Line
 stages_lines table [] = []
 stages_lines table (stage ∷ stages) = stage_lines table stage ++ stages_lines table stages
 
--- an entry of the critical path: its id and its action
+-- an entry on the critical path: its id and its action
 abbrev pub waiting : Entry → Waited
 waiting e = record { id = e.id; act = e.act }
 
@@ -26,7 +26,7 @@ waiting e = record { id = e.id; act = e.act }
 abbrev pub waited_in : Level → List Entry → List Waited
 waited_in level table = map waiting (critical_path level table)
 
--- the entries of a path, each with the one before it, whose end it waits for
+-- the entries on a path, each with the previous one, whose end it waits for
 abbrev pub path_lines : Option (List ℕ) → List Waited → List Line
 path_lines before [] = []
 path_lines before (w ∷ ws) = line.OnPath w.id w.act before ∷ path_lines (Some w.id) ws

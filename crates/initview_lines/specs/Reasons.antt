@@ -21,7 +21,7 @@ abbrev pub stopped_of : List ℕ → Why → List ℕ
 stopped_of id (why.ExcludedKept child) = child.id
 stopped_of id _ = id
 
--- an id, with the line of the trace that explains its reason
+-- an id, with the trace line that explains why it is not started next
 abbrev pub link_of : List ℕ → List Event → Link
 link_of id past = record { id = id; line = line_at_fault id (why_of id past) past }
 
@@ -29,13 +29,13 @@ link_of id past = record { id = id; line = line_at_fault id (why_of id past) pas
 abbrev pub chain_of : List ℕ → List Event → Chain
 chain_of id past = record { asked = link_of id past; root = link_of (root_of id (why_of id past)) past }
 
--- the line that explains the reason; none if there is no reason any more, which can happen as time passes
+-- the line that explains the reason; none if there is no longer a reason, which can happen as time passes
 abbrev pub fault_line : Why → Option ℕ → Option ℕ
 fault_line why.Nothing line = None
 fault_line _ line = line
 
--- the reason why an id is not started next, the state of the child that must end first, and the line of the trace with
--- this name that explains the reason
+-- the reason why an id is not started next, the state of the child that must end first, and the line that explains the
+-- reason, in the trace with this name
 abbrev pub reason_line : List ℕ → Link → List Event → Line
 reason_line name link past = line.Why (record {
   at = id_row past link.id;
@@ -49,12 +49,13 @@ reason_line name link past = line.Why (record {
 abbrev pub advice_line : List ℕ → List Event → Line
 advice_line id past = line.Advice (stage_of past) (row_of id past).act (why_of id past)
 
--- the reason for the id, if its root cause is another id
+-- the reason why the id is not started next, if its root cause is another id
 abbrev pub asked_lines : List ℕ → Chain → List Event → List Line
 asked_lines name chain past =
     if same_id chain.asked.id chain.root.id then [] else reason_line name chain.asked past ∷ []
 
--- the reason for the id, if its root cause is another id; the reason for the root cause; and the advice about that
+-- the reason why the id is not started next, if its root cause is another id; the reason why its root cause is not
+-- started next; and advice about the root cause
 abbrev pub why_in : List ℕ → Chain → List Event → List Line
 why_in name chain past =
     asked_lines name chain past ++ (reason_line name chain.root past ∷ advice_line chain.root.id past ∷ [])

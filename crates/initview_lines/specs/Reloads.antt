@@ -1,4 +1,4 @@
--- The change to each id if init reads another inittab in the state after a past (inittab(5), init(8), telinit(8)).
+-- What happens to each id if init reads another inittab in the state after a past (inittab(5), init(8), telinit(8)).
 use Rattle.std.specs.Prelude.{ℕ, Bool, true, false, not, ◌&&◌, ◌||◌, if◌then◌else◌, List, ◌∷◌, ◌++◌, filter, map}
 use Rattle.std.specs.Prelude.{Option, Some, None, is_none}
 use Rattle.std.specs.Option.{option_map, option_map_or}
@@ -54,7 +54,7 @@ idle_entry past e = if starts_itself e past then (if asks_anew e past then Start
 abbrev pub idle_change : List Event → List ℕ → Change
 idle_change past id = option_map_or (idle_entry past) (entry_of id (table_of past)) NotHere
 
--- the change for a child that is stopped, given the change to its id without a child
+-- the change for a child that is stopped, given the change that its id would have without a child
 abbrev pub stopped_change : Change → Change
 stopped_change Start = StopStart
 stopped_change _ = Stop
@@ -82,7 +82,7 @@ idle_by action starts wanted =
     else NotHere
 
 -- the change to an id, computed from the state of a view: the number of its child, whether the child is excluded, the
--- change without a child, and whether the process field is the same
+-- change that the id would have without a child, and whether the process field is the same
 abbrev pub change_by : Option ℕ → Bool → Change → Bool → Change
 change_by None excluded idle same = idle
 change_by (Some number) excluded idle same =

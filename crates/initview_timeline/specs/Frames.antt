@@ -11,7 +11,7 @@ plus a b = min (a + b) (2 ^ 64 - 1)
 abbrev pub times : ℕ → ℕ → ℕ
 times a b = min (a * b) (2 ^ 64 - 1)
 
--- a part of a whole, scaled to `many` positions and rounded down
+-- a part of a whole, scaled to `many` positions, rounded down
 abbrev pub scaled : ℕ → ℕ → ℕ → ℕ
 scaled part whole many = if whole == 0 then 0 else times part many / whole
 
@@ -19,11 +19,11 @@ scaled part whole many = if whole == 0 then 0 else times part many / whole
 abbrev pub span_of : Frame → ℕ
 span_of f = f.end - f.start
 
--- the position of a time: 0 for the first time, the last position for the last time, and never greater
+-- the position of a time: 0 for the first time, and at most the last position, which is that of the last time
 abbrev pub place_of : Frame → ℕ → ℕ
 place_of f time = min (scaled (time - f.start) (span_of f) f.last) f.last
 
--- the width of a bar between two times: the distance of their positions, but enough to be visible
+-- the width of a bar between two times: the distance between their positions, but enough to be visible
 abbrev pub width_of : Frame → ℕ → ℕ → ℕ
 width_of f from to = max (place_of f to - place_of f from) BAR_LEAST
 

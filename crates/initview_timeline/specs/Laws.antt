@@ -10,7 +10,7 @@ use Rattle.initview_timeline.specs.declared.pieces.Piece.{Piece}
 use Rattle.initview_timeline.specs.Lives.{marks_for}
 use Rattle.initview_timeline.specs.Rows.{Scene}
 
--- the marks of an id
+-- the marks about an id
 abbrev pub id_marks : Scene → List ℕ → List TimelineMark
 id_marks s id = marks_for (Some id) s.marks
 
@@ -35,7 +35,7 @@ abbrev pub lives_drawn : List Piece → List (ℕ × ℕ)
 lives_drawn [] = []
 lives_drawn (p ∷ ps) = life_from p.from p.what ++ lives_drawn ps
 
--- SIGKILL was sent, or a start failed
+-- the event is that SIGKILL was sent or that a start failed
 abbrev pub says_fault : Shown → Bool
 says_fault (Sent id sig.Kill) = true
 says_fault (NotBorn id) = true

@@ -11,7 +11,7 @@ use Rattle.initview_timeline.specs.declared.marks.Shown.{Shown}
 use Rattle.initview_timeline.specs.declared.marks.Shown.TheVariants as shown
 use Rattle.initview_timeline.specs.declared.marks.TimelineMark.{TimelineMark}
 
--- the event for a signal that was sent because of this order, if the order is for a signal
+-- the event for a signal that was sent for this order, if the order is for a signal
 abbrev pub sent_for : List ℕ → Option OrderKind → Option Shown
 sent_for id (Some ask.Term) = Some (shown.Sent id sig.Term)
 sent_for id (Some ask.Kill) = Some (shown.Sent id sig.Kill)

@@ -1,4 +1,4 @@
--- The pieces of a row of a timeline: bars, and signs on top of them. Each life has exactly one bar of the kind Lives or
+-- The pieces of a row in a timeline: bars, and signs on top of them. Each life has exactly one bar of the kind Lives or
 -- Waited, in order.
 use Rattle.std.specs.Prelude.{ℕ, min, Bool, true, false, ◌&&◌, ◌==◌, not, if◌then◌else◌, List, [], ◌∷◌, ◌++◌, Option}
 use Rattle.std.specs.Prelude.{Some, None}
@@ -79,7 +79,8 @@ is_start id (Born i number) = is_for id (Born i number)
 is_start id (NotBorn i) = is_for id (NotBorn i)
 is_start id _ = false
 
--- a stage begins; or, in the row of an id, a table is read or the id is started, which ends a hold of it
+-- the event begins something new in the row: a stage; or, in the row for an id, also a table or a start of the id,
+-- which end a hold of the id
 abbrev pub begins : Option (List ℕ) → Shown → Bool
 begins id (Entered stage) = true
 begins id Read = is_some id

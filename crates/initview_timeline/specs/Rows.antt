@@ -1,4 +1,4 @@
--- The rows of a timeline: the ids that have one, the state of each id at the end, and the pieces of its row.
+-- The rows of a timeline: the ids that have one, the state of each id at the end, and the pieces in its row.
 use Rattle.std.specs.Prelude.{ℕ, ◌-◌, ◌^◌, Bool, true, false, ◌&&◌, ◌||◌, nat_lt, min, not, if◌then◌else◌, unwrap_or}
 use Rattle.std.specs.Prelude.{◌≡◌, List, [], ◌∷◌, ◌++◌, filter, map, length, Option, Some, None}
 use Rattle.std.specs.List.{fold, list_any}
@@ -98,7 +98,7 @@ abbrev pub asked_from : State → State
 asked_from state.Runs = state.Stopping
 asked_from s = s
 
--- the state of an id after one of its marks
+-- the state of an id after a mark about it
 abbrev pub state_after : State → Shown → State
 state_after s (Born id number) = state.Runs
 state_after s (NotBorn id) = state.Ended None
@@ -106,7 +106,7 @@ state_after s (Sent id sig.Term) = asked_from s
 state_after s (Ended id number status) = ended_from s status
 state_after s _ = s
 
--- the state of an id after all its marks
+-- the state of an id after all marks about it
 abbrev pub state_from : List TimelineMark → State
 state_from marks = fold (λ s (mark : TimelineMark). state_after s mark.what) state.Due marks
 
@@ -128,12 +128,12 @@ is_held end id (mark ∷ later) =
     is_hold id mark.what && nat_lt end (min (plus mark.time HOLD) (next_begin (2 ^ 64 - 1) id later))
     || is_held end id later
 
--- the marks from this one on, if it enters a stage; otherwise those found before
+-- the marks from this one on if it enters a stage; otherwise those found so far
 abbrev pub from_stage : List TimelineMark → Shown → List TimelineMark → List TimelineMark
 from_stage found (Entered stage) marks = marks
 from_stage found _ marks = found
 
--- the marks from the last stage on
+-- the marks from the last entered stage on
 abbrev pub of_stage : List TimelineMark → List TimelineMark → List TimelineMark
 of_stage found [] = found
 of_stage found (mark ∷ marks) = of_stage (from_stage found mark.what (mark ∷ marks)) marks
@@ -157,7 +157,7 @@ is_up state.Stopping = true
 is_up _ = false
 
 -- the state at the end: held if a hold is in force; due if the id is due (`waits`) and has no child; otherwise the
--- state after its marks
+-- state after all marks about the id
 abbrev pub state_by : Bool → Bool → State → State
 state_by held due s = if held then state.Held else if due && not (is_up s) then state.Due else s
 
@@ -179,7 +179,8 @@ due_bars _ s = []
 abbrev pub is_waited : List ℕ → List Entry → Bool
 is_waited id entries = list_any (λ (e : Entry). same_id id e.id && waited_of e) entries
 
--- the row of an id: the bar of a due id at the bottom, then its lives and holds, and its faults on top
+-- the row for an id: the bar that shows that the id is due at the bottom, then its lives and holds, and its faults on
+-- top
 abbrev pub row_by : Scene → List ℕ → State → List Life → Row
 row_by s id end lives = record {
   id = id;
@@ -190,7 +191,7 @@ row_by s id end lives = record {
   };
 }
 
--- the row of an id in a scene
+-- the row for an id in a scene
 abbrev pub row_of : Scene → List ℕ → Row
 row_of s id = row_by s id (state_of s id (marks_for (Some id) s.marks)) (lives_of (marks_for (Some id) s.marks))
 
@@ -202,17 +203,17 @@ shown_to id marks =
 abbrev pub among : List ℕ → List (List ℕ) → Bool
 among id ids = list_any (same_id id) ids
 
--- the event affects one of these ids, or all ids
+-- the event affects all ids or one of the ids in the list
 abbrev pub is_near : List (List ℕ) → Shown → Bool
 is_near ids (Entered stage) = true
 is_near ids Read = true
 is_near ids what = option_map_or (λ id. among id ids) (id_of what) false
 
--- the marks that affect one of these ids
+-- the marks that affect one of the ids in the list
 abbrev pub near_marks : List (List ℕ) → List TimelineMark → List TimelineMark
 near_marks ids marks = filter (λ (mark : TimelineMark). is_near ids mark.what) marks
 
--- for each of these ids, the marks include all marks of the scene that affect it
+-- for each id in the list, the marks include all marks of the scene that affect it
 abbrev pub AreShown : List (List ℕ) → List TimelineMark → Scene → Type 0
 AreShown ids marks s = (id : List ℕ) → among id ids ≡ true → shown_to id marks ≡ shown_to id s.marks
 
@@ -223,11 +224,11 @@ pub record IsCommon (common : Common) (s : Scene) : Type 0 where
   pub begun : (id : List ℕ) → among id common.begun.keys ≡ is_begun id (of_stage s.marks s.marks)
   pub stage_marks : common.stage_marks.now ≡ of_stage s.marks s.marks
 
--- the rows of all ids
+-- the rows for all ids
 abbrev pub rows_of : Scene → List Row
 rows_of s = map (row_of s) (ids_of s)
 
--- the pieces of the stages
+-- the pieces in the row for the stages
 abbrev pub stage_pieces : Scene → Drawing
 stage_pieces s = record { bars = marks_bars s.end None s.marks; signs = marks_signs s.end None s.marks }
 
@@ -235,8 +236,8 @@ stage_pieces s = record { bars = marks_bars s.end None s.marks; signs = marks_si
 abbrev pub is_ill : Row → Bool
 is_ill r = nat_lt 0 (length r.pieces.signs) || is_loud r.state
 
--- a timeline from the first reading of the clock to the last: the pieces of the stages, the rows of the ids, and the
--- stage at the end
+-- a timeline from the first reading of the clock to the last: the stages as bars and signs, one row per id, and the
+-- stage in force at the end
 pub record TimelineParts : Type 0 where
   pub start : ℕ
   pub end : ℕ

@@ -36,12 +36,12 @@ block_of (line ∷ lines) = if is_end line then [] else line ∷ block_of lines
 abbrev pub block_in : List ℕ → List (List ℕ)
 block_in body = block_of (lines_of body)
 
--- the fault of a repeated keyword
+-- the fault that the line's keyword is repeated; none if the keyword was not seen before, or if the line has none
 abbrev pub twice_fault : List Keyword → Option (Keyword × List ℕ) → Option HeaderFault
 twice_fault seen None = None
 twice_fault seen (Some known) = if list_any (same_keyword known.0) seen then Some (fault.Twice known.0) else None
 
--- the fault of the line with this number, after lines that had these keywords
+-- the fault of the line with this number, if it follows lines with these keywords
 abbrev pub line_fault : List Keyword → ℕ → List ℕ → Option HeaderFault
 line_fault seen number line =
     if not (is_line line) then Some (fault.BadLine number) else twice_fault seen (known_of line)
@@ -55,7 +55,7 @@ with_known seen (Some known) = seen ++ known.0 ∷ []
 abbrev pub seen_after : List Keyword → List ℕ → List Keyword
 seen_after seen line = with_known seen (known_of line)
 
--- the first fault of the lines; the first line has this number
+-- the first fault in the lines, the first of which has this number, if they follow lines with these keywords
 abbrev pub block_fault : List Keyword → ℕ → List (List ℕ) → Option HeaderFault
 block_fault seen number [] = None
 block_fault seen number (line ∷ lines) =

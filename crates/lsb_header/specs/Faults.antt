@@ -4,7 +4,7 @@ use Rattle.lsb_header.specs.declared.faults.HeaderFault.{HeaderFault}
 use Rattle.lsb_header.specs.declared.faults.HeaderFault.TheVariants as fault
 use Rattle.lsb_header.specs.Keywords.{word_of}
 
--- the fault found is the expected one, unless memory ran out
+-- the reported fault is the expected one, unless it is that memory ran out
 abbrev pub IsDue : Option HeaderFault → HeaderFault → Type 0
 IsDue due found = found ≢ fault.Memory → due ≡ Some found
 

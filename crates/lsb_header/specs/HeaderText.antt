@@ -2,7 +2,7 @@
 use Rattle.std.specs.Prelude.{ℕ, List, []}
 use Rattle.init_words.specs.declared.levels.Level.{Level}
 
--- the nine fields
+-- the values of the nine fields
 pub record HeaderText : Type 0 where
   pub provides : List (List ℕ)
   pub required_start : List (List ℕ)

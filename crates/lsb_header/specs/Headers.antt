@@ -10,16 +10,17 @@ use Rattle.lsb_header.specs.Forms.{is_empty}
 use Rattle.text_lines.specs.Lines.{lines_of, trim, words_of}
 use Rattle.lsb_header.specs.Blocks.{args_of, find_header, block_fault, block_of, description_of, is_end, levels_of}
 
--- the text after the colon of a keyword's line, empty if there is no such line
+-- the text after the colon on the line with the keyword; empty if there is no such line
 abbrev pub text_at : Keyword → List (List ℕ) → List ℕ
 text_at keyword block = unwrap_or (args_of keyword block) []
 
--- the fault of a text: it has no line that begins a header, or no later one that ends it
+-- the fault of a text, given its header's first line, if any, and the lines after it: no line begins a header, or no
+-- later line ends it
 abbrev pub frame_of : Option (ℕ × List (List ℕ)) → Option HeaderFault
 frame_of None = Some fault.NoBegin
 frame_of (Some (number, lines)) = if list_any is_end lines then None else Some fault.NoEnd
 
--- the fault of a text in which the first or the last line of the header is missing
+-- the fault of a text in which the line that begins the header, or the line that ends it, is missing; none otherwise
 unfoldable pub frame_fault : List ℕ → Option HeaderFault
 frame_fault text = frame_of (find_header 1 (lines_of text))
 
@@ -42,7 +43,7 @@ abbrev pub checked : Option HeaderFault → List (List ℕ) → Result HeaderTex
 checked (Some found) block = Err found
 checked None block = if is_empty (header_of block).provides then Err fault.NoProvides else Ok (header_of block)
 
--- the header after the line with this number
+-- the header that follows the line with this number
 abbrev pub read_behind : Option (ℕ × List (List ℕ)) → Result HeaderText HeaderFault
 read_behind None = Err fault.NoBegin
 read_behind (Some (number, lines)) =

@@ -1,4 +1,4 @@
--- The positions of a keyword's lines.
+-- The positions of the lines that have a keyword.
 use Rattle.std.specs.Prelude.{ℕ, ◌+◌, if◌then◌else◌, List, [], ◌∷◌, Option, Some, None, is_some}
 use Rattle.std.specs.Option.{option_map, option_and_then}
 use Rattle.text_lines.specs.Lines.{lines_of}

@@ -47,7 +47,7 @@ arguments_of words = record {
   options = words.options;
 }
 
--- the path of a folder consists of the bytes of a service's name and '/'
+-- the path of a folder consists of '/' and of bytes that are allowed in the name of a service
 abbrev pub is_dir : Text → Bool
 is_dir word = list_all (λ b. is_name_byte b || b == byte "/") word
 
@@ -55,21 +55,22 @@ is_dir word = list_all (λ b. is_name_byte b || b == byte "/") word
 abbrev pub level_of : Text → Option Level
 level_of word = if bytes_eq word (codes "s") then None else option_and_then level_read (only_byte word)
 
--- the previous level: `Some None` for the word N; none if the word is neither N nor a level
+-- the previous level that a word names: `Some None` for the word N; none if the word is neither N nor a level
 abbrev pub previous_of : Text → Option (Option Level)
 previous_of word = if bytes_eq word (codes "N") then Some None else option_map Some (level_of word)
 
--- a number of seconds: 1 to the limit
+-- the number of seconds that a word gives, from 1 to the limit
 abbrev pub seconds_read : Text → Option ℕ
 seconds_read word =
     option_and_then (λ seconds. if nat_lt 0 seconds then Some seconds else None) (number_read (SECONDS_LIMIT + 1) word)
 
--- the number of seconds in the value of --timeout: `Some None` if there is no value, none if it is not such a number
+-- the number of seconds in the value of --timeout: `Some None` if no value is given, none if it is not a number from 1
+-- to the limit
 abbrev pub seconds_in : Option Text → Option (Option ℕ)
 seconds_in None = Some None
 seconds_in (Some word) = option_map Some (seconds_read word)
 
--- the time limit that is given
+-- the time limit that the command line gives
 abbrev pub seconds_option : List Row → Option (Option ℕ)
 seconds_option rows = seconds_in (first_of (codes "--timeout") rows)
 
@@ -91,17 +92,17 @@ abbrev pub entering : Bool → LevelChange → RunOptions → RunOptions
 entering sysv change options =
     if sysv then record options { way = record options.way { levels = Some change } } else options
 
--- the run for the folder, the change of level and the options
+-- the run with this folder, this change of level and these options
 abbrev pub arguments_at : Text → LevelChange → RunOptions → RcArguments
 arguments_at dir change options = record { dir = dir; previous = change.before; new = change.new; options = options }
 
--- the run for a command line and this previous level
+-- the run that a command line asks for, given the previous level
 abbrev pub run_arguments : Asked → Option Level → RcArguments
 run_arguments asked before =
     let change : LevelChange = record { before = before; new = asked.new } in
     arguments_at asked.dir change (entering asked.sysv change asked.options)
 
--- the change to the level that a word names, with no previous level
+-- the change from no previous level to the level that a word names
 abbrev pub new_of : Text → Option LevelChange
 new_of after = option_map (λ new. record { before = None; new = new }) (level_of after)
 
@@ -119,12 +120,12 @@ levels_in None first None = None
 levels_in (Some file) first None = new_of first
 levels_in (Some file) first (Some second) = None
 
--- the change of level that is given
+-- the change of level that the command line gives
 abbrev pub levels_given : List Row → Option LevelChange
 levels_given rows =
     levels_in (first_of (codes "--level-file") rows) (value_said (codes "PREV") rows) (first_of (codes "NEW") rows)
 
--- the command line for the rows of the table and the options
+-- the command line that the rows of the table describe, with these options
 abbrev pub rc_arguments : List Row → Bool → RunOptions → Option Asked
 rc_arguments rows sysv options =
     if is_dir (value_said (codes "DIR") rows) then
@@ -140,7 +141,7 @@ rc_arguments rows sysv options =
     (levels_given rows)
     else None
 
--- the command line for the rows of the table
+-- the command line that the rows of the table describe
 abbrev pub arguments_in : List Row → Option Asked
 arguments_in rows =
     option_and_then

@@ -1,4 +1,4 @@
--- The ways in which a run of `rc` ends, and the output that it writes.
+-- How a run of `rc` ends, and the output that it writes.
 use Rattle.std.specs.Prelude.{◌≡◌, ◌⊎◌, ℕ, Bool, true, false, if◌then◌else◌, List, [], ◌++◌, codes, length, Option}
 use Rattle.std.specs.Prelude.{Some, None, IsSome}
 use Rattle.std.specs.List.{list_any}
@@ -24,7 +24,7 @@ use Rattle.rc_command.specs.declared.command.RunOptions.{RunOptions}
 use Rattle.rc_command.specs.declared.running.TheConstants.{PAUSES_LIMIT, SCRIPT_FAILED}
 use Rattle.rc_command.specs.Folders.{AreNamesAt, ArePrevious, KnownNames, folder_of}
 
--- the exit status for the end of a run; a failed script changes the status only with --strict
+-- the exit status for how a run ended; a failed script changes the status only with --strict
 abbrev pub status_of : Bool → RunEnd → ℕ
 status_of strict run_end.Done = DONE
 status_of strict run_end.Failed = if strict then SCRIPT_FAILED else DONE
@@ -35,12 +35,12 @@ status_of strict _ = DEVICE_FAULT
 abbrev pub AllScriptsEnded : ℕ → Type 0
 AllScriptsEnded status = (status ≡ DONE) ⊎ (status ≡ SCRIPT_FAILED)
 
--- the scripts to run for the names in two folders, before any is started; if a change of level is given, they are the
--- scripts that sysv-rc would run
+-- the scripts to run, given the names in two folders, before any is started; if a change of level is given, they are
+-- the scripts that sysv-rc would run
 abbrev pub rc_of : Option LevelChange → List (List ℕ) → List (List ℕ) → RcState
 rc_of levels previous names = record { remaining = scripts_by levels previous names; waits = false }
 
--- no message about a timeout is possible: nothing is run, or scripts have no time limit
+-- no message about a time limit is possible: nothing is run, or scripts have no time limit
 abbrev pub IsSilent : RunOptions → Type 0
 IsSilent options = (options.dry ≡ true) ⊎ (options.way.seconds ≡ None)
 
@@ -62,8 +62,8 @@ ReportsEnd path run_end.Done old new = new ≡ old
 ReportsEnd path run_end.Failed old new = new ≡ old
 ReportsEnd path ended old new = AppendsReport old new (ended_text path ended)
 
--- the scripts were run from the folder at the path, with these calls; the status is the one for the end of the run,
--- which is reported after the messages about timeouts
+-- the scripts were run from the folder at the path, with these calls; the status is that for how the run ended, which
+-- is reported after the messages about time limits
 abbrev pub RunsScripts : RunOptions → List ℕ → RcState → Option (List ℕ) → ReportList → ℕ → Option (List ℕ)
     → ReportList → List HostCall → Type 0
 RunsScripts options path rc before told status after tells calls = (ended : RunEnd) × (new : RcState)
@@ -71,19 +71,19 @@ RunsScripts options path rc before told status after tells calls = (ended : RunE
     × RunsLinks options.way path PAUSES_LIMIT false rc (output before told) ended new (output after between) calls
     × (status ≡ status_of options.strict ended) × ReportsEnd path ended between tells
 
--- the scripts for the names in two folders were run
+-- the scripts to run, given the names in two folders, were run
 abbrev pub RunsNames : RunOptions → List ℕ → List (List ℕ) → List (List ℕ) → Option (List ℕ) → ReportList → ℕ
     → Option (List ℕ) → ReportList → List HostCall → Type 0
 RunsNames options path previous names before told status after tells calls =
     RunsScripts options path (rc_of options.way.levels previous names) before told status after tells calls
 
--- the names are those in the two folders of the run, if these are known
+-- if the names in the two folders of the run are known, these are the names
 abbrev pub AreNames : KnownNames → RcArguments → List (List ℕ) → List (List ℕ) → Type 0
 AreNames names_at arguments previous names =
     ArePrevious names_at arguments.dir arguments.previous previous
     × AreNamesAt names_at (folder_of arguments.dir arguments.new) names
 
--- the scripts for these arguments were run, with the calls that the host recorded
+-- the scripts to run for these arguments were run, with the calls that the host recorded
 abbrev pub RunsArguments : KnownNames → RcArguments → Option (List HostCall) → Option (List HostCall) → Option (List ℕ)
     → ReportList → ℕ → Option (List ℕ) → ReportList → Type 0
 RunsArguments names_at arguments old new before told status after tells =
@@ -91,14 +91,14 @@ RunsArguments names_at arguments old new before told status after tells =
     RunsNames arguments.options
     (folder_of arguments.dir arguments.new) previous names before told status after tells calls)
 
--- the output for the names in two folders, whose scripts have these outcomes: in a dry run the commands that would
--- start them, otherwise their lines
+-- the output for the scripts to run, given the names in two folders and the scripts' outcomes: in a dry run, the
+-- commands that would start them, otherwise the lines about them
 abbrev pub written : RunOptions → List ℕ → List (List ℕ) → List (List ℕ) → List RcAnswer → List ℕ
 written options path previous names answers =
     if options.dry then command_lines options.way path (scripts_by options.way.levels previous names)
     else report options.way (scripts_by options.way.levels previous names) answers
 
--- all scripts were carried out, and the status is the one for that; in a dry run it is 0
+-- all scripts were carried out with these outcomes, which determine the status; or, in a dry run, the status is 0
 abbrev pub IsEnded : RunOptions → List LinkRun → List RcAnswer → ℕ → Type 0
 IsEnded options scripts answers status =
     (options.dry ≡ true → status ≡ DONE)
@@ -112,7 +112,7 @@ ReportsNames options path previous names old status new = (answers : List RcAnsw
     × IsEnded options (scripts_by options.way.levels previous names) answers status
     × Appends old new (written options path previous names answers)
 
--- a prefix of an output for the first scripts was written
+-- for some outcomes of the first scripts, a prefix of the output was written
 abbrev pub ReportsFirst : RunOptions → List ℕ → List (List ℕ) → List (List ℕ) → Option (List ℕ) → Option (List ℕ)
     → Type 0
 ReportsFirst options path previous names old new =
@@ -124,7 +124,7 @@ Reports names_at arguments old status new =
     (previous names : List (List ℕ)) × AreNames names_at arguments previous names
     × ReportsNames arguments.options (folder_of arguments.dir arguments.new) previous names old status new
 
--- a prefix of an output for the first of these scripts was written
+-- for some outcomes of the first scripts in the two folders of the run, a prefix of the output was written
 abbrev pub ReportsPart : KnownNames → RcArguments → Option (List ℕ) → Option (List ℕ) → Type 0
 ReportsPart names_at arguments old new =
     (previous names : List (List ℕ)) × AreNames names_at arguments previous names
@@ -139,7 +139,7 @@ abbrev pub ForResolvedArguments : KnownFiles → Asked → (RcArguments → Type
 ForResolvedArguments file_at asked P = (before : Option Level) × IsBefore file_at asked before
     × P (run_arguments asked before)
 
--- the arguments are a command line, for which the property holds
+-- the arguments are a command line for which the property holds
 abbrev pub ParsedArgumentsSatisfy : List (List ℕ) → (Asked → Type 0) → Type 0
 ParsedArgumentsSatisfy words P = (asked : Asked) × (rc_read_of words ≡ Some asked) × P asked
 
@@ -151,14 +151,14 @@ Asks file_at words P = ParsedArgumentsSatisfy words (λ asked. ForResolvedArgume
 abbrev pub Keeps : Asked → KnownFiles → KnownFiles → Type 0
 Keeps asked old new = KeepsIn asked.options.dry asked.file asked.new old new
 
--- the status is the one of the run, and nothing more is reported; or, if all scripts were carried out but the new
--- level could not be written to the given file, the status is the one for a fault
+-- the status and the reports are those of the run; or, if all scripts were carried out but the new level could not be
+-- written to the given file, the status is the one for a fault
 abbrev pub IsStatusOf : Option (List ℕ) → ℕ → ReportList → ℕ → ReportList → Type 0
 IsStatusOf file inner told status tells =
     ((status ≡ inner) × (tells ≡ told)) ⊎ (IsSome file × (status ≡ DEVICE_FAULT) × AllScriptsEnded inner)
 
--- in a dry run nothing is requested from the host; otherwise the scripts of the run were run, and the status is the
--- one after the new level was saved
+-- in a dry run, the host is not called; otherwise the scripts were run, and the status is the one after the new level
+-- was saved
 abbrev pub RunsRequestedScripts : KnownFiles → KnownNames → Asked → Option (List HostCall) → Option (List HostCall)
     → Option (List ℕ) → ReportList → ℕ → Option (List ℕ) → ReportList → Type 0
 RunsRequestedScripts file_at names_at asked old new before told status after tells =

@@ -7,7 +7,7 @@ use Rattle.init_words.specs.Levels.{level_code}
 abbrev pub KnownNames : Type 0
 KnownNames = List ℕ → Option (List (List ℕ))
 
--- the names are those in the folder at the path, if known
+-- if the names in the folder at the path are known, these are the names
 abbrev pub AreNamesAt : KnownNames → List ℕ → List (List ℕ) → Type 0
 AreNamesAt names_at path names = IfSome (names_at path) (λ known. names ≡ known)
 

@@ -1,4 +1,4 @@
--- The known files of runlevels.
+-- The files that hold a runlevel, as far as they are known.
 use Rattle.std.specs.Prelude.{◌≡◌, ℕ, Bool, true, false, IfSome, if◌then◌else◌, ◌==◌, List, [], ◌∷◌, Option, Some, None}
 use Rattle.std.specs.Prelude.{option_map}
 use Rattle.std.specs.Str.{bytes_eq}
@@ -14,21 +14,21 @@ KnownFiles = List ℕ → Option (Option (List ℕ))
 abbrev pub AreSame : KnownFiles → KnownFiles → Type 0
 AreSame old new = (at : List ℕ) → new at ≡ old at
 
--- the file at the path has the text, if that file is known, and all other files are unchanged
+-- if the file at the path is known, it has this text; all other files are unchanged
 abbrev pub HasText : List ℕ → List ℕ → KnownFiles → KnownFiles → Type 0
 HasText path text old new =
     (at : List ℕ) → new at ≡ (if bytes_eq at path then option_map (λ known. Some text) (old at) else old at)
 
--- the text of a runlevel's file: its character and a newline
+-- the text of a file that holds a runlevel: the level's character and a newline
 abbrev pub level_text : Level → List ℕ
 level_text level = level_code level ∷ 10 ∷ []
 
--- the runlevel in the text of a file
+-- the runlevel that the text of a file holds
 abbrev pub level_in : List ℕ → Option Level
 level_in (code ∷ end ∷ []) = if end == 10 then level_of (code ∷ []) else None
 level_in _ = None
 
--- the previous level in a file: `Some None` if there is no file, none if its text is not a level
+-- the previous level that a file holds: `Some None` if there is no file, none if its text is not a level
 abbrev pub before_in : Option (List ℕ) → Option (Option Level)
 before_in None = Some None
 before_in (Some text) = option_map Some (level_in text)

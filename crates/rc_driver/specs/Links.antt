@@ -1,4 +1,4 @@
--- The links of a runlevel's folder, and the links that rc runs (LSB Core 5.0, System Initialization).
+-- The links in a runlevel's folder, and the links that rc runs (LSB Core 5.0, System Initialization).
 use Rattle.std.specs.Prelude.{ℕ, Bool, false, not, ◌==◌, ◌&&◌, List, ◌∷◌}
 use Rattle.std.specs.Char.{is_ascii_digit}
 use Rattle.std.specs.List.{dedup, filter, list_any}
@@ -6,17 +6,17 @@ use Rattle.std.specs.Str.{byte, bytes_eq}
 use Rattle.rc_links.specs.Links.{in_byte_order, linked_name}
 use Rattle.rc_links.specs.Names.{is_name}
 
--- a link with this letter: the letter, two digits and a name
+-- the text is a link that begins with the letter, which two digits and a name follow
 abbrev pub is_link : ℕ → List ℕ → Bool
 is_link letter (first ∷ tens ∷ ones ∷ name) =
     first == letter && is_ascii_digit tens && is_ascii_digit ones && is_name name
 is_link letter _ = false
 
--- `other` is a link with the letter, and has the same name after the digits as `link`
+-- `other` is a link that begins with the letter, and has the same name after its digits as `link`
 abbrev pub is_link_like : ℕ → List ℕ → List ℕ → Bool
 is_link_like letter link other = is_link letter other && bytes_eq (linked_name other) (linked_name link)
 
--- one of the names is a link with the letter and the same name after the digits as `link`
+-- one of the names is a link that begins with the letter and has the same name after its digits as `link`
 abbrev pub has_link : ℕ → List ℕ → List (List ℕ) → Bool
 has_link letter link names = list_any (is_link_like letter link) names
 

@@ -1,4 +1,4 @@
--- The calls that each part of a script's run adds.
+-- The calls that each part of a script's run adds to those of the run.
 use Rattle.std.specs.Prelude.{◌≡◌, ◌+◌, ℕ, Bool, true, false, ◌||◌, List, ◌∷◌, ◌++◌, Option}
 use Rattle.host_calls.specs.Calls.{HostCall}
 use Rattle.rc_driver.specs.declared.progress.Progress.{Progress}
@@ -29,7 +29,8 @@ ScriptProgresses limit before old now new pauses calls = (count_pauses calls ≡
     × ((command : List ℕ) (earlier : List HostCall) → RunsTo limit command before old earlier
     → RunsTo limit command now new (calls ++ earlier))
 
--- the same, with the timer unchanged
+-- after a run that brought the script to progress `before`, these calls, with this number of pauses, bring it to
+-- progress `now` and do not change the timer
 abbrev pub ScriptContinues : Option ℕ → Progress → Progress → ℕ → List HostCall → Type 0
 ScriptContinues limit before now pauses calls = (time : Timer)
     → ScriptProgresses limit before time now time pauses calls
@@ -38,14 +39,14 @@ ScriptContinues limit before now pauses calls = (time : Timer)
 abbrev pub GoneTo : Option ℕ → List ℕ → Progress → Timer → ℕ → ℕ → List HostCall → Type 0
 GoneTo limit command now time old new calls = RunsTo limit command now time calls × (old ≡ count_pauses calls + new)
 
--- the script finished with this outcome, and the messages about its time were reported
+-- the script finished with this outcome, and the messages about its running time were reported
 abbrev pub HasRun : ScriptOptions → List ℕ → List ℕ → List ℕ → RcAnswer → ℕ → ℕ → ReportList → ReportList
     → List HostCall → Type 0
 HasRun way dir link command given pauses still told tells calls = (time : Timer)
     × GoneTo way.seconds command (progress.Over given) time pauses still calls
     × Tells told tells (time_lines way dir link time)
 
--- the pauses are used up, the script is not finished, and the messages about its time were reported
+-- the pauses are used up, the script is not finished, and the messages about its running time were reported
 abbrev pub EndsEarly : ScriptOptions → List ℕ → List ℕ → List ℕ → ℕ → ReportList → ReportList → List HostCall
     → Type 0
 EndsEarly way dir link command pauses told tells calls = (now : Progress) × (time : Timer) × (is_waiting now ≡ true)

@@ -1,4 +1,4 @@
--- A dry run, which prints the commands instead of running them.
+-- A dry run, which prints commands instead of running them.
 use Rattle.std.specs.Prelude.{◌≡◌, ◌⊎◌, ℕ, true, false, List, [], ◌∷◌, ◌++◌, codes, Option}
 use Rattle.std.specs.Io.KnownBytes.{Appends}
 use Rattle.program_io.specs.Writing.{AppendsPrefix}
@@ -27,8 +27,9 @@ abbrev pub Printed : ScriptOptions → List ℕ → RcState → Option (List ℕ
 Printed way dir old before new after = (s : LinkRun) × (old.waits ≡ false) × (old.remaining ≡ s ∷ new.remaining)
     × (new.waits ≡ false) × Appends before after (command_line way dir s)
 
--- The dry run wrote the lines of the remaining scripts: all of them if it is complete, otherwise a prefix. It is
--- incomplete only if a write failed or memory ran out, or, without a line, if an earlier script has no answer yet.
+-- The dry run wrote the lines of the remaining scripts: all of them if it is complete, otherwise a prefix. If an
+-- earlier script has no answer yet, it writes nothing; otherwise it is incomplete only if a write failed or memory ran
+-- out.
 pub record PrintsLinks (way : ScriptOptions) (dir : List ℕ) (old : RcState) (before : Option (List ℕ)) (ended : RunEnd)
     (new : RcState) (after : Option (List ℕ)) : Type 0 where
   pub part : AppendsPrefix before after (command_lines way dir old.remaining)

@@ -19,7 +19,7 @@ use Rattle.rc_driver.specs.declared.runs.RcAnswer.TheVariants as answer
 abbrev pub script_id : List ℕ
 script_id = codes "rc"
 
--- the progress of a script that was found alive: its running time is checked next, if there is a time limit
+-- the progress of a script after it was found alive: if there is a time limit, its running time is checked next
 abbrev pub alive : Option ℕ → Progress
 alive None = progress.Living
 alive (Some seconds) = progress.Found

@@ -41,15 +41,15 @@ end_text answer.NotStarted = codes " not started\n"
 abbrev pub script_line : LinkRun → List ℕ → List ℕ
 script_line s how = s.0 ++ (codes " " ++ (arg_word s.1 ++ how))
 
--- the line of a script that is finished
+-- the line about a finished script
 abbrev pub line_of : LinkRun → RcAnswer → List ℕ
 line_of s given = script_line s (end_text given)
 
--- the line for the start of a script
+-- the line about the start of a script
 abbrev pub begin_line : LinkRun → List ℕ
 begin_line s = script_line s (codes " begins\n")
 
--- the lines of a script that is finished: its line, and before it one for its start if starts are written
+-- the lines about a finished script: if starts are written, the line about its start, and then the line about its end
 abbrev pub lines_of : ScriptOptions → LinkRun → RcAnswer → List ℕ
 lines_of way s given = (if way.verbose then begin_line s else []) ++ line_of s given
 
@@ -81,18 +81,19 @@ abbrev pub before_code : Option Level → ℕ
 before_code (Some level) = level_code level
 before_code None = 78
 
--- the env(1) command that sets RUNLEVEL and PREVLEVEL for a script (init(8)), if rc sets them
+-- the part of a command in which env(1) sets RUNLEVEL and PREVLEVEL for a script (init(8)); empty if rc does not set
+-- them
 abbrev pub level_words : Option LevelChange → List ℕ
 level_words None = []
 level_words (Some change) =
     codes "env RUNLEVEL=" ++ (level_code change.new ∷ (codes " PREVLEVEL=" ++ (before_code change.before ∷ codes " ")))
 
--- the command that starts a script, whose link is in the folder
+-- the command that starts the script that a link in the folder leads to
 abbrev pub command_text : ScriptOptions → List ℕ → LinkRun → List ℕ
 command_text way dir s =
     level_words way.levels ++ (shell_word way ++ (dir ++ (codes "/" ++ (s.0 ++ (codes " " ++ arg_word s.1)))))
 
--- the lines of the scripts with these outcomes, up to the shorter of both lists
+-- the lines about the scripts and their outcomes, which are given in the same order, as far as both lists go
 abbrev pub report : ScriptOptions → List LinkRun → List RcAnswer → List ℕ
 report way (s ∷ scripts) (given ∷ answers) = lines_of way s given ++ report way scripts answers
 report way _ _ = []
@@ -107,10 +108,10 @@ is_over run_end.Done = true
 is_over run_end.Failed = true
 is_over _ = false
 
--- The effect of a run on a host on the remaining scripts and the output. The run wrote the lines of the remaining
--- scripts, each with an answer (other definitions state that it is the host's). If the run is over, it wrote the lines
--- of all of them, and its end shows whether a script failed. Otherwise it wrote the lines up to the point at which it
--- ended, and the last script that it began has no answer.
+-- The effect of a run on the remaining scripts and the output. The run wrote the lines of the remaining scripts, each
+-- with an answer (other definitions state that it is the host's). If the run is over, it wrote the lines of all of
+-- them, and its end shows whether a script failed. Otherwise it wrote the lines up to the point at which it ended, and
+-- the last script that it began has no answer.
 pub record WritesEnds (way : ScriptOptions) (old : RcState) (before : Option (List ℕ)) (ended : RunEnd) (new : RcState)
     (after : Option (List ℕ)) : Type 0 where
   pub answers : List RcAnswer

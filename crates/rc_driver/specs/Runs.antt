@@ -8,14 +8,15 @@ use Rattle.rc_driver.specs.declared.runs.RcAnswer.TheVariants as answer
 use Rattle.init_words.specs.declared.children.Status.TheVariants as status
 use Rattle.rc_driver.specs.Links.{start_links, stop_links}
 
--- a script to run: a link, and the argument
+-- a script to run: the link to it, and its argument
 abbrev pub LinkRun : Type 0
 LinkRun = List ℕ × Arg
 
 abbrev pub with_arg : Arg → List (List ℕ) → List LinkRun
 with_arg given links = map (λ link. (link, given)) links
 
--- the scripts for the names in the previous folder and the new one: K links with `stop`, then S links with `start`
+-- the scripts to run, given the names in the previous folder and the new one: K links with `stop`, then S links with
+-- `start`
 abbrev pub rc_run : List (List ℕ) → List (List ℕ) → List LinkRun
 rc_run previous new = with_arg arg.Stop (stop_links new) ++ with_arg arg.Start (start_links previous new)
 

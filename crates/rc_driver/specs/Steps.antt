@@ -4,7 +4,8 @@ use Rattle.rc_driver.specs.declared.runs.RcStep.{RcStep}
 use Rattle.rc_driver.specs.declared.runs.RcStep.TheVariants as step
 use Rattle.rc_driver.specs.Runs.{RcState}
 
--- the step hands out the first remaining script; none while the previous one has no answer, and none after the last
+-- the step returns the first remaining script; it returns none while the previous script has no answer, and after the
+-- last script
 abbrev pub Steps : RcState → RcStep → RcState → Type 0
 Steps old (step.Run link given) new =
     (old.waits ≡ false) × (old.remaining ≡ (link.now, given) ∷ new.remaining) × (new.waits ≡ true)

@@ -13,15 +13,15 @@ use Rattle.rc_driver.specs.Runs.{LinkRun, rc_run, with_arg}
 abbrev pub was_stopped : List (List ℕ) → List ℕ → Bool
 was_stopped previous link = has_link (byte "K") link previous && not (has_link (byte "S") link previous)
 
--- a link with the letter whose service the previous level had not stopped
+-- a link that begins with the letter, and whose service the previous level had not stopped
 abbrev pub is_stopping : ℕ → List (List ℕ) → List ℕ → Bool
 is_stopping letter previous link = is_link letter link && not (was_stopped previous link)
 
--- the links with the letter that are run with `stop`
+-- the links that begin with the letter and are run with `stop`
 abbrev pub stopping_links : ℕ → List (List ℕ) → List (List ℕ) → List (List ℕ)
 stopping_links letter previous new = ordered (filter (is_stopping letter previous) new)
 
--- the levels in which the machine is halted and rebooted
+-- the level is one in which the machine is halted or rebooted
 abbrev pub is_halt : Level → Bool
 is_halt L0 = true
 is_halt L6 = true
@@ -41,7 +41,8 @@ sysv_starts false previous new = with_arg arg.Start (start_links previous new)
 abbrev pub sysv_run : LevelChange → List (List ℕ) → List (List ℕ) → List LinkRun
 sysv_run change previous new = sysv_stops change.before previous new ++ sysv_starts (is_halt change.new) previous new
 
--- the scripts for the names in the previous folder and the new one; as in sysv-rc if a change of level is given
+-- the scripts to run, given the names in the previous folder and the new one; if a change of level is given, they are
+-- those that sysv-rc runs
 abbrev pub scripts_by : Option LevelChange → List (List ℕ) → List (List ℕ) → List LinkRun
 scripts_by None previous new = rc_run previous new
 scripts_by (Some change) previous new = sysv_run change previous new

@@ -21,7 +21,7 @@ abbrev pub due_by : Option ℕ → Timer → Result ℕ HostFault → Option Sig
 due_by (Some seconds) before (Ok now) = due_signal seconds before now
 due_by _ before reading = None
 
--- the timer after a time at which this signal was due
+-- the timer after this time, given the signal that was due then, if any
 abbrev pub timer_at : Timer → ℕ → Option SignalKind → Timer
 timer_at before now (Some sig.Term) = timer.TermSent now
 timer_at before now (Some sig.Kill) = timer.Killed
@@ -33,7 +33,7 @@ abbrev pub timer_by : Timer → Result ℕ HostFault → Option SignalKind → T
 timer_by before (Ok now) due = timer_at before now due
 timer_by before (Err fault) due = before
 
--- the number of seconds after which rc sends the signal
+-- the number of seconds that rc waits before it sends the signal
 abbrev pub wait_of : Option ℕ → SignalKind → ℕ
 wait_of limit sig.Term = unwrap_or limit 0
 wait_of limit sig.Kill = GRACE
@@ -42,7 +42,8 @@ abbrev pub signal_word : SignalKind → List ℕ
 signal_word sig.Term = codes " s: TERM was sent"
 signal_word sig.Kill = codes " s more: KILL was sent"
 
--- the message that a script, whose link is in the folder, has not ended after these seconds and was sent a signal
+-- the message that a script has not ended after this number of seconds and was sent the signal; it names the script's
+-- link and its folder
 abbrev pub late_line : List ℕ → List ℕ → ℕ → SignalKind → List ℕ
 late_line dir link seconds signal = codes "rc: " ++ (dir ++ (codes "/" ++ (link ++ (codes " has not ended after "
     ++ (decimal seconds ++ (signal_word signal ++ codes "\n"))))))

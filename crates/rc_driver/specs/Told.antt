@@ -1,4 +1,4 @@
--- A run of scripts on a host, in terms of its calls.
+-- A run of scripts on a host, described by its calls.
 use Rattle.std.specs.Prelude.{◌≡◌, ◌⊎◌, ◌≤◌, ◌-◌, ℕ, Bool, true, false, not, ◌||◌, List, [], ◌∷◌, ◌++◌, Option}
 use Rattle.std.specs.Io.KnownBytes.{Appends}
 use Rattle.program_io.specs.Reports.{ReportList}
@@ -18,14 +18,14 @@ use Rattle.rc_driver.specs.Runs.{LinkRun, RcState, is_failure}
 use Rattle.rc_driver.specs.Times.{time_lines}
 
 -- the calls run the script that a command starts until it finishes with this outcome, with at most this number of
--- pauses, and the messages about its time were reported
+-- pauses, and the messages about its running time were reported
 abbrev pub RanBy : ScriptOptions → List ℕ → List ℕ → ℕ → LinkRun → RcAnswer → ReportList → ReportList
     → List HostCall → Type 0
 RanBy way dir command pauses s given told tells calls = (time : Timer)
     × RunsTo way.seconds command (progress.Over given) time calls × (count_pauses calls ≤ pauses)
     × Tells told tells (time_lines way dir s.0 time)
 
--- the calls run the script of a link
+-- the calls run the script that a link leads to
 abbrev pub Ran : ScriptOptions → List ℕ → ℕ → LinkRun → RcAnswer → ReportList → ReportList → List HostCall
     → Type 0
 Ran way dir pauses s given told tells calls =
@@ -41,7 +41,7 @@ EndsUnwritten way dir pauses s before after calls =
     × TellsStart way s before.lines begun × AppendsPrefix begun after.lines (line_of s given))
 
 -- How a run ends at a script: the pauses are used up, the script is not finished, and the result names its link; or a
--- prefix of one of its lines was written; or it was not started because memory ran out.
+-- prefix of one of its lines was written; or the script was not started because memory ran out.
 abbrev pub ScriptsEndAt : ScriptOptions → List ℕ → ℕ → LinkRun → Output → RunEnd → Output → List HostCall → Type 0
 ScriptsEndAt way dir pauses s before (run_end.Limit link) after calls =
     (link.now ≡ s.0) × (now : Progress) × (time : Timer)

@@ -19,7 +19,7 @@ names_all phase.Stop s = has_all s.header.required_stop || has_all s.header.shou
 abbrev pub other_names : Phase → ScriptText → List (List ℕ)
 other_names turn s = if names_all turn s then [] else s.header.provides
 
--- the names provided by the scripts that do not name `$all`, if some script names it
+-- the names provided by the scripts that do not name `$all`; none if no script names `$all`
 abbrev pub others : Phase → List ScriptText → List (List ℕ)
 others turn scripts = if list_any (names_all turn) scripts then flat_map (other_names turn) scripts else []
 
@@ -30,6 +30,7 @@ all_facility scripts = record {
   header = facility_header (codes "$all" ∷ []) (others phase.Start scripts) (others phase.Stop scripts);
 }
 
--- the scripts to plan: with `last`, the facility that provides `$all` comes first, so scripts that name it come last
+-- the scripts to plan: with `last`, the facility that provides `$all` comes first, so that scripts that name `$all` run
+-- last
 abbrev pub with_all : Bool → List ScriptText → List ScriptText
 with_all last scripts = if last then all_facility scripts ∷ scripts else scripts

@@ -14,7 +14,7 @@ use Rattle.rc_links.specs.declared.folders.LinkAction.TheVariants.{Make, Remove}
 abbrev pub targets_of : {A : Type 0} → List (Vec ℕ A) → List (List ℕ)
 targets_of targets = map (λ target. target.items) targets
 
--- the name of a numbered link: S or K, two digits and at least one more byte
+-- the text can be the name of a numbered link: S or K, two digits and at least one more byte
 abbrev pub is_numbered : List ℕ → Bool
 is_numbered (letter ∷ tens ∷ ones ∷ b ∷ name) =
     (letter == byte "S" || letter == byte "K") && is_ascii_digit tens && is_ascii_digit ones
@@ -32,7 +32,7 @@ is_taken targets planned e = has_name e.name planned && not (is_ours targets e)
 abbrev pub is_stale : List (List ℕ) → List EntryText → EntryText → Bool
 is_stale targets planned e = is_ours targets e && not (list_any (same_entry e) planned)
 
--- a stale link with the name of a link of the plan, so it must be removed before that link is created
+-- a stale link that must be removed before a link of the plan is created, because they have the same name
 abbrev pub is_in_way : List (List ℕ) → List EntryText → EntryText → Bool
 is_in_way targets planned e = is_stale targets planned e && has_name e.name planned
 

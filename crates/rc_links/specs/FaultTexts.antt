@@ -8,7 +8,7 @@ use Rattle.rc_links.specs.declared.faults.PlanFault.TheVariants as fault
 abbrev pub with_blank : {A : Type 0} → String A → List ℕ
 with_blank name = codes " " ++ string_bytes name
 
--- the message for a fault, with the names that it concerns
+-- the message for a fault, with the names that it is about
 abbrev pub fault_text : {A : Type 0} → PlanFault A → List ℕ
 fault_text (fault.DoubleProvide name) = codes "provided twice: " ++ string_bytes name
 fault_text (fault.Missing name) = codes "missing: " ++ string_bytes name

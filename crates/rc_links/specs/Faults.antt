@@ -22,19 +22,19 @@ wrong_of (fault.Cycle names) = Some (Round (map string_bytes names.items))
 wrong_of fault.TooDeep = Some Deep
 wrong_of fault.Memory = None
 
--- the fault reports an error for which the property holds, or memory ran out
+-- the property holds for the error that the fault reports, if it reports one rather than that memory ran out
 abbrev pub FaultSatisfies : {A : Type 0} → (Wrong → Type 0) → PlanFault A → Type 0
 FaultSatisfies P found = IfSome (wrong_of found) P
 
--- the error is a cycle of scripts with these names
+-- the error is a cycle of scripts, and gives their names
 abbrev pub IsRound : Phase → List ScriptText → Wrong → Type 0
 IsRound turn scripts wrong = (names : List (List ℕ)) × (wrong ≡ Round names) × IsCycleOf turn scripts names
 
--- one of the two numbers is too great
+-- the error is that one of the two numbers is too great
 abbrev pub IsTooDeep : ℕ → ℕ → Wrong → Type 0
 IsTooDeep start stop wrong = (wrong ≡ Deep) × ((NUMBER_LIMIT < start) ⊎ (NUMBER_LIMIT < stop))
 
--- one of the numbers in the lists is too great
+-- the error is that a number in one of the two lists is too great
 abbrev pub IsAnyDeep : List ℕ → List ℕ → Wrong → Type 0
 IsAnyDeep starts stops wrong = (wrong ≡ Deep) × (IsDeep starts ⊎ IsDeep stops)
 

@@ -1,4 +1,4 @@
--- The runlevels of the links in the folders, and links whose script is gone.
+-- The runlevels that the links in the folders give to a script, and links whose script is gone.
 use Rattle.std.specs.Prelude.{ℕ, Bool, true, false, not, ◌==◌, ◌&&◌, if◌then◌else◌, List, [], ◌∷◌, map, drop, take}
 use Rattle.std.specs.Prelude.{codes}
 use Rattle.std.specs.List.{filter, list_any}
@@ -19,21 +19,21 @@ begins_with letter (b ∷ name) = b == letter
 abbrev pub target_in : List ℕ → List ℕ
 target_in leads = if bytes_eq (take 10 leads) (codes "../init.d/") then drop 10 leads else []
 
--- a numbered link with the letter to the script of this name
+-- the entry is a numbered link to the script with this name, and its name begins with the letter
 abbrev pub is_link_of : ℕ → List ℕ → EntryText → Bool
 is_link_of letter name e = begins_with letter e.name && (is_numbered e.name && bytes_eq (target_in e.leads) name)
 
--- the runlevels of the folders that hold a link with the letter to the script of this name
+-- the runlevels whose folders hold a link to the script with this name that begins with the letter
 abbrev pub levels_in : ℕ → List ℕ → List FolderText → List Level
 levels_in letter name folders =
     map (λ (f : FolderText). f.level) (filter (λ (f : FolderText). list_any (is_link_of letter name) f.held) folders)
 
--- there are no runlevels
+-- both lists of runlevels are empty
 abbrev pub is_nowhere : List Level → List Level → Bool
 is_nowhere [] [] = true
 is_nowhere _ _ = false
 
--- the script, with its runlevels replaced by these, if there are any
+-- the script with its runlevels replaced by the given ones, unless both lists are empty
 abbrev pub with_levels : List Level → List Level → PlannedText → PlannedText
 with_levels starts stops s = if is_nowhere starts stops then s else record s { starts = starts; stops = stops }
 
@@ -45,6 +45,6 @@ kept_script folders s = with_levels (levels_in (byte "S") s.name folders) (level
 abbrev pub kept_plan : List FolderText → List PlannedText → List PlannedText
 kept_plan folders plan = map (kept_script folders) plan
 
--- the entry is a link to an init script that is not among these
+-- the entry is a link to an init script that is not in the list
 abbrev pub is_gone : List EntryText → EntryText → Bool
 is_gone scripts e = is_name (target_in e.leads) && not (has_name (target_in e.leads) scripts)

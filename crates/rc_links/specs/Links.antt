@@ -10,7 +10,7 @@ use Rattle.init_words.specs.declared.levels.Level.TheVariants.{L0, L1, L2, L3, L
 use Rattle.init_words.specs.Levels.{level_code, same_level}
 use Rattle.rc_links.specs.PlannedText.{PlannedText}
 
--- the level is one of these
+-- the level is in the list
 abbrev pub has_level : Level → List Level → Bool
 has_level level levels = list_any (λ other. same_level other level) levels
 
@@ -18,7 +18,7 @@ has_level level levels = list_any (λ other. same_level other level) levels
 abbrev pub link_of : ℕ → ℕ → List ℕ → List ℕ
 link_of letter number name = letter ∷ (byte "0" + number / 10 % 10) ∷ (byte "0" + number % 10) ∷ name
 
--- the script's name in the name of a link
+-- the name of the script in the name of a link
 abbrev pub linked_name : List ℕ → List ℕ
 linked_name link = drop 3 link
 
@@ -26,12 +26,12 @@ linked_name link = drop 3 link
 abbrev pub is_before : List ℕ → List ℕ → Bool
 is_before a b = is_lt (slice_cmp nat_cmp a b)
 
--- a text inserted into sorted texts
+-- the sorted texts with one more text, inserted at its place
 abbrev pub placed : List ℕ → List (List ℕ) → List (List ℕ)
 placed text [] = text ∷ []
 placed text (first ∷ texts) = if is_before first text then first ∷ placed text texts else text ∷ first ∷ texts
 
--- these texts in byte order
+-- the texts in byte order
 abbrev pub in_byte_order : List (List ℕ) → List (List ℕ)
 in_byte_order [] = []
 in_byte_order (text ∷ texts) = placed text (in_byte_order texts)
@@ -44,7 +44,7 @@ stop_links level plan = map (λ s. link_of (byte "K") s.stop s.name) (filter (λ
 abbrev pub start_links : Level → List PlannedText → List (List ℕ)
 start_links level plan = map (λ s. link_of (byte "S") s.start s.name) (filter (λ s. has_level level s.starts) plan)
 
--- the links in a level's folder: those that stop, then those that start, each group in byte order
+-- the links in a level's folder: those that stop services, then those that start services, each group in byte order
 abbrev pub links_at : List PlannedText → Level → List (List ℕ)
 links_at plan level = in_byte_order (stop_links level plan) ++ in_byte_order (start_links level plan)
 
@@ -61,6 +61,6 @@ level_text plan level = flat_map (link_line level) (links_at plan level)
 abbrev pub plan_text : List PlannedText → List ℕ
 plan_text plan = flat_map (level_text plan) (L0 ∷ L1 ∷ L2 ∷ L3 ∷ L4 ∷ L5 ∷ L6 ∷ L7 ∷ L8 ∷ L9 ∷ S ∷ [])
 
--- these texts were appended
+-- these links, and no others, were appended
 abbrev pub AddsLinks : {A : Type 0} → List (Vec ℕ A) → List (Vec ℕ A) → List (List ℕ) → Type 0
 AddsLinks old new links = map (λ link. link.items) new ≡ map (λ link. link.items) old ++ links

@@ -44,8 +44,8 @@ abbrev pub IsMended : List (List ℕ) → List ChangeText → FolderText → Typ
 IsMended targets changes f =
     HoldSame (settled targets f.planned (behind changes f).held) (settled targets f.planned f.held)
 
--- the plan and the folder both have a link with the letter to the script, or neither has one; and no such link in the
--- folder is in the way
+-- the plan and the folder both have a link to the script that begins with the letter, or neither has one; and no such
+-- link in the folder is in the way
 pub record StaysIn (targets : List (List ℕ)) (letter : ℕ) (name : List ℕ) (f : FolderText) : Type 0 where
   pub both : list_any (is_link_of letter name) f.planned ≡ list_any (is_link_of letter name) f.held
   pub clear : list_any (λ e. is_link_of letter name e && is_in_way targets f.planned e) f.held ≡ false

@@ -8,7 +8,7 @@ use Rattle.std.specs.Char.{is_ascii_alphanumeric}
 abbrev pub is_name_byte : ℕ → Bool
 is_name_byte b = is_ascii_alphanumeric b || b == byte "." || b == byte "_" || b == byte "-"
 
--- one or more such bytes
+-- the name is not empty, and each of its bytes is a letter, a digit, '.', '_' or '-'
 abbrev pub is_name : List ℕ → Bool
 is_name [] = false
 is_name (b ∷ name) = list_all is_name_byte (b ∷ name)

@@ -18,7 +18,7 @@ pub record IsProvided (scripts : List ScriptText) : Type 0 where
   pub single : double_from [] scripts ≡ None
   pub whole : missing_from scripts scripts ≡ None
 
--- these are the least numbers of the scripts, for the start or for the stop
+-- these are the least numbers that the scripts can have, for the start or for the stop
 pub record AreLeast (turn : Phase) (scripts : List ScriptText) (numbers : List ℕ) : Type 0 where
   pub size : length numbers ≡ length scripts
   pub least : IsLeast (length scripts) (needs_of turn scripts) numbers
@@ -27,7 +27,7 @@ pub record AreLeast (turn : Phase) (scripts : List ScriptText) (numbers : List �
 abbrev pub IsDeep : List ℕ → Type 0
 IsDeep numbers = (position : ℕ) × (NUMBER_LIMIT < get_or numbers position 0)
 
--- a script's numbers fit into a link's two digits
+-- a script's numbers fit in a link's two digits
 abbrev pub IsShort : PlannedText → Type 0
 IsShort s = (s.start ≤ NUMBER_LIMIT) × (s.stop ≤ NUMBER_LIMIT)
 
@@ -73,7 +73,7 @@ pub record IsCycleOf (turn : Phase) (scripts : List ScriptText) (names : List (L
   pub cycle : IsCycle (needs_of turn scripts) places
   pub none : HasNoNumbering (needs_of turn scripts)
 
--- why scripts have no plan: the first check that fails, in this order
+-- why scripts have no plan: the fault is that of the first check that fails
 abbrev pub IsRefused : {A : Type 0} → List ScriptText → PlanFault A → Type 0
 IsRefused scripts (fault.DoubleProvide name) = double_from [] scripts ≡ Some (string_bytes name)
 IsRefused scripts (fault.Missing name) =

@@ -10,7 +10,7 @@ use Rattle.rc_links.specs.declared.needs.Phase.{Phase}
 use Rattle.rc_links.specs.declared.needs.Phase.TheVariants as phase
 use Rattle.rc_links.specs.ScriptText.{ScriptText}
 
--- the name is one of these
+-- the name is in the list
 abbrev pub has_name : List ℕ → List (List ℕ) → Bool
 has_name name names = list_any (λ other. bytes_eq name other) names
 
@@ -35,21 +35,21 @@ doubled before s =
     option_or (find (λ name. is_some (place_of before name)) s.header.provides)
     (if has_script before s.name then Some s.name else None)
 
--- the first name that is provided twice, or that two scripts have
+-- the first name that two scripts provide, or that two scripts have as their name
 abbrev pub double_from : List ScriptText → List ScriptText → Option (List ℕ)
 double_from before [] = None
 double_from before (s ∷ scripts) = option_or (doubled before s) (double_from (before ++ s ∷ []) scripts)
 
--- a name of the system, which begins with '$'
+-- a system name, which begins with '$'
 abbrev pub is_system : List ℕ → Bool
 is_system [] = false
 is_system (b ∷ name) = b == 36
 
--- the first of the names that no script provides, except those of the system
+-- the first of the names that is not a system name and that no script provides
 abbrev pub missing_in : List ScriptText → List (List ℕ) → Option (List ℕ)
 missing_in scripts names = find (λ name. not (is_system name) && not (is_some (place_of scripts name))) names
 
--- the first name that a script requires and that is missing; those required for its start come first
+-- the first name that the script requires and that is missing; the names required for its start come first
 abbrev pub missing_of : List ScriptText → ScriptText → Option (List ℕ)
 missing_of scripts s =
     option_or (missing_in scripts s.header.required_start) (missing_in scripts s.header.required_stop)
@@ -68,17 +68,18 @@ abbrev pub named : Phase → HeaderText → List (List ℕ)
 named phase.Start header = header.required_start ++ header.should_start
 named phase.Stop header = header.required_stop ++ header.should_stop
 
--- the need when a script names another script: at the start it needs the other; at the stop the other needs it
+-- the edge (a, b), by which a needs b, when a script names another: for the start, the script needs the other; for the
+-- stop, the other needs the script
 abbrev pub need : Phase → ℕ → ℕ → ℕ × ℕ
 need phase.Start position other = (position, other)
 need phase.Stop position other = (other, position)
 
--- the needs for the names in each script's header; the first script of the list has the given position
+-- the edges for the names in each script's header; the first script of the list has the given position
 abbrev pub needs_from : Phase → List ScriptText → ℕ → List ScriptText → List (ℕ × ℕ)
 needs_from turn all position [] = []
 needs_from turn all position (s ∷ scripts) =
     map (need turn position) (places_of all (named turn s.header)) ++ needs_from turn all (position + 1) scripts
 
--- the needs of all scripts, for the start or for the stop
+-- the edges by which the scripts need each other, for the start or for the stop
 abbrev pub needs_of : Phase → List ScriptText → List (ℕ × ℕ)
 needs_of turn scripts = needs_from turn scripts 0 scripts

@@ -1,4 +1,4 @@
--- Sets of names, of folders' entries, and of links.
+-- Sets of names, of entries in folders, and of links.
 use Rattle.std.specs.Prelude.{◌≡◌, ℕ, Bool, true, false, not, ◌&&◌, if◌then◌else◌, List, map, nat_eq}
 use Rattle.std.specs.Borrow.{Bor}
 use Rattle.std.specs.List.{filter, list_any}
@@ -15,7 +15,7 @@ use Rattle.init_words.specs.declared.levels.Level.{Level}
 abbrev pub NameSet : Type 0 → Type 0
 NameSet S = IndexSet (Bor (List ℕ)) S
 
--- pairs of a name and a target
+-- a set of entries, each represented by its name and its target
 abbrev pub EntrySet : Type 0 → Type 0
 EntrySet S = IndexSet (Bor (List ℕ) × Bor (List ℕ)) S
 
@@ -57,7 +57,7 @@ leads_among targets e = is_numbered e.name && is_among targets e.leads
 abbrev pub is_taken_by : {R S : Type 0} → NameSet R → NameSet S → EntryText → Bool
 is_taken_by targets names e = is_among names e.name && not (leads_among targets e)
 
--- the entry is a link to an init script with none of the names
+-- the entry is a link to an init script whose name is not in the set
 abbrev pub is_gone_by : {S : Type 0} → NameSet S → EntryText → Bool
 is_gone_by names e = is_name (target_in e.leads) && not (is_among names (target_in e.leads))
 
@@ -65,16 +65,17 @@ is_gone_by names e = is_name (target_in e.leads) && not (is_among names (target_
 abbrev pub is_stale_by : {R S : Type 0} → NameSet R → EntrySet S → EntryText → Bool
 is_stale_by targets planned e = leads_among targets e && not (is_entry_of planned e)
 
--- the entry must be removed: with `true`, if some link of the plan has its name; with `false`, if none has it
+-- the entry must be removed: for `true`, before the links of the plan are created, because one of them has its name;
+-- for `false`, after that, because none has its name
 abbrev pub is_removed_by : {R S T : Type 0} → Bool → NameSet R → EntrySet S → NameSet T → EntryText → Bool
 is_removed_by true targets planned names e = is_stale_by targets planned e && is_among names e.name
 is_removed_by false targets planned names e = is_stale_by targets planned e && not (is_among names e.name)
 
--- numbered links, each represented by its letter and the name of its script
+-- a set of numbered links, each represented by its letter and the name of its script
 abbrev pub LinkSet : Type 0 → Type 0
 LinkSet S = IndexSet (ℕ × Bor (List ℕ)) S
 
--- the set has a link with the letter to the script of this name
+-- the set has a link to the script with this name that begins with the letter
 abbrev pub has_link : {S : Type 0} → ℕ → List ℕ → LinkSet S → Bool
 has_link letter name links = contains_by (λ key. nat_eq letter key.0 && bytes_eq name key.1.now) links
 
@@ -88,7 +89,7 @@ abbrev pub HasLinks : {S : Type 0} → LinkSet S → List EntryText → Type 0
 HasLinks links entries = (letter : ℕ) (name : List ℕ)
     → has_link letter name links ≡ list_any (is_link_of letter name) entries
 
--- the runlevels whose set has a link with the letter to the script of this name
+-- the runlevels whose set has a link to the script with this name that begins with the letter
 abbrev pub levels_by : {S : Type 0} → ℕ → List ℕ → List (Level × LinkSet S) → List Level
 levels_by letter name links = map (λ pair. pair.0) (filter (λ pair. has_link letter name pair.1) links)
 

@@ -6,7 +6,7 @@ abbrev pub Needs : List (ℕ × ℕ) → ℕ → ℕ → Type 0
 Needs [] a b = ⊥
 Needs (edge ∷ edges) a b = ((edge.0 ≡ a) × (edge.1 ≡ b)) ⊎ Needs edges a b
 
--- each number is at least 1, and greater than the number of each place that its place needs
+-- each place has a number, at least 1 and greater than the numbers of the places that it needs
 pub record IsNumbering (edges : List (ℕ × ℕ)) (number : ℕ → ℕ) : Type 0 where
   pub some : (a : ℕ) → 1 ≤ number a
   pub rises : (a b : ℕ) → Needs edges a b → number b < number a
@@ -15,12 +15,12 @@ pub record IsNumbering (edges : List (ℕ × ℕ)) (number : ℕ → ℕ) : Type
 abbrev pub HasNoNumbering : List (ℕ × ℕ) → Type 0
 HasNoNumbering edges = (number : ℕ → ℕ) → IsNumbering edges number → ⊥
 
--- at every place, the number is at most the number in any numbering
+-- no place has a greater number than it has in any numbering
 abbrev pub AtMostAny : List (ℕ × ℕ) → List ℕ → Type 0
 AtMostAny edges numbers =
     (number : ℕ → ℕ) → IsNumbering edges number → (a : ℕ) → get_or numbers a 0 ≤ number a
 
--- the least numbering of the places below the count: at every place, any other numbering has at least this number
+-- the least numbering of the places below `count`: no numbering gives any place a smaller number
 pub record IsLeast (count : ℕ) (edges : List (ℕ × ℕ)) (numbers : List ℕ) : Type 0 where
   pub some : (a : ℕ) → a < count → 1 ≤ get_or numbers a 0
   pub rises : (a b : ℕ) → Needs edges a b → get_or numbers b 0 < get_or numbers a 0
@@ -46,7 +46,7 @@ abbrev pub IsCycle : List (ℕ × ℕ) → List ℕ → Type 0
 IsCycle edges [] = ⊥
 IsCycle edges (a ∷ xs) = Walk edges a xs a × Earliest a xs
 
--- a place with a step needs the place to which the step leads
+-- if a place has a step, the place needs the one that the step leads to
 abbrev pub AreSteps : List (ℕ × ℕ) → List (Option ℕ) → Type 0
 AreSteps edges steps = (a b : ℕ) → get_or steps a None ≡ Some b → Needs edges a b
 

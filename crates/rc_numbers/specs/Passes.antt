@@ -3,23 +3,25 @@ use Rattle.std.specs.Prelude.{◌≡◌, ℕ, ◌+◌, ◌<◌, ◌≤◌, ◌==
 use Rattle.std.specs.Prelude.{length}
 use Rattle.rc_numbers.specs.Numbering.{Needs, AtMostAny}
 
--- a height after one more need with this number: 0 if there was no height or the needed place has no number
+-- the height of a place after one more needed place with this number: 0 if the height was 0 or the needed place has no
+-- number
 abbrev pub raised : ℕ → ℕ → ℕ
 raised height number = if height == 0 || number == 0 then 0 else max height (number + 1)
 
--- a height after the edges that start at the place
+-- the height of place `a`, given a first height, after all edges that begin at the place
 abbrev pub height_from : List ℕ → ℕ → ℕ → List (ℕ × ℕ) → ℕ
 height_from numbers a height [] = height
 height_from numbers a height (edge ∷ edges) =
     height_from numbers a (if edge.0 == a then raised height (get_or numbers edge.1 0) else height) edges
 
--- the last place without a number that the place needs, among these edges
+-- the last place in these edges that place `a` needs and that has no number; `found` if there is none
 abbrev pub need_from : List ℕ → ℕ → ℕ → List (ℕ × ℕ) → ℕ
 need_from numbers a found [] = found
 need_from numbers a found (edge ∷ edges) =
     need_from numbers a (if edge.0 == a && get_or numbers edge.1 0 == 0 then edge.1 else found) edges
 
--- the heights of the places: one more than the greatest number among the places that each needs; 0 if one has no number
+-- the heights of the places: for each, one more than the greatest number among the places that it needs, or 0 if one of
+-- them has no number
 abbrev pub AreHeights : List (ℕ × ℕ) → List ℕ → List ℕ → Type 0
 AreHeights edges numbers heights =
     (a : ℕ) → a < length numbers → get_or heights a 0 ≡ height_from numbers a 1 edges
@@ -29,7 +31,7 @@ abbrev pub AreBlockers : List (ℕ × ℕ) → List ℕ → List ℕ → Type 0
 AreBlockers edges numbers found =
     (a : ℕ) → a < length numbers → get_or found a 0 ≡ need_from numbers a 0 edges
 
--- the numbers, with the height for each place that had no number
+-- the numbers, where each place that had no number now has its height as its number
 abbrev pub settled : List ℕ → List ℕ → List ℕ
 settled [] heights = []
 settled (x ∷ numbers) [] = x ∷ numbers
@@ -40,8 +42,8 @@ abbrev pub zeros : List ℕ → ℕ
 zeros [] = 0
 zeros (x ∷ xs) = (if x == 0 then 1 else 0) + zeros xs
 
--- the numbers assigned so far: at most those of any numbering, and each above the numbers of the places that its place
--- needs
+-- the numbers assigned so far: each is at most the place's number in any numbering, and greater than the numbers of the
+-- places that the place needs
 pub record IsPartial (count : ℕ) (edges : List (ℕ × ℕ)) (numbers : List ℕ) : Type 0 where
   pub size : length numbers ≡ count
   pub small : (a : ℕ) → get_or numbers a 0 + zeros numbers ≤ count

@@ -12,8 +12,8 @@ use Rattle.rclinks_command.specs.declared.answer.Work.{Work}
 use Rattle.rclinks_command.specs.declared.answer.Work.TheVariants.{Change, Print}
 use Rattle.rclinks_command.specs.declared.report.Refusal.{Refusal}
 
--- the work that a command line requires for a plan: its links are printed; or the changes that the folders of a
--- directory need are printed or made
+-- the work that a command line requires for a plan: to print its links, or to print or make the changes that the
+-- folders of a directory need
 abbrev pub IsWork : Option (List ℕ) → Line → KnownScripts → KnownFolders → Work → List PlannedText → Type 0
 IsWork None line scripts before (Print text) plan = text.items ≡ plan_text plan
 IsWork None line scripts before (Change to changes) plan = ⊥
@@ -28,7 +28,7 @@ Did (Ok (Print text)) before after old new = Appends old new text.items
 Did (Ok (Change to changes)) before after old new = Becomes before after (changed_by to.now changes.items)
 Did (Err why) before after old new = ⊥
 
--- the part that was done: a prefix of the text was printed, or the first changes were made
+-- part of the work was done: a prefix of the text was printed, or the first changes were made
 abbrev pub DidPart : Result Work Refusal → KnownFolders → KnownFolders → Option (List ℕ) → Option (List ℕ) → Type 0
 DidPart (Ok (Print text)) before after old new = AppendsPrefix old new text.items
 DidPart (Ok (Change to changes)) before after old new =
@@ -40,13 +40,13 @@ abbrev pub IsRefusal : Result Work Refusal → Type 0
 IsRefusal (Ok work) = ⊥
 IsRefusal (Err why) = refusal_status why ≡ 1
 
--- folders are changed
+-- the work changes folders
 abbrev pub makes : Result Work Refusal → Bool
 makes (Ok (Print text)) = false
 makes (Ok (Change to changes)) = true
 makes (Err why) = false
 
--- a text is printed
+-- the work prints a text
 abbrev pub prints : Result Work Refusal → Bool
 prints (Ok (Print text)) = true
 prints (Ok (Change to changes)) = false

@@ -13,7 +13,7 @@ pub data LinkCall : Type 0 where
   MakeFolder : List ℕ → LinkCall
   MakeLink : List ℕ → List ℕ → LinkCall
 
--- these calls, newest first, were made, if the calls are known
+-- if the calls made so far are known, these calls, newest first, were added to them
 abbrev pub Asks : Option (List LinkCall) → Option (List LinkCall) → List LinkCall → Type 0
 Asks old new calls = IfSome new (λ all. (before : List LinkCall) × (old ≡ Some before) × (all ≡ calls ++ before))
 

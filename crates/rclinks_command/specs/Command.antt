@@ -38,7 +38,7 @@ plan_status plan_fault.Memory = 4
 abbrev pub HasNoPlan : List ScriptText → Type 0
 HasNoPlan scripts = (found : PlanFault Global) × IsRefused scripts found × (plan_status found ≡ 1)
 
--- the first file that is not a script is rejected because of its name or its header
+-- the first file that is not a script was rejected because of its name or its header
 abbrev pub HasRefused : KnownTexts → List (List ℕ) → Type 0
 HasRefused text_at paths = (before later : List (List ℕ)) × (path : List ℕ) × (paths ≡ before ++ path ∷ later)
     × ((scripts : List ScriptText) × AreScripts text_at before scripts)
@@ -66,7 +66,7 @@ keeps_going line = line.skips || line.all
 abbrev pub command_line : App
 command_line = line_of (codes "rclinks") (written OPTIONS.now)
 
--- the command line in the rows of the table
+-- the command line that the rows of the table describe
 abbrev pub asked_by : List Row → Line
 asked_by rows = record {
   all = is_set (codes "--all") rows;
@@ -93,9 +93,9 @@ abbrev pub line_with : List (List ℕ) → Line → Line
 line_with facilities line =
     record line { files = files_with facilities (is_some line.dir && not line.bare) line.files }
 
--- The property holds for the scripts that are planned. Without --skip, these are the scripts of all files. With
--- --skip, these are the scripts of all files that are scripts, except some that were omitted, each because there was
--- no plan with it. In both cases, the facility `$all` is added if the scripts that name it come last.
+-- The property holds for the scripts that are planned. Without --skip, these are the scripts in all files. With --skip,
+-- these are the scripts in all files that are scripts, except some that were omitted, each because there was no plan
+-- with it. In both cases, the facility `$all` is added if the scripts that name it come last.
 abbrev pub ScriptsOf : KnownTexts → (skips last : Bool) → List (List ℕ) → (List ScriptText → Type 0) → Type 0
 ScriptsOf text_at false last paths P =
     (scripts : List ScriptText) × AreScripts text_at paths scripts × P (with_all last scripts)
@@ -146,8 +146,7 @@ PartIn true prunes scripts before dir after old new plan =
     (text : List ℕ) × Previews before scripts prunes dir plan text × AppendsPrefix old new text
 PartIn false prunes scripts before dir after old new plan = IsWrittenPart before scripts prunes dir plan after
 
--- part of the work for a plan was done: a prefix of its text was printed, or that part of the changes was printed or
--- made
+-- part of the work for a plan was done: a prefix of its text was printed, or part of the changes was printed or made
 abbrev pub PartBy : Option (List ℕ) → Line → KnownScripts → KnownFolders → KnownFolders → Option (List ℕ)
     → Option (List ℕ) → List PlannedText → Type 0
 PartBy None line scripts before after old new plan = AppendsPrefix old new (plan_text plan)

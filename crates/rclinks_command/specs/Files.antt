@@ -11,7 +11,7 @@ use Rattle.rc_links.specs.ScriptText.{ScriptText}
 use Rattle.rclinks_command.specs.declared.files.FileFault.{FileFault}
 use Rattle.rclinks_command.specs.declared.files.FileFault.TheVariants as fault
 
--- a '/'
+-- the byte is a '/'
 abbrev pub is_slash : ℕ → Bool
 is_slash b = b == 47
 
@@ -20,7 +20,7 @@ abbrev pub last_part : List ℕ → List ℕ
 last_part [] = []
 last_part (b ∷ path) = if list_any is_slash (b ∷ path) then last_part path else b ∷ path
 
--- this is the script of a file with this name and text
+-- this is the script in a file with this name and text
 pub record IsScriptOf (name text : List ℕ) (script : ScriptText) : Type 0 where
   pub named : script.name ≡ name
   pub fit : is_name name ≡ true
@@ -57,8 +57,8 @@ IsNoScript name text (fault.Header found line) =
     (is_name name ≡ true) × (header_read text ≡ Err found) × (refusal_of text found ≡ fault.Header found line)
 IsNoScript name text fault.Memory = Unit {0}
 
--- the reason why the file at this path is not a script: a file with a known text can be read, and lack of memory is
--- not a reason
+-- the reason why the file at this path is not a script; a file with a known text can always be read, and that memory
+-- ran out is not a reason
 abbrev pub IsNoScriptAt : KnownTexts → List ℕ → FileFault → Type 0
 IsNoScriptAt text_at path (fault.Unread error) = text_at path ≡ None
 IsNoScriptAt text_at path fault.Name = is_name (last_part path) ≡ false
@@ -70,7 +70,7 @@ IsNoScriptAt text_at path fault.Memory = ⊥
 abbrev pub IsNotRead : KnownTexts → List ℕ → FileFault → Type 0
 IsNotRead text_at path found = (found ≡ fault.Memory) ⊎ IsNoScriptAt text_at path found
 
--- the exit status: 1 for a name or a header that is rejected, 4 for a file that can't be read and for lack of memory
+-- the exit status: 1 for a name or a header that is rejected, 4 for a file that can't be read or if memory ran out
 abbrev pub file_status : FileFault → ℕ
 file_status (fault.Unread error) = 4
 file_status fault.Name = 1

@@ -1,4 +1,4 @@
--- The known entries of the runlevels' folders, and their entries after changes.
+-- The known entries in the runlevels' folders, and their entries after changes.
 use Rattle.std.specs.Prelude.{◌≡◌, ℕ, if◌then◌else◌, List, [], ◌∷◌, Option, Some}
 use Rattle.std.specs.Str.{bytes_eq}
 use Rattle.init_words.specs.declared.levels.Level.{Level}
@@ -14,7 +14,7 @@ KnownFolders = List ℕ → Level → Option (List EntryText)
 abbrev pub KnownScripts : Type 0
 KnownScripts = List ℕ → Option (List EntryText)
 
--- the entries of each known folder are the result of the function for its earlier entries
+-- the function maps the old entries of each known folder to its new entries
 abbrev pub Becomes : KnownFolders → KnownFolders → (List ℕ → Level → List EntryText → List EntryText) → Type 0
 Becomes old new f =
     (dir : List ℕ) (level : Level) (es : List EntryText) → old dir level ≡ Some es
@@ -24,10 +24,10 @@ Becomes old new f =
 abbrev pub Stays : KnownFolders → KnownFolders → Type 0
 Stays old new = Becomes old new (λ dir level es. es)
 
--- the entries after the changes, in order, which apply only to the folders of one directory
+-- the entries of a folder after the changes are made in order; the changes apply only to the folders of one directory
 abbrev pub changed_by : List ℕ → List ChangeText → List ℕ → Level → List EntryText → List EntryText
 changed_by dir changes other level es = if bytes_eq dir other then held_behind changes level es else es
 
--- the entries after one change in a directory
+-- the entries of a folder after one change in a directory
 abbrev pub changed_in : List ℕ → ChangeText → List ℕ → Level → List EntryText → List EntryText
 changed_in dir c other level es = changed_by dir (c ∷ []) other level es

@@ -5,7 +5,7 @@ use Rattle.rc_links.specs.ScriptText.{ScriptText}
 use Rattle.rclinks_command.specs.Files.{IsNoScriptAt, IsScriptAt}
 use Rattle.rclinks_command.specs.declared.files.FileFault.{FileFault}
 
--- the script at a path was added, or the fault of its file
+-- the script at a path was added to the scripts, or the fault of its file was added to the faults
 abbrev pub ReadsOne : KnownTexts → List ℕ → List ScriptText → List ScriptText → List FileFault → List FileFault → Type 0
 ReadsOne text_at path old new before after =
     ((s : ScriptText) × IsScriptAt text_at path s × (new ≡ old ++ s ∷ []) × (after ≡ before))

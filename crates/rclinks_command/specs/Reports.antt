@@ -10,11 +10,11 @@ use Rattle.rc_links.specs.declared.faults.PlanFault.{PlanFault}
 use Rattle.rclinks_command.specs.Files.{AreScripts, IsNoScriptAt, file_status}
 use Rattle.rclinks_command.specs.declared.files.FileFault.{FileFault}
 
--- a line with the program's name, a word, and the text after it
+-- a line that consists of the program's name, a word and the rest of the text
 abbrev pub line_of : List ℕ → List ℕ → List ℕ
 line_of word rest = codes "rclinks: " ++ (word ++ (rest ++ codes "\n"))
 
--- some lines with this word were added
+-- some lines that begin with this word were added
 abbrev pub TellsLines : List ℕ → List ℕ → List ℕ → Type 0
 TellsLines word old new = (lines : List (List ℕ)) × (new ≡ old ++ flat_map (line_of word) lines)
 

@@ -34,7 +34,7 @@ abbrev pub IsFaultAt : {A : Type 0} → List ScriptText → PlanFault A → ℕ 
 IsFaultAt scripts found position = (s : ScriptText) × (drop position scripts ≡ s ∷ drop (position + 1) scripts)
     × (is_at_fault (take position scripts) found s ≡ true)
 
--- the scripts have no plan, and a script that the fault is about is omitted
+-- the scripts have no plan, and one script that the fault is about is omitted
 abbrev pub LeavesOne : List ScriptText → List ScriptText → Type 0
 LeavesOne scripts rest = (found : PlanFault Global) × (position : ℕ) × IsRefused scripts found
     × IsFaultAt scripts found position

@@ -53,24 +53,24 @@ pub record AreFolders (known : KnownFolders) (dir : List ℕ) (plan : List Plann
 abbrev pub has_taken : List (List ℕ) → List FolderText → Bool
 has_taken targets folders = list_any (λ (f : FolderText). list_any (is_taken targets f.planned) f.held) folders
 
--- the targets of the links in a folder that lead to an init script that is not among these entries
+-- the targets of those links in a folder that lead to an init script that is not in the list
 abbrev pub gone_at : List EntryText → FolderText → List (List ℕ)
 gone_at scripts f = map (λ (e : EntryText). e.leads) (filter (is_gone scripts) f.held)
 
--- The targets whose links are brought into line with the plan: the scripts of the plan and, with --prune, the scripts
--- that are gone.
+-- The targets for which the numbered links are made to match the plan: the scripts in the plan and, with --prune, the
+-- scripts that are gone.
 abbrev pub AreTargets : Bool → KnownScripts → List ℕ → List PlannedText → List FolderText → List (List ℕ) → Type 0
 AreTargets false known dir plan folders targets = targets ≡ targets_in plan
 AreTargets true known dir plan folders targets = (scripts : List EntryText)
     × ((es : List EntryText) → known dir ≡ Some es → scripts ≡ es)
     × (targets ≡ targets_in plan ++ flat_map (gone_at scripts) folders)
 
--- the changes that bring the links with these targets in the folders into line with the plan
+-- the changes after which the folders' links with these targets match the plan
 abbrev pub changes_in : List (List ℕ) → List FolderText → List ChangeText
 changes_in targets folders = flat_map (changes_of targets) folders
 
--- among the numbered links with these targets, the folders of the directory hold exactly the plan's; their other
--- entries and all other folders are unchanged
+-- the only numbered links with these targets in the directory's folders are those of the plan; the other entries of
+-- these folders, and all other folders, are unchanged
 abbrev pub settled_in : List ℕ → List (List ℕ) → List PlannedText → List ℕ → Level → List EntryText → List EntryText
 settled_in dir targets plan other level es =
     if bytes_eq dir other then settled targets (planned_at plan level) es else es
@@ -117,7 +117,7 @@ IsWritten known scripts prunes dir plan after =
     (changes : List ChangeText) × (wanted : NeededChanges known scripts prunes dir plan changes)
     × Becomes known after (settled_in dir wanted.targets plan)
 
--- the first of the changes were made
+-- a first part of the changes that the folders need was made
 abbrev pub IsWrittenPart : KnownFolders → KnownScripts → Bool → List ℕ → List PlannedText → KnownFolders → Type 0
 IsWrittenPart known scripts prunes dir plan after =
     (changes : List ChangeText) × (count : ℕ) × NeededChanges known scripts prunes dir plan changes

@@ -5,7 +5,7 @@ use Rattle.simulator.specs.Words.{Event, Child, has_number, is_dead, undone_of, 
 use Rattle.simulator.specs.declared.simulated.SimulatedChild.{SimulatedChild}
 use Rattle.simulator.specs.State.{SystemState, order_in, answer_in, child_in}
 
--- a child of the trace as the state represents it
+-- a child in the trace, in the form in which the state represents it
 abbrev pub simulated_child_of : ℕ → List Event → Child → SimulatedChild
 simulated_child_of number past child = record { id = child.id; is_dead = is_dead child.id number past }
 

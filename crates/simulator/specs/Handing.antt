@@ -1,4 +1,4 @@
--- Hand-overs of init's state in a run: the state that init keeps, its text, and which hand-overs are possible.
+-- Hand-overs of init's state in a run: the state that init keeps, its saved form, and which hand-overs are possible.
 use Rattle.std.specs.Prelude.{ℕ, Bool, true, ◌&&◌, ◌+◌, ◌-◌, ◌^◌, if◌then◌else◌, nat_le, nat_lt, List, [], ◌∷◌, ◌++◌}
 use Rattle.std.specs.Prelude.{get_or, length, take, Option, Some, None}
 use Rattle.initctl_frame.specs.declared.requests.HeardRequest.TheVariants as got
@@ -14,15 +14,15 @@ use Rattle.simulator.specs.declared.objections.Objection.{Objection}
 use Rattle.simulator.specs.declared.objections.Objection.TheVariants as objection
 use Rattle.simulator.specs.Objections.{unless}
 
--- the number of state texts made so far: one for each hand-over that did not fail
+-- the number of times that the state was saved so far: once for each hand-over that did not fail
 abbrev pub made_in : List Event → ℕ
 made_in [] = 0
 made_in (Handed handed.Failed ∷ past) = made_in past
 made_in (Handed how ∷ past) = made_in past + 1
 made_in (_ ∷ past) = made_in past
 
--- the goal that init keeps: the last request for a level, not counting requests still pending in a runlevel; if there
--- is none, the initial goal
+-- the goal in the state that init keeps: the last request for a level, not counting a request still pending in a
+-- runlevel; the initial goal if there is none
 abbrev pub kept_goal : Goal → List Event → Goal
 kept_goal opening [] = opening
 kept_goal opening (Enter stage grace ∷ past) = wished (level_wish past) (kept_goal opening past)
@@ -34,24 +34,24 @@ kept_goal opening (_ ∷ past) = kept_goal opening past
 abbrev pub kept_at : Goal → List Event → CoreState
 kept_at opening past = core_read (last_statuses_of past) past (kept_goal opening past) (made_in past)
 
--- the text that init hands over: the text of its state, one generation later
+-- the saved state that init hands over, which has the next generation
 abbrev pub handed_over_text : CoreState → List ℕ
 handed_over_text core = state_text (state_of (after_handed_on core))
 
--- the text that a hand-over after the trace makes
+-- the saved state that a hand-over after the trace produces
 abbrev pub text_at : Goal → List Event → List ℕ
 text_at opening past = handed_over_text (kept_at opening past)
 
--- the next generation number is not too large
+-- the number of the next generation fits in 64 bits
 abbrev pub has_next : ℕ → Bool
 has_next generation = nat_lt (generation + 1) (2 ^ 64)
 
--- one of the `made` texts so far has this generation
+-- this generation is that of one of the `made` saved states so far
 abbrev pub is_made : ℕ → ℕ → Bool
 is_made generation made = nat_le 1 generation && nat_le generation made
 
 -- The hand-over is possible. There must be a next generation; a text that is cut must be longer than the bytes that
--- arrive; an older text must have been made before. A hand-over that failed makes no text and is always possible.
+-- arrive; an older text must have been saved before. A hand-over that failed saves no text and is always possible.
 abbrev pub may_be_handed : Goal → HandOver → List Event → Bool
 may_be_handed opening handed.Failed past = true
 may_be_handed opening handed.Whole past = has_next (made_in past)
@@ -72,7 +72,8 @@ are_handed opening (happening ∷ past) = may_hand opening happening past && are
 abbrev pub unless_worn : ℕ → Option Objection → Option Objection
 unless_worn generation other = if has_next generation then other else Some objection.Worn
 
--- the objection to a hand-over, given the number of texts made and the length of the next one; none if it is possible
+-- the objection to a hand-over, given the number of states saved so far and the length of the next one; none if it is
+-- possible
 abbrev pub objection_handed : ℕ → ℕ → HandOver → Option Objection
 objection_handed made size handed.Failed = None
 objection_handed made size handed.Whole = unless_worn made None
@@ -81,12 +82,12 @@ objection_handed made size (handed.Cut bytes) =
 objection_handed made size (handed.Older generation) =
     unless_worn made (unless (is_made generation made) (objection.NoneOlder generation))
 
--- the state that init keeps after a hand-over: one generation later, unless the hand-over failed
+-- the state that init keeps after a hand-over, which has the next generation unless the hand-over failed
 abbrev pub after_hand : HandOver → CoreState → CoreState
 after_hand handed.Failed core = after_handed core
 after_hand how core = after_handed_on core
 
--- the text that reaches the next init: the text made, a prefix of it, or an older one; none if the hand-over failed
+-- the text that reaches the next init: the saved state, a prefix of it, or an older one; none if the hand-over failed
 abbrev pub comes_back : HandOver → List ℕ → List (List ℕ) → Option (List ℕ)
 comes_back handed.Whole text made = Some text
 comes_back (handed.Cut bytes) text made = Some (take bytes text)
@@ -98,7 +99,7 @@ abbrev pub taken_of : HandOver → CoreState → Option CoreState
 taken_of handed.Whole core = Some core
 taken_of _ core = None
 
--- the texts made so far, after a hand-over: one more, unless the hand-over failed
+-- the saved states after a hand-over: one more than before, unless the hand-over failed
 abbrev pub kept_texts : HandOver → CoreState → List (List ℕ) → List (List ℕ)
 kept_texts handed.Failed core made = made
 kept_texts how core made = made ++ handed_over_text core ∷ []

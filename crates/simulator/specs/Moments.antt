@@ -73,8 +73,8 @@ Breaks goal past f old new =
     (next : List Event) × (more : List ℕ) × (is_run goal next ≡ true) × SimulationGoesOn past next more
     × Leaves f old new more
 
--- the core is ready for the happening: no start and no signal is open if a table is adopted, and a hand-over can be
--- made
+-- init is ready for the happening: no start and no signal is open if a table is adopted, and its state can be saved if
+-- it is handed over
 abbrev pub IsReadyFor : Event → CoreState → Type 0
 IsReadyFor (NewTable table) core = is_quiet core.slots ≡ true
 IsReadyFor (Handed how) core = CanHand how core
@@ -100,8 +100,8 @@ abbrev pub HeardBreaks : Goal → List Event → Event → SimFault → Option (
 HeardBreaks goal past happening f old new = (next : List Event) × (more : List ℕ)
     × (is_run goal next ≡ true) × HearsLine goal past next (event_text happening) more × Leaves f old new more
 
--- how a happening of the script, whose line has this number, may end the run; memory allocation may also fail before
--- anything changes
+-- the fault may end the run at a happening of the script, on the line with this number; if memory runs out, it may do
+-- so even before anything changes
 abbrev pub HeardEnds : Goal → List Event → Event → ℕ → SimFault → Option (List ℕ) → Option (List ℕ) → Type 0
 HeardEnds goal past happening number fault.Table old new = ⊥
 HeardEnds goal past happening number (fault.Script n) old new = ⊥
@@ -111,7 +111,7 @@ HeardEnds goal past happening number fault.Write old new = HeardBreaks goal past
 HeardEnds goal past happening number fault.Memory old new =
     Keeps old new ⊎ HeardBreaks goal past happening fault.Memory old new
 
--- the faults of reading an inittab
+-- the fault is one of reading this inittab
 abbrev pub TableEnds : List ℕ → SimFault → Type 0
 TableEnds inittab fault.Table = IsTooLong inittab
 TableEnds inittab fault.Memory = Unit {0}

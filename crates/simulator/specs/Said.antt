@@ -29,12 +29,12 @@ objection_in rereads made size side NotRead = unless rereads objection.NotNow
 objection_in rereads made size side (Handed how) = objection_handed made size how
 objection_in rereads made size side happening = objection_to side happening
 
--- the objection to a happening after this trace, if this is the state of the system
+-- the objection to a happening after this trace, if `side` is the state of the system
 abbrev pub objection_now : Goal → List Event → SystemState → Event → Option Objection
 objection_now goal past side happening =
     objection_in (is_reread (first (due goal past))) (made_in past) (length (text_at goal past)) side happening
 
--- there is this objection to a happening after this trace, for a state of the system that follows the trace
+-- for some state of the system that follows this trace, this is the objection to the happening
 abbrev pub IsObjected : Goal → Event → List Event → Objection → Type 0
 IsObjected goal happening past why =
     (side : SystemState) × Follows side past × (objection_now goal past side happening ≡ Some why)
@@ -46,7 +46,7 @@ first_table (NewTable table ∷ []) = table
 first_table (_ ∷ past) = first_table past
 
 -- the happenings of a trace that came from its script, newest first: all that can come from a script, except the first
--- one of the trace
+-- happening of the trace
 abbrev pub heard : List Event → List Event
 heard [] = []
 heard (happening ∷ []) = []

@@ -21,11 +21,11 @@ pub record Scenario : Type 0 where
 abbrev pub scenario : Option Level → List ℕ → List ℕ → Scenario
 scenario level inittab script = record { level = level; inittab = inittab; script = script }
 
--- the table of the inittab
+-- the table read from the inittab
 abbrev pub table_in : Scenario → List Entry
 table_in s = table_of_text s.inittab
 
--- the opening goal
+-- the goal at the start of the run
 abbrev pub goal_in : Scenario → Goal
 goal_in s = opening_goal s.level (table_in s)
 
@@ -41,8 +41,9 @@ past_text past = trace_text (reverse past)
 abbrev pub heard_text : List Event → List ℕ
 heard_text past = past_text (heard past)
 
--- A run over the script up to the remaining text `rest`. It begins with the inittab's table; init takes the first due
--- step each time; it processes the lines of the script in order, each at a rest; each hand-over is possible.
+-- A run over the script up to the remaining text `rest`. The run begins with the inittab's table; each step of init is
+-- the first due step; init processes the lines of the script in order, each when it is at rest; each hand-over is
+-- possible.
 pub record RunOver (s : Scenario) (rest : List ℕ) (past : List Event) : Type 0 where
   pub runs : is_run (goal_in s) past ≡ true
   pub handed : are_handed (goal_in s) past ≡ true
@@ -59,7 +60,7 @@ pub record RunsToRest (s : Scenario) (rest : List ℕ) (past : List Event) : Typ
 abbrev pub Done : Scenario → Option (List ℕ) → Option (List ℕ) → Type 0
 Done s old new = (past : List Event) × RunsToRest s [] past × Appends old new (past_text past)
 
--- the run over the lines before line n, counted from 1, was written, and the text from line n on has the given property
+-- the run over the lines before line n, counted from 1, was written, and the property holds for the text from line n on
 abbrev pub SimulationEndsAt : Scenario → ℕ → (List ℕ → List Event → Type 0) → Option (List ℕ) → Option (List ℕ) → Type 0
 SimulationEndsAt s n such old new =
     (rest : List ℕ) × (past : List Event) × (n ≡ newlines (heard_text past) + 1)
@@ -85,8 +86,8 @@ abbrev pub IsTooLong : List ℕ → Type 0
 IsTooLong inittab = TEXT_LIMIT < length inittab
 
 -- How a run ends before the end of its script. If the inittab is too long, nothing was written. If a line is invalid or
--- not allowed, the run over the lines before it was written. If the writer or memory allocation failed, it was while a
--- run over a first part of the script was being written.
+-- not allowed, the run over the lines before it was written. If the writer or memory allocation failed, it failed while
+-- a run over a first part of the script was being written.
 abbrev pub Ends : Scenario → SimFault → Option (List ℕ) → Option (List ℕ) → Type 0
 Ends s fault.Table old new = IsTooLong s.inittab × Keeps old new
 Ends s (fault.Script n) old new = SimulationEndsAt s n IsUnread old new

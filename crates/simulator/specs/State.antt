@@ -7,7 +7,8 @@ use Rattle.simulator.specs.Words.{OrderKind, Answer}
 use Rattle.init_words.specs.Ids.{same_id}
 use Rattle.simulator.specs.declared.simulated.SimulatedChild.{SimulatedChild}
 
--- the orders not yet carried out and the answers not yet told, by id, and the unreaped children, by number
+-- for each id, the order not yet carried out and the answer that init has not received yet; and the unreaped children,
+-- by number
 pub record SystemState : Type 0 where
   pub orders : List (List ℕ × OrderKind)
   pub answers : List (List ℕ × Answer)
@@ -21,7 +22,7 @@ empty = record { orders = []; answers = []; children = [] }
 abbrev pub order_in : List ℕ → SystemState → Option OrderKind
 order_in id side = lookup (same_id id) side.orders
 
--- the answer under way to the id's order
+-- the answer to the id's order that init has not received yet
 abbrev pub answer_in : List ℕ → SystemState → Option Answer
 answer_in id side = lookup (same_id id) side.answers
 
@@ -65,7 +66,7 @@ without_child number n before = if number == n then None else before
 abbrev pub OrdersAfterChange : SystemState → SystemState → (List ℕ → Option OrderKind → Option OrderKind) → Type 0
 OrdersAfterChange old new after = (id : List ℕ) → order_in id new ≡ after id (order_in id old)
 
--- for each id, `after` maps the answer under way before a change to the answer under way after it
+-- for each id, `after` maps the answer not yet received before a change to the one not yet received after it
 abbrev pub AnswersAfterChange : SystemState → SystemState → (List ℕ → Option Answer → Option Answer) → Type 0
 AnswersAfterChange old new after = (id : List ℕ) → answer_in id new ≡ after id (answer_in id old)
 

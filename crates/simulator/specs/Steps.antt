@@ -35,7 +35,7 @@ order_after (Asked i ask) id before = with id i ask before
 order_after (Told i) id before = without id i before
 order_after happening id before = undone_by id (act_in happening) before
 
--- the answer under way to the id's order after the happening, given the answer before it
+-- the answer to the id's order that init has not received yet after the happening, given the one before it
 abbrev pub answer_after : Event → List ℕ → Option Answer → Option Answer
 answer_after (Told i) id before = without id i before
 answer_after happening id before = answered_by id (act_in happening) before

@@ -1,4 +1,4 @@
--- The state texts made in a run, and what a core must satisfy to make another one.
+-- The saved states of a run, and what a core must satisfy so that its state can be saved.
 use Rattle.std.specs.Prelude.{◌≡◌, ◌≢◌, ℕ, true, ◌+◌, ◌<◌, List, [], get_or, length, Option, Some, None}
 use Rattle.trace_events.specs.declared.happenings.Handed.{Handed as HandOver}
 use Rattle.simulator.specs.Words.{SavedState, state_of, IsFit, CoreState, has_short_seconds, IsTextOf}
@@ -8,11 +8,11 @@ use Rattle.simulator.specs.Handing.{handed_over_text, objection_handed}
 abbrev pub IsOfGeneration : List ℕ → ℕ → Type 0
 IsOfGeneration text generation = (state : SavedState) × IsTextOf text state × (state.fields.generation ≡ generation)
 
--- the first text represents a state of generation 1, and each later text a state of the next generation
+-- the first text represents a state of generation 1, and each later text represents a state of the next generation
 abbrev pub AreMade : List (List ℕ) → Type 0
 AreMade texts = (position : ℕ) → position < length texts → IsOfGeneration (get_or texts position []) (position + 1)
 
--- the run made these texts before its core reached this generation
+-- these are the states that the run saved before its core reached this generation
 pub record HasTexts (texts : List (List ℕ)) (generation : ℕ) : Type 0 where
   pub are : AreMade texts
   pub count : length texts ≡ generation

@@ -27,19 +27,20 @@ AppendsPrefixToChannel path block old new =
 abbrev pub IsWholeAt : List ℕ → KnownBytes → Type 0
 IsWholeAt path old = IfSome (old path) (λ bytes. length bytes % BLOCK ≡ 0)
 
--- the request block that the arguments ask for, and the channel that they or the folder in the environment name
+-- the arguments ask for this request block, and this is the path of the channel, which they or the folder in the
+-- environment name
 abbrev pub IsRequestFor : List ℕ → List (List ℕ) → List ℕ → List ℕ → Type 0
 IsRequestFor home words path block =
     (arguments : TelinitArguments) × (telinit_read_of home words ≡ Some arguments) × (path ≡ arguments.path)
     × (block_of arguments.request ≡ block)
 
--- the channel that the arguments name consisted of complete requests, and the request of the arguments was appended
+-- the channel that the arguments name consisted of complete requests, and the request that they make was appended to it
 abbrev pub AppendsRequest : List ℕ → List (List ℕ) → KnownBytes → KnownBytes → Type 0
 AppendsRequest home words old new =
     (path block : List ℕ) × IsRequestFor home words path block × IsWholeAt path old
     × AppendsToChannel path block old new
 
--- a prefix of the request, possibly empty, was appended
+-- a prefix of the request that the arguments make, possibly empty, was appended to the channel that they name
 abbrev pub AppendsRequestPrefix : List ℕ → List (List ℕ) → KnownBytes → KnownBytes → Type 0
 AppendsRequestPrefix home words old new = (path block : List ℕ) × IsRequestFor home words path block
     × AppendsPrefixToChannel path block old new

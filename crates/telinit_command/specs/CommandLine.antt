@@ -31,7 +31,7 @@ seconds_read word =
     let secs = digits_value 10 word in
     if is_numeral word && nat_le secs GRACE_LIMIT then Some secs else None
 
--- the power event that a word means
+-- the power event that a word names
 abbrev pub power_read : Text → Option PowerKind
 power_read word =
     if bytes_eq word (codes "fail") then Some power.Fail
@@ -90,13 +90,13 @@ words_of_rows home rows =
 abbrev pub words_read_of : Text → List Text → Option TelinitWords
 words_read_of home words = option_and_then (words_of_rows home) (given_by command_line words)
 
--- the request for CHAR, which must be one character of telinit(8), with the seconds; or the request for the power
--- event
+-- the request, with this number of seconds, that the character CHAR makes, which must be a character of telinit(8); or
+-- the request for the power event
 abbrev pub request_by : ℕ → Text → Option PowerKind → Option Request
 request_by secs sign None = option_map (λ code. request.Runlvl code secs) (option_and_then sign_read (only_byte sign))
 request_by secs sign (Some kind) = Some (request.Power kind)
 
--- the request of a command line
+-- the request that a command line makes; none if its CHAR is not valid
 abbrev pub request_of : TelinitWords → Option Request
 request_of words = request_by words.secs words.sign words.power
 
@@ -105,11 +105,12 @@ pub record TelinitArguments : Type 0 where
   pub path : Text
   pub request : Request
 
--- the channel and the request of a command line, if it has one
+-- the channel that a command line names and the request that it makes, if it makes one
 abbrev pub arguments_of : TelinitWords → Option TelinitArguments
 arguments_of words = option_map (λ asked. record { path = words.path; request = asked }) (request_of words)
 
--- the channel and the request of the arguments; none if the command line is rejected, or its CHAR is not valid
+-- the channel that the arguments name and the request that they make; none if the command line is rejected, or if its
+-- CHAR is not valid
 abbrev pub telinit_read_of : Text → List Text → Option TelinitArguments
 telinit_read_of home words = option_and_then arguments_of (words_read_of home words)
 

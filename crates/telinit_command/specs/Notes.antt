@@ -2,18 +2,18 @@
 use Rattle.std.specs.Prelude.{◌≡◌, ℕ, Bool, true, false, List, ◌++◌, codes}
 use Rattle.program_io.specs.Reports.{AppendsReport, ReportList}
 
--- an init reads the channel, or none does, or that is unknown for this reason
+-- an init reads the channel, or none does, or this is unknown for the given reason
 pub data Reading : Type 0 where
   read : Reading
   unread : Reading
   unknown : List ℕ → Reading
 
--- if the channel did not exist and was created, that is reported
+-- if the channel did not exist and was created, this is reported
 abbrev pub ReportsCreation : List ℕ → Bool → ReportList → ReportList → Type 0
 ReportsCreation path true old new = AppendsReport old new (codes "telinit: created " ++ (path ++ codes "\n"))
 ReportsCreation path false old new = new ≡ old
 
--- if no init reads the channel, or this is not known, that is reported
+-- if no init reads the channel, or it is unknown whether one does, this is reported
 abbrev pub ReportsReader : List ℕ → Reading → ReportList → ReportList → Type 0
 ReportsReader path read old new = new ≡ old
 ReportsReader path unread old new = AppendsReport old new

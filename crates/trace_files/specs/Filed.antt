@@ -1,4 +1,4 @@
--- The happenings that a log has written to files, given by the bytes of the files and the bytes that the log keeps.
+-- The happenings that a log has written to files, as shown by the bytes in the files and the bytes that the log keeps.
 use Rattle.std.specs.Prelude.{◌≡◌, ◌⊎◌, ℕ, Bool, true, false, IsTrue, List, [], ◌++◌, Option, Some, None}
 use Rattle.std.specs.List.{list_all}
 use Rattle.std.specs.Io.KnownBytes.{Appends, Keeps, append_known}
@@ -16,7 +16,7 @@ pub record Filed (S : Type 0) : Type 0 where
   pub refused : Bool
   pub failed : Bool
 
--- The files have the whole trace except its last happenings. Those belong to looks that found nothing, and the log
+-- The files have the whole trace except its last happenings. These belong to looks that found nothing, and the log
 -- keeps their text.
 pub record LacksLooks (trace : List Event) (bytes unwritten : List ℕ) : Type 0 where
   pub written : List Event
@@ -51,7 +51,7 @@ abbrev pub EndsText : Bool → List Event → List ℕ → Type 0
 EndsText true trace bytes = bytes ≡ trace_text trace
 EndsText false trace bytes = (rest : List ℕ) × (bytes ++ rest ≡ trace_text trace)
 
--- the bytes of the files are known, satisfy `EndsText`, and the numbers of the trace are in range
+-- the bytes of the files are known and satisfy `EndsText`, and the numbers in the trace are in range
 abbrev pub KnowsEnd : Bool → List Event → Option (List ℕ) → Type 0
 KnowsEnd whole trace None = ⊥
 KnowsEnd whole trace (Some bytes) = (are_in_range trace ≡ true) × EndsText whole trace bytes
@@ -60,8 +60,8 @@ KnowsEnd whole trace (Some bytes) = (are_in_range trace ≡ true) × EndsText wh
 abbrev pub all_bytes : {S : Type 0} → (S → Option (List ℕ)) → Filed S → Option (List ℕ)
 all_bytes contents log = append_known (contents log.files) log.unwritten
 
--- No byte of the log is lost, repeated or changed, but kept bytes may have been written to the files. Unless a write
--- failed, all of them have been.
+-- No byte of the log is lost, repeated or changed, but bytes that the log kept may have been written to the files.
+-- Unless a write failed, all of them have been.
 pub record Flushes {S : Type 0} (contents : S → Option (List ℕ)) (old new : Filed S) : Type 0 where
   pub all : Keeps (all_bytes contents old) (all_bytes contents new)
   pub empties : new.refused ≡ false → new.unwritten ≡ []
@@ -82,12 +82,12 @@ pub record HoldsLook {S : Type 0} (contents : S → Option (List ℕ)) (old new 
   pub unwritten : new.unwritten ≡ old.unwritten ++ event_text happening
   pub refused : new.refused ≡ old.refused
 
--- the log has written kept bytes to the files, or nothing has changed
+-- the log has written bytes that it kept to the files, or nothing has changed
 abbrev pub MayFlush : {S : Type 0} → (S → Option (List ℕ)) → Filed S → Filed S → Type 0
 MayFlush contents old new = Flushes contents old new ⊎ FilesUnchanged contents old new
 
--- The log has added the text of a happening at the end. Unless a write failed, the log keeps it if it belongs to a look
--- that found nothing, and otherwise has written all bytes to the files.
+-- The log has added the text of a happening at the end. Unless a write failed, the log keeps the text if the happening
+-- belongs to a look that found nothing, and otherwise has written all bytes to the files.
 pub record AddsHappening {S : Type 0} (contents : S → Option (List ℕ)) (old new : Filed S) (happening : Event) : Type 0
   where
     pub all : Appends (all_bytes contents old) (all_bytes contents new) (event_text happening)
