@@ -79,7 +79,7 @@ fn tell_odd_levels(path: &str, number: usize, levels: &[u8], odd: &mut Vec<u8>) 
 /// Returns why a word is not a runlevel of the system, or `None` if it is one.
 fn odd_level(word: &[u8]) -> Option<&'static str> {
     match word {
-        [b'7'..=b'9'] => Some("above the runlevels 0 to 6"),
+        [b'7'..=b'9'] => Some("above runlevel 6"),
         [code] if Level::read(*code).is_some() => None,
         _ => Some("not a runlevel"),
     }
