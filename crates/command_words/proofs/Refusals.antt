@@ -1,9 +1,10 @@
 -- What the exit status says about a fault.
 use Rattle.std.proofs.Common.{◌≡◌, ◌⊎◌, ℕ, List, inl, inr, refl}
-use Rattle.std.specs.Prelude.{IfSome, IsSome, string_bytes}
+use Rattle.std.specs.Prelude.{IfSome, IsSome, ◌++◌, string_bytes}
 use Rattle.program_io.specs.Reports.{AppendsReport, ReportList}
 use Rattle.program_io.specs.declared.statuses.TheConstants.{DEVICE_FAULT, REFUSED}
 use Rattle.command_words.specs.Faults.{ReportsUsage, reason_of, usage_report}
+use Rattle.command_words.specs.Rejections.{ReportsRejection}
 use Rattle.command_words.specs.declared.faults.WordFault.{WordFault}
 use Rattle.command_words.specs.declared.faults.WordFault.TheVariants.{Usage, Memory}
 
@@ -21,3 +22,11 @@ pub reported_by : {X : Type 0} (fault : WordFault) (result : ℕ) (name whole sh
     → (result ≡ DEVICE_FAULT) ⊎ (result ≡ REFUSED) × ReportsUsage name whole short old new
 reported_by (Usage reason) result name whole short old new usage memory = inr (usage.0, (string_bytes reason, usage.1))
 reported_by Memory result name whole short old new usage memory = inl (memory refl).0
+
+-- a fault is either reported as lack of memory or as a rejection
+pub rejected_by : {X : Type 0} (fault : WordFault) (result : ℕ) (manual : List ℕ) (old new : ReportList)
+    → IfSome (reason_of fault) (λ text. (result ≡ REFUSED) × AppendsReport old new (text ++ manual))
+    → (fault ≡ Memory → (result ≡ DEVICE_FAULT) × X)
+    → (result ≡ DEVICE_FAULT) ⊎ (result ≡ REFUSED) × ReportsRejection manual old new
+rejected_by (Usage text) result manual old new usage memory = inr (usage.0, (string_bytes text, usage.1))
+rejected_by Memory result manual old new usage memory = inl (memory refl).0

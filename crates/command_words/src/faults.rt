@@ -50,7 +50,7 @@ pub(crate) fn word_fault(alloc: Global, error: &Error) -> WordFault
 }
 
 /// Returns whether clap failed because memory allocation failed.
-fn is_no_memory(error: &Error) -> bool
+pub(crate) fn is_no_memory(error: &Error) -> bool
     ensures { IsTrue result ↔ (kind_of error.now ≡ ErrorKind.OutOfMemory) }
 {
     error.kind() == ErrorKind::OutOfMemory

@@ -2,9 +2,10 @@
 
 ghost use Rattle.std.specs.Prelude.{◌≡◌, ◌∷◌, [], false, map, option_map, string_bytes, true, unwrap_or, IfErr, IfOk, IfSome, IsSome, None, OnErr, Some};
 ghost use Rattle.clap.specs.Words.{FailsBy, all_of, fault_of, first_of, found_of, is_simple_and_free, matches_of, rows_of, rule_of};
-ghost use Rattle.command_words.specs.CommandLines.{AddsAll, IsLine, bare_line, given_by, is_set, letter_of, line_of, refusal_text, long_of, row_rule, standing, taking, text_of, texts_of, value_said};
+ghost use Rattle.command_words.specs.CommandLines.{AddsAll, IsLine, bare_line, given_by, is_set, line_of, refusal_text, row_rule, standing, taking, text_of, texts_of, value_said};
 ghost use Rattle.command_words.specs.Faults.{reason_of};
 
+use crate::arguments::{letter_of, long_of};
 use crate::faults::{WordFault, word_fault};
 use clap::{Arg, ArgAction, ArgMatches, Command, Error};
 use std::alloc::{AllocError, Global};
@@ -15,23 +16,6 @@ use std::alloc::{AllocError, Global};
 /// flag, and its third is the default value, empty if there is none. A positional argument has any other name; its
 /// second field is empty if it is required, `?` if it is optional, and `..` if there may be one or more.
 pub type Row = (&'static str, &'static str, &'static str);
-
-/// Returns the `NAME` of `--NAME`.
-fn long_of(name: &'static str) -> Option<&'static str>
-    ensures { option_map (λ long. long.now) result ≡ long_of name.now }
-{
-    name.strip_prefix("--")
-}
-
-/// Returns the character `C` of `-C`.
-fn letter_of(name: &str) -> Option<char>
-    ensures { result ≡ letter_of name.now }
-{
-    match name.as_bytes() {
-        [b'-', letter] => Some(*letter as char),
-        _ => None,
-    }
-}
 
 /// Makes an argument an option: a flag if `value` is empty, otherwise one with a value and, unless `default` is empty,
 /// a default.
