@@ -5,7 +5,7 @@
 use program_io::{Reports, StandardFiles, report_unread_words, words};
 use std::env;
 use std::process::ExitCode;
-use telinit_command::{OsChannels, SHORT_USAGE, run_words};
+use telinit_command::{MANUAL, OsChannels, run_words};
 
 fn main(rt: HostRuntime) -> ExitCode {
     let _standard = StandardFiles::hold(&rt);
@@ -23,7 +23,7 @@ fn main(rt: HostRuntime) -> ExitCode {
                 &mut err,
             )
         }
-        Err(error) => report_unread_words("telinit", SHORT_USAGE, &error, &mut err),
+        Err(error) => report_unread_words("telinit", MANUAL, &error, &mut err),
     };
     ExitCode::from(status)
 }

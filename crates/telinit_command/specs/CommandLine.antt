@@ -6,7 +6,8 @@ use Rattle.std.specs.Char.{is_ascii_digit}
 use Rattle.std.specs.Str.{bytes_eq}
 use Rattle.std.specs.Str.Parse.{digits_value}
 use Rattle.clap.specs.Words.{App, Row, Text, first_of}
-use Rattle.command_words.specs.CommandLines.{given_by, line_of, value_said, written}
+use Rattle.command_words.specs.Arguments.{arguments, described}
+use Rattle.command_words.specs.CommandLines.{given_by, value_said}
 use Rattle.init_words.specs.declared.limits.TheConstants.{GRACE_LIMIT}
 use Rattle.init_words.specs.declared.orders.PowerKind.{PowerKind}
 use Rattle.init_words.specs.declared.orders.PowerKind.TheVariants as power
@@ -19,7 +20,7 @@ use Rattle.telinit_command.specs.declared.command.TheConstants.{OPTIONS}
 use Rattle.telinit_command.specs.declared.command.Words.{Words}
 
 abbrev pub command_line : App
-command_line = line_of (codes "telinit") (written OPTIONS.now)
+command_line = described (codes "telinit") (arguments OPTIONS.now)
 
 -- a word of one or more decimal digits
 abbrev pub is_numeral : List ℕ → Bool

@@ -13,19 +13,60 @@ ghost use Rattle.telinit_command.specs.CommandLine.{path_option, power_read, req
 ghost use Rattle.telinit_command.specs.CommandLine.{telinit_read_of, words_of, words_read_of, words_of_rows};
 
 use clap::ArgMatches;
-use command_words::{Row, WordFault, checked, read_line, value_of, word_of};
+use command_words::{
+    Argument, Form, WordFault, invalid_value, read_arguments, rejected, valid, value_of, word_of,
+};
 use init_words::{GRACE_LIMIT, PowerKind};
 use initctl_frame::{BLOCK, Request, Sign, encode};
 use program_io::only_byte;
 use std::alloc::{AllocError, Global};
 
+/// The command lines, which help and the messages about rejected arguments show.
+const USAGE: &str = "telinit [OPTIONS] CHAR
+       telinit [OPTIONS] --power KIND
+       telinit --version";
+
 /// The options and the positional argument of the command line.
-const OPTIONS: &[Row] = &[
-    ("-t", "SEC", "5"),
-    ("-d", "DIR", ""),
-    ("--initctl", "P", ""),
-    ("--power", "KIND", ""),
-    ("CHAR", "?", ""),
+const OPTIONS: &[Argument] = &[
+    (
+        "-t",
+        Form::Valued,
+        "SEC",
+        "5",
+        "Seconds from SIGTERM to SIGKILL, 0 to 3600",
+    ),
+    (
+        "-d",
+        Form::Valued,
+        "DIR",
+        "",
+        "The folder of the channel, by default INITD_DIR",
+    ),
+    (
+        "--initctl",
+        Form::Valued,
+        "P",
+        "",
+        "The channel, by default initctl in that folder",
+    ),
+    (
+        "--power",
+        Form::Valued,
+        "KIND",
+        "",
+        "The power fails (fail), the battery is almost
+empty (failnow), or the power is back (ok)",
+    ),
+    (
+        "CHAR",
+        Form::Optional,
+        "",
+        "",
+        "0 to 9, S, s: go to that runlevel
+A, B, C, a, b, c: start the ondemand entries of that letter
+Q, q: read the inittab again
+U, u: re-execute init, keeping its state",
+    ),
 ];
 
 /// A parsed command line, with the defaults for options that are not given.
@@ -84,10 +125,12 @@ pub(crate) fn read_asked(alloc: Global, home: &str, words: Vec<String>) -> Resul
             path: words.path,
             block,
         }),
-        None => Err(WordFault::Usage(format!(in alloc;
-            "{}: not a runlevel, a letter, q or u",
-            words.sign
-        )?)),
+        None => Err(invalid_value(
+            alloc,
+            "CHAR",
+            words.sign.as_str(),
+            "not a runlevel, a letter, q or u",
+        )),
     }
 }
 
@@ -98,7 +141,7 @@ fn read_words_in(alloc: Global, home: &str, words: Vec<String>) -> Result<Words,
     ensures usage { IfErr result (λ fault. IsSome (reason_of fault)
         → words_read_of home.now (map string_bytes words.items) ≡ None) }
 {
-    let matches = read_line(alloc, "telinit", OPTIONS, words.as_slice())?;
+    let matches = read_arguments(alloc, "telinit", USAGE, OPTIONS, words.as_slice())?;
     read_matches(alloc, &matches, home)
 }
 
@@ -110,7 +153,7 @@ fn read_matches(alloc: Global, matches: &ArgMatches, home: &str) -> Result<Words
         → words_of_rows home.now (rows_of (found_of matches.now)) ≡ None) }
 {
     let word = value_of(matches, "-t");
-    let secs = checked(
+    let secs = valid(
         alloc,
         "-t",
         word,
@@ -161,18 +204,15 @@ fn read_sign_or_power(
         → sign_or_power (option_map (λ word. word.now) sign.entry)
         (option_map (λ word. word.now) power.entry) ≡ None) }
 {
-    let reason = match (sign, power) {
-        (Some(sign), None) => return Ok((String::from_str(alloc, sign)?, None)),
+    match (sign, power) {
+        (Some(sign), None) => Ok((String::from_str(alloc, sign)?, None)),
         (None, Some(word)) => match read_power(word) {
-            Some(kind) => return Ok((String::new(alloc), Some(kind))),
-            None => format!(in alloc; "--power {word}: not fail, failnow or ok")?,
+            Some(kind) => Ok((String::new(alloc), Some(kind))),
+            None => Err(invalid_value(alloc, "--power", word, "not fail, failnow or ok")),
         },
-        (Some(sign), Some(word)) => format!(in alloc;
-            "--power {word}: cannot be combined with {sign}"
-        )?,
-        (None, None) => String::from_str(alloc, "missing argument")?,
-    };
-    Err(WordFault::Usage(reason))
+        (Some(_), Some(_)) => Err(rejected(alloc, "'--power' cannot be used with 'CHAR'")),
+        (None, None) => Err(rejected(alloc, "neither 'CHAR' nor '--power' was given")),
+    }
 }
 
 /// Parses a sign, which is a single character (telinit(8)).

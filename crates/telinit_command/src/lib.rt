@@ -11,4 +11,4 @@ mod run;
 pub use channels::{Channels, FoundChannel};
 pub use command::{Words, frame_of, read_words};
 pub use os_channels::OsChannels;
-pub use run::{SHORT_USAGE, USAGE, run_words};
+pub use run::{MANUAL, run_words};

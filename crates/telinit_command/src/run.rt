@@ -2,7 +2,7 @@
 
 ghost use Rattle.std.specs.Prelude.{◌≡◌, ◌⊎◌, true, false, codes, map, string_bytes, IfSome, IsSome, IsNone};
 ghost use Rattle.command_words.specs.CommandLines.{asks_version};
-ghost use Rattle.command_words.specs.Faults.{ReportsUsage};
+ghost use Rattle.command_words.specs.Rejections.{ReportsRejection};
 ghost use Rattle.command_words.specs.VersionLine.{PrintsVersion};
 ghost use Rattle.program_io.specs.Reports.{LastReportNonempty};
 ghost use Rattle.telinit_command.specs.Channels.{AreSame, AppendsRequest, AppendsRequestPrefix};
@@ -12,32 +12,14 @@ ghost use Rattle.telinit_command.specs.Notes.{ReportsChannel};
 use crate::channel::{ChannelFault, append_block};
 use crate::channels::Channels;
 use crate::command::read_asked;
-use command_words::{is_version, print_version, report_word_fault};
+use command_words::{is_version, print_version, report_rejected};
 use itoa::Buffer;
 use program_io::{DEVICE_FAULT, DONE, REFUSED, Reporter, report_failure};
 use std::alloc::Global;
 use std::io::Write;
 
-/// The usage, printed to standard error when help is requested.
-pub const USAGE: &str = "usage: telinit [-t SEC] [-d DIR] [--initctl P] CHAR
-       telinit [-d DIR] [--initctl P] --power fail|failnow|ok
-       telinit --version
-  -t SEC       seconds between the two signals that stop a child, 0 to 3600;
-               default: 5
-  -d DIR       the folder of the channel; default: that of INITD_DIR, or the
-               current folder
-  --initctl P  the file to append the request to; default: initctl in that
-               folder
-  --power KIND the power is failing, the battery is almost empty, or the power
-               is back
-  CHAR         0 to 9, S or s: go to that runlevel
-               A, B, C, a, b or c: start the ondemand entries of that letter
-               Q or q: read inittab again
-               U or u: re-execute init, keeping its state
-";
-
-/// The usage for rejected arguments, which follows a line with the reason.
-pub const SHORT_USAGE: &str = "usage: telinit [OPTION].. CHAR | --power fail|failnow|ok | --help\n";
+/// The line that names the manual page. It follows the help, and each message about rejected arguments.
+pub const MANUAL: &str = "See the manual page telinit(8).\n";
 
 /// Runs telinit on a command line, without the program's name, and returns its exit status.
 ///
@@ -77,8 +59,7 @@ pub fn run_words<C: Channels, W: Write, E: Reporter>(
         ⊎ IfSome (telinit_read_of home.now (map string_bytes words.items))
         (λ arguments. ReportsChannel arguments.path (E.reports err.old) (E.reports err.new)) }
     ensures report { result ≡ REFUSED
-        → ReportsUsage (codes "telinit") USAGE.now SHORT_USAGE.now
-        (E.reports err.old) (E.reports err.new) }
+        → ReportsRejection MANUAL.now (E.reports err.old) (E.reports err.new) }
     ensures spoken { result ≡ DEVICE_FAULT → LastReportNonempty (E.reports err.new) }
 {
     if is_version(words.as_slice()) {
@@ -92,7 +73,7 @@ pub fn run_words<C: Channels, W: Write, E: Reporter>(
                 Err(fault) => report_channel(path, &fault, err),
             }
         }
-        Err(fault) => report_word_fault("telinit", &fault, USAGE, SHORT_USAGE, err),
+        Err(fault) => report_rejected("telinit", &fault, MANUAL, err),
     }
 }
 

@@ -9,7 +9,7 @@ use std::env::{Env, FillError};
 use std::io;
 use std::io::{ErrorKind, Read, Write};
 use std::process::Abort;
-use telinit_command::SHORT_USAGE;
+use telinit_command::MANUAL;
 use test_support::Slow;
 
 /// The room of a writer, whether it fails when full, the result of writing `request`, and the bytes written.
@@ -190,18 +190,12 @@ fn only_bytes(rt: HostRuntime) {
 const UNREAD: &[(&str, &str, ErrorKind, u8, &str)] = &[
     (
         "telinit",
-        SHORT_USAGE,
+        MANUAL,
         ErrorKind::OutOfMemory,
         4,
         "telinit: out of memory: nothing was written; free some memory and try again\n",
     ),
-    (
-        "telinit",
-        SHORT_USAGE,
-        ErrorKind::InvalidData,
-        1,
-        SHORT_USAGE,
-    ),
+    ("telinit", MANUAL, ErrorKind::InvalidData, 1, MANUAL),
     (
         "initd",
         "usage\n",
