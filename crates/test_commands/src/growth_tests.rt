@@ -1,10 +1,10 @@
 //! Makes allocations fail one after another, on heaps of increasing size: each failed call reports lack of memory, and
 //! has written a prefix of the lines. With enough room, each call returns the right result.
 
-use crate::hosts::given_host;
-use crate::order_tests::rc_over;
-use crate::run_tests::PLAIN;
-use crate::texts::{END, NET, NINE, SHOWN_NINE, header_of, joined, scripts_of, shown};
+use crate::rclinks_lines::NET;
+use crate::script_order::rc_over;
+use crate::script_runs::PLAIN;
+use crate::texts::{END, NINE, SHOWN_NINE, header_of, joined, scripts_of, shown};
 use init_words::{Level, Memory};
 use linked_list_allocator::LocalHeap;
 use lsb_header::HeaderFault;
@@ -14,7 +14,7 @@ use rc_links::{Folder, FolderEntry, LinkChange, Plan, PlanFault, Script};
 use std::alloc::{Allocator, Global};
 use std::io::ErrorKind;
 use test_support::Outcome::{self, Done, Refused, Unmade};
-use test_support::{boxed, line_words, refusals};
+use test_support::{boxed, host_of, line_words, refusals};
 
 fn read_header(global: Global, heap: &LocalHeap) -> Option<Outcome> {
     let text = joined(global, &[NINE, END]).ok()?;
@@ -133,6 +133,9 @@ const WAY: ScriptOptions = ScriptOptions {
     ..PLAIN
 };
 
+const STARTED: &str =
+    "start birth 7 / start birth 7 / start birth 7 / look exit 0 / look exit 0 / look exit 0";
+
 const LINES: &[u8] = b"K05c stop exit 0\nS10a start exit 0\nS20b start exit 0\n";
 
 /// Reports whether a heap has room to run scripts that all exit with status 0. If not, a prefix of the lines was
@@ -140,7 +143,7 @@ const LINES: &[u8] = b"K05c stop exit 0\nS10a start exit 0\nS20b start exit 0\n"
 fn is_run(global: Global, heap: &LocalHeap) -> Option<bool> {
     let new = line_words(global, "S10a S20b K05c").ok()?;
     let mut rc = rc_over(global, global, "", &[], &new).ok()?;
-    let mut host = given_host(global, "bbb/eee//")?;
+    let mut host = host_of(global, global, STARTED)?;
     let (mut out, mut err) = (Vec::<u8>::new(global), Reports::to(Vec::<u8>::new(global)));
     let end = run_links(
         heap,

@@ -1,10 +1,11 @@
 //! Texts of scripts, and the headers and scripts in them.
 
+use crate::rclinks_lines::NET;
 use init_words::Memory;
 use lsb_header::{Header, HeaderFault};
 use rc_links::Script;
 use std::alloc::{Allocator, Global};
-use test_support::{boxed, difference};
+use test_support::boxed;
 
 /// A header with different words for each keyword, without its last line.
 pub(crate) const NINE: &[u8] = b"### BEGIN INIT INFO
@@ -79,9 +80,6 @@ const WEB: &[u8] =
     b"### BEGIN INIT INFO\n# Provides: web www\n# Required-Start: net\n# Required-Stop: net\n\
     # Should-Start: absent\n# Default-Start: 3\n# Default-Stop: 0\n### END INIT INFO\n";
 
-pub(crate) const NET: &[u8] =
-    b"### BEGIN INIT INFO\n# Provides: net\n# Required-Start: \n# Default-Start: 3\n### END INIT INFO\n";
-
 /// Returns the script with a name and a header, or `None` if there is no room for it.
 fn script<A: Allocator + Copy>(alloc: A, name: &str, header: &[u8]) -> Option<Script<A>> {
     let header = lsb_header::read(alloc, header).ok()?;
@@ -95,18 +93,4 @@ pub(crate) fn scripts_of<A: Allocator + Copy>(alloc: A) -> Option<Vec<Script<A>,
     scripts.push(script(alloc, "web", WEB)?).ok()?;
     scripts.push(script(alloc, "net", NET)?).ok()?;
     Some(scripts)
-}
-
-/// Returns `told`, or otherwise the difference between a text and the expected one; empty if there is none.
-pub(crate) fn or_difference<'x>(
-    alloc: Global,
-    told: String,
-    what: &'x str,
-    got: &'x [u8],
-    want: &'x [u8],
-) -> Option<String> {
-    if !told.is_empty() {
-        return Some(told);
-    }
-    difference(alloc, &[(what, got, want)]).ok()
 }
