@@ -3,7 +3,7 @@
 #![tactic(auto)]
 
 use program_io::{Reports, StandardFiles, report_unread_words, words};
-use rclinks_command::{SHORT_USAGE, SystemFolders, run_words};
+use rclinks_command::{MANUAL, SystemFolders, run_words};
 use std::alloc::Global;
 use std::fs::{read_dir, read_link};
 use std::io;
@@ -46,7 +46,7 @@ fn main(rt: HostRuntime) -> ExitCode {
                 &mut err,
             )
         }
-        Err(error) => report_unread_words("rclinks", SHORT_USAGE, &error, &mut err),
+        Err(error) => report_unread_words("rclinks", MANUAL, &error, &mut err),
     };
     ExitCode::from(status)
 }

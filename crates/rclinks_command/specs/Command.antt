@@ -15,7 +15,8 @@ use Rattle.rc_links.specs.ScriptText.{ScriptText}
 use Rattle.rc_links.specs.declared.faults.PlanFault.{PlanFault}
 use Rattle.rc_links.specs.declared.faults.PlanFault.TheVariants as plan_fault
 use Rattle.clap.specs.Words.{App, Row, all_of, first_of}
-use Rattle.command_words.specs.CommandLines.{given_by, is_set, line_of, written}
+use Rattle.command_words.specs.Arguments.{arguments, described}
+use Rattle.command_words.specs.CommandLines.{given_by, is_set}
 use Rattle.rclinks_command.specs.Facilities.{files_with}
 use Rattle.rclinks_command.specs.Files.{AreScripts, IsNoScriptAt, file_status}
 use Rattle.rclinks_command.specs.Folders.{KnownFolders, KnownScripts}
@@ -64,7 +65,7 @@ abbrev pub keeps_going : Line → Bool
 keeps_going line = line.skips || line.all
 
 abbrev pub command_line : App
-command_line = line_of (codes "rclinks") (written OPTIONS.now)
+command_line = described (codes "rclinks") (arguments OPTIONS.now)
 
 -- the command line that the rows of the table describe
 abbrev pub asked_by : List Row → Line

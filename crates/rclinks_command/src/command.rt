@@ -3,7 +3,7 @@
 ghost use Rattle.std.specs.Prelude.{◌≡◌, ◌⊎◌, true, false, codes, map, string_bytes, IfOk, None};
 ghost use Rattle.clap.specs.Words.{found_of, rows_of};
 ghost use Rattle.command_words.specs.CommandLines.{asks_version};
-ghost use Rattle.command_words.specs.Faults.{ReportsUsage};
+ghost use Rattle.command_words.specs.Rejections.{ReportsRejection};
 ghost use Rattle.command_words.specs.VersionLine.{PrintsVersion};
 ghost use Rattle.program_io.specs.Reports.{LastReportNonempty};
 ghost use Rattle.rclinks_command.specs.LineOptions.{line_options};
@@ -15,47 +15,86 @@ use crate::folders::LinkFolders;
 use crate::line::Line;
 use clap::ArgMatches;
 use command_words::{
-    Row, is_set, is_version, print_version, read_line, report_word_fault, word_of, words_of,
+    Argument, Form, is_set, is_version, print_version, read_arguments, report_rejected, word_of,
+    words_of,
 };
 use init_words::Memory;
 use program_io::{DEVICE_FAULT, DONE, REFUSED, Reporter, Texts, report_no_memory};
 use std::alloc::Global;
 use std::io::Write;
 
-/// The usage, printed when help is requested.
-pub const USAGE: &str = "usage: rclinks [--all] [--skip] [--all-last] [--write DIR [-n] [--keep]
-               [--prune] [--no-facilities]] FILE..
-       rclinks --version
-  --all        report all faults, not only the first
-  --skip       skip the scripts that cannot be read or planned, and plan the
-               others
-  --all-last   start what needs $all after everything else, and stop what names
-               it first
-  --write DIR  create the links in DIR, in rc0.d to rc9.d and rcS.d, and remove
-               the scripts' other numbered links; the installed facility files
-               are read before the scripts
-  -n           print what --write would do, and change nothing
-  --keep       leave a script that has links in DIR in its runlevels, and only
-               renumber it
-  --prune      remove numbered links to ../init.d/NAME if DIR/init.d has no NAME
-  --no-facilities
-               read no facility file that is not among the files
-";
+/// The line that names the manual page. It follows the help, and each message about rejected arguments.
+pub const MANUAL: &str = "See the manual page rclinks(8).\n";
 
-/// The usage for rejected arguments, which follows a line with the reason.
-pub const SHORT_USAGE: &str = "usage: rclinks [OPTION].. FILE.. | --help\n";
+/// The command lines, which help and the messages about rejected arguments show.
+const USAGE: &str = "rclinks [OPTIONS] FILE...
+       rclinks --version";
 
 /// The options and the positional arguments of the command line.
-const OPTIONS: &[Row] = &[
-    ("--all", "", ""),
-    ("--skip", "", ""),
-    ("--all-last", "", ""),
-    ("--write", "DIR", ""),
-    ("-n", "", ""),
-    ("--keep", "", ""),
-    ("--prune", "", ""),
-    ("--no-facilities", "", ""),
-    ("FILE", "..", ""),
+const OPTIONS: &[Argument] = &[
+    (
+        "--all",
+        Form::Flag,
+        "",
+        "",
+        "Report all faults, not only the first",
+    ),
+    (
+        "--skip",
+        Form::Flag,
+        "",
+        "",
+        "Skip the scripts that cannot be read or planned,
+and plan the others",
+    ),
+    (
+        "--all-last",
+        Form::Flag,
+        "",
+        "",
+        "Start what needs $all after everything else, and
+stop what names it first",
+    ),
+    (
+        "--write",
+        Form::Valued,
+        "DIR",
+        "",
+        "Create the links in DIR, in rc0.d to rc9.d and rcS.d,
+and remove the scripts' other numbered links; the
+installed facility files are read before the scripts",
+    ),
+    (
+        "-n",
+        Form::Flag,
+        "",
+        "",
+        "Print what --write would do, and change nothing",
+    ),
+    (
+        "--keep",
+        Form::Flag,
+        "",
+        "",
+        "Leave a script that has links in DIR in its runlevels,
+and only renumber it",
+    ),
+    (
+        "--prune",
+        Form::Flag,
+        "",
+        "",
+        "Remove numbered links to ../init.d/NAME if DIR/init.d
+has no NAME",
+    ),
+    (
+        "--no-facilities",
+        Form::Flag,
+        "",
+        "",
+        "Read no facility file that is not among the files",
+    ),
+    ("FILE", Form::Repeated, "", "", "The init scripts"),
 ];
 
 /// Returns the parsed command line for these files.
@@ -126,8 +165,8 @@ pub fn run_words<'w, T: Texts, F: LinkFolders, W: Write, E: Reporter>(
     ensures statuses { (result ≡ DONE) ⊎ (result ≡ REFUSED) ⊎ (result ≡ DEVICE_FAULT) }
     ensures usage { asks_version (map string_bytes words.now) ≡ false
         → rclinks_read_of (map string_bytes words.now) ≡ None
-        → (result ≡ DEVICE_FAULT) ⊎ (result ≡ REFUSED) × ReportsUsage (codes "rclinks") USAGE.now
-        SHORT_USAGE.now (E.reports err.old) (E.reports err.new) }
+        → (result ≡ DEVICE_FAULT) ⊎ (result ≡ REFUSED)
+        × ReportsRejection MANUAL.now (E.reports err.old) (E.reports err.new) }
     ensures version { asks_version (map string_bytes words.now) ≡ true
         → PrintsVersion (codes "rclinks") result (W.contents out.old) (W.contents out.new) }
     // The links for all files, except omitted ones, were printed or created, or the changes were printed.
@@ -166,9 +205,9 @@ pub fn run_words<'w, T: Texts, F: LinkFolders, W: Write, E: Reporter>(
     if is_version(words) {
         return print_version("rclinks", out, err);
     }
-    let matches = match read_line(alloc, "rclinks", OPTIONS, words) {
+    let matches = match read_arguments(alloc, "rclinks", USAGE, OPTIONS, words) {
         Ok(matches) => matches,
-        Err(fault) => return report_word_fault("rclinks", &fault, USAGE, SHORT_USAGE, err),
+        Err(fault) => return report_rejected("rclinks", &fault, MANUAL, err),
     };
     let Ok(files) = files_of(alloc, facilities, &matches) else {
         return report_no_memory("rclinks", err);

@@ -17,6 +17,6 @@ mod skipping;
 mod telling;
 mod writing;
 
-pub use command::{SHORT_USAGE, USAGE, run_words};
+pub use command::{MANUAL, run_words};
 pub use files::{FileFault, script_in};
 pub use folders::{LinkCalls, LinkFolders, SystemFolders};

@@ -1,27 +1,27 @@
-use Rattle.rclinks_command.proofs.Words.{◌∙◌, codes, inl, inr, ap, map, string_bytes, option_map, subst, found_of}
+use Rattle.rclinks_command.proofs.Words.{◌∙◌, inl, inr, ap, map, string_bytes, option_map, subst, found_of}
 use Rattle.rclinks_command.proofs.Words.{rows_of, asked_by, keeps_going}
-use Rattle.command_words.proofs.Refusals.{refused_by, reported_by}
+use Rattle.command_words.proofs.Refusals.{refused_by, rejected_by}
 use Rattle.rclinks_command.proofs.AnswerLemmas.{does, does_part, refused, same_line, told}
 use Rattle.rclinks_command.proofs.FreeLine.{is_free_line}
 use Rattle.rclinks_command.specs.Command.{Does, DoesPart, IsRefusedBy, TellsRefused}
 use Rattle.rclinks_command.specs.LineOptions.{line_options}
-use Rattle.rclinks_command.specs.declared.command.TheConstants.{SHORT_USAGE, USAGE}
+use Rattle.rclinks_command.specs.declared.command.TheConstants.{MANUAL}
 use Rattle.rclinks_command.proofs.command.run_words.Goals as goal
 
 pub returns-in-Err-clause-refused : goal.returns-in-Err-clause-refused
 returns-in-Err-clause-refused g c = λ is.
-    inl (ap (option_map asked_by) (refused_by c.in-Err.fault c.report_word_fault.result
-    (c.in-Err.ensures.usage is_free_line) c.report_word_fault.ensures.memory is))
+    inl (ap (option_map asked_by) (refused_by c.in-Err.fault c.report_rejected.result
+    (c.in-Err.ensures.usage is_free_line) c.report_rejected.ensures.memory is))
 
 pub returns-in-Err-clause-usage : goal.returns-in-Err-clause-usage
 returns-in-Err-clause-usage g c = λ _ _.
-    reported_by c.in-Err.fault c.report_word_fault.result
-    (codes "rclinks") USAGE.now SHORT_USAGE.now _ _ c.report_word_fault.ensures.usage c.report_word_fault.ensures.memory
+    rejected_by c.in-Err.fault c.report_rejected.result MANUAL.now _ _ c.report_rejected.ensures.usage
+    c.report_rejected.ensures.memory
 
 pub returns-in-Err-clause-told : goal.returns-in-Err-clause-told
 returns-in-Err-clause-told g c = λ _ is.
-    inl (ap (option_map asked_by) (refused_by c.in-Err.fault c.report_word_fault.result
-    (c.in-Err.ensures.usage is_free_line) c.report_word_fault.ensures.memory is))
+    inl (ap (option_map asked_by) (refused_by c.in-Err.fault c.report_rejected.result
+    (c.in-Err.ensures.usage is_free_line) c.report_rejected.ensures.memory is))
 
 pub returns-clause-done : goal.returns-clause-done
 returns-clause-done g c = λ _ done.
