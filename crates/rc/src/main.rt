@@ -3,7 +3,7 @@
 #![tactic(auto)]
 
 use program_io::{Reports, StandardFiles, report_no_memory, report_unread_words, words};
-use rc_command::{SHORT_USAGE, os_host, refuse_unwaited, run_on_system};
+use rc_command::{MANUAL, os_host, refuse_unwaited, run_on_system};
 use std::process::ExitCode;
 
 fn main(rt: HostRuntime) -> ExitCode {
@@ -26,7 +26,7 @@ fn main(rt: HostRuntime) -> ExitCode {
                 &mut err,
             ),
         },
-        Err(error) => report_unread_words("rc", SHORT_USAGE, &error, &mut err),
+        Err(error) => report_unread_words("rc", MANUAL, &error, &mut err),
     };
     drop(host);
     ExitCode::from(status)

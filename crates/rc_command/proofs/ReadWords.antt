@@ -3,11 +3,12 @@ use Rattle.rc_command.proofs.CommonWords.{◌≡◌, ◌∙◌, ap, refl, sym, t
 use Rattle.rc_command.proofs.CommonWords.{option_and_then, Row, is_simple_and_free, command_line, options_with}
 use Rattle.rc_command.proofs.CommonWords.{arguments_in, rc_arguments, seconds_option, RunOptions}
 use Rattle.clap.proofs.OnLiterals.{clap_on_literals}
-use Rattle.command_words.specs.CommandLines.{bare_line, is_set, line_of}
+use Rattle.command_words.specs.Arguments.{described}
+use Rattle.command_words.specs.CommandLines.{bare_line, is_set}
 
 -- the command line uses only the features of clap that are specified
 pub is_free_line : is_simple_and_free command_line ≡ true
-unfolding bare_line line_of clap_on_literals
+unfolding bare_line described clap_on_literals
 is_free_line = refl
 
 -- the command line with this time limit

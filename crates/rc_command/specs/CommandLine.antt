@@ -5,7 +5,8 @@ use Rattle.std.specs.Prelude.{option_map, ◌==◌, ◌||◌, string_bytes}
 use Rattle.std.specs.List.{list_all}
 use Rattle.std.specs.Str.{byte, bytes_eq}
 use Rattle.clap.specs.Words.{App, Row, Text, first_of}
-use Rattle.command_words.specs.CommandLines.{given_by, is_set, line_of, value_said, written}
+use Rattle.command_words.specs.Arguments.{arguments, described}
+use Rattle.command_words.specs.CommandLines.{given_by, is_set, value_said}
 use Rattle.init_words.specs.declared.levels.Level.{Level}
 use Rattle.init_words.specs.Levels.{level_read}
 use Rattle.program_io.specs.Arguments.{only_byte}
@@ -17,7 +18,7 @@ use Rattle.rc_command.specs.declared.command.Words.{Words}
 use Rattle.rc_links.specs.Names.{is_name_byte}
 
 abbrev pub command_line : App
-command_line = line_of (codes "rc") (written OPTIONS.now)
+command_line = described (codes "rc") (arguments OPTIONS.now)
 
 -- a run: the folder that contains the folders of the runlevels, the previous level if there was one, the new level,
 -- and the options

@@ -7,7 +7,10 @@ ghost use Rattle.rc_command.specs.CommandLine.{entering, is_dir, level_of, level
 ghost use Rattle.rc_command.specs.CommandLine.{rc_read_of, arguments_in, rc_arguments, arguments_of, seconds_read, seconds_option};
 
 use clap::ArgMatches;
-use command_words::{Row, WordFault, is_set, read_line, read_path, refused, value_of, word_of};
+use command_words::{
+    Argument, Form, WordFault, invalid_value, is_set, read_arguments, read_path, rejected,
+    value_of, word_of,
+};
 use init_words::Level;
 use program_io::only_byte;
 use rc_driver::{LevelChange, ScriptOptions};
@@ -18,18 +21,81 @@ use text_lines::read_below;
 /// The maximum number of seconds for `--timeout`.
 const SECONDS_LIMIT: u64 = 86_400;
 
+/// The command lines, which help and the messages about rejected arguments show.
+const USAGE: &str = "rc [OPTIONS] DIR PREV NEW
+       rc [OPTIONS] --level-file F DIR NEW
+       rc --version";
+
 /// The options and the positional arguments of the command line.
-const OPTIONS: &[Row] = &[
-    ("-n", "", ""),
-    ("-v", "", ""),
-    ("--strict", "", ""),
-    ("--direct", "", ""),
-    ("--as-sysv", "", ""),
-    ("--timeout", "SEC", ""),
-    ("--level-file", "F", ""),
-    ("DIR", "", ""),
-    ("PREV", "", ""),
-    ("NEW", "?", ""),
+const OPTIONS: &[Argument] = &[
+    (
+        "-n",
+        Form::Flag,
+        "",
+        "",
+        "Print what would be run, and run nothing",
+    ),
+    ("-v", Form::Flag, "", "", "Report each start"),
+    (
+        "--strict",
+        Form::Flag,
+        "",
+        "",
+        "Exit with status 2 if a script fails",
+    ),
+    (
+        "--direct",
+        Form::Flag,
+        "",
+        "",
+        "Execute each script by its own first line, not with sh",
+    ),
+    (
+        "--as-sysv",
+        Form::Flag,
+        "",
+        "",
+        "Run what sysv-rc runs, and in the same way;
+implies --direct",
+    ),
+    (
+        "--timeout",
+        Form::Valued,
+        "SEC",
+        "",
+        "Send TERM to a script that runs longer than SEC
+seconds, 1 to 86400, and KILL 5 seconds later",
+    ),
+    (
+        "--level-file",
+        Form::Valued,
+        "F",
+        "",
+        "Read PREV from the file F, or use N if there is none;
+after the run F holds NEW",
+    ),
+    (
+        "DIR",
+        Form::Required,
+        "",
+        "",
+        "The folder that holds those of the runlevels, such as
+rc3.d; it may contain only A-Z a-z 0-9 . _ - /",
+    ),
+    (
+        "PREV",
+        Form::Required,
+        "",
+        "",
+        "The previous runlevel, 0 to 9 or S, or N if there was none",
+    ),
+    (
+        "NEW",
+        Form::Optional,
+        "",
+        "",
+        "The runlevel to enter, 0 to 9 or S",
+    ),
 ];
 
 /// A parsed command line.
@@ -68,7 +134,7 @@ pub fn read_words(alloc: Global, words: &[String]) -> Result<Words, WordFault>
     ensures usage { IfErr result (λ fault. IsSome (reason_of fault)
         → rc_read_of (map string_bytes words.now) ≡ None) }
 {
-    match read_line(alloc, "rc", OPTIONS, words) {
+    match read_arguments(alloc, "rc", USAGE, OPTIONS, words) {
         Ok(matches) => read_matches(alloc, &matches),
         Err(fault) => Err(fault),
     }
@@ -100,11 +166,12 @@ fn read_levels(alloc: Global, matches: &ArgMatches) -> Result<LevelChange, WordF
     let first = value_of(matches, "PREV");
     match (word_of(matches, "--level-file"), word_of(matches, "NEW")) {
         (None, Some(second)) => read_both(alloc, first, second),
-        (None, None) => Err(WordFault::Usage(String::from_str(alloc, "missing argument")?)),
+        (None, None) => Err(rejected(
+            alloc,
+            "the following required arguments were not provided:\n  <NEW>",
+        )),
         (Some(_), None) => read_new(alloc, first),
-        (Some(_), Some(second)) => Err(WordFault::Usage(format!(in alloc;
-            "{second}: unexpected argument; omit PREV with --level-file"
-        )?)),
+        (Some(_), Some(_)) => Err(rejected(alloc, "'PREV' cannot be used with '--level-file'")),
     }
 }
 
@@ -115,8 +182,7 @@ fn read_both(alloc: Global, before: &str, after: &str) -> Result<LevelChange, Wo
         → levels_of before.now after.now ≡ None) }
 {
     let Some(previous) = previous_of(before) else {
-        let reason = format!(in alloc; "{before}: PREV must be a runlevel, 0 to 9 or S, or N")?;
-        return Err(WordFault::Usage(reason));
+        return Err(invalid_value(alloc, "PREV", before, "not a runlevel, 0 to 9 or S, or N"));
     };
     let levels = read_new(alloc, after)?;
     Ok(LevelChange {
@@ -131,8 +197,7 @@ fn read_new(alloc: Global, after: &str) -> Result<LevelChange, WordFault>
     ensures usage { IfErr result (λ fault. IsSome (reason_of fault) → new_of after.now ≡ None) }
 {
     let Some(new) = level_of(after) else {
-        let reason = format!(in alloc; "{after}: NEW must be a runlevel, 0 to 9 or S")?;
-        return Err(WordFault::Usage(reason));
+        return Err(invalid_value(alloc, "NEW", after, "not a runlevel, 0 to 9 or S"));
     };
     Ok(LevelChange { before: None, new })
 }
@@ -165,7 +230,7 @@ fn read_seconds_option(alloc: Global, matches: &ArgMatches) -> Result<Option<u32
     };
     match read_seconds(word) {
         Some(seconds) => Ok(Some(seconds)),
-        None => Err(refused(alloc, "--timeout", word, "not between 1 and 86400 seconds")),
+        None => Err(invalid_value(alloc, "--timeout", word, "not between 1 and 86400 seconds")),
     }
 }
 
@@ -196,8 +261,7 @@ fn words_of(
 {
     let dir = value_of(matches, "DIR");
     if !is_dir(dir) {
-        let reason = format!(in alloc; "{dir}: DIR may contain only A-Z a-z 0-9 . _ - /")?;
-        return Err(WordFault::Usage(reason));
+        return Err(invalid_value(alloc, "DIR", dir, "it may contain only A-Z a-z 0-9 . _ - /"));
     }
     let levels = read_levels(alloc, matches)?;
     Ok(Words {

@@ -17,4 +17,4 @@ pub use hosts::{RcHost, os_host};
 pub use inherited::refuse_unwaited;
 pub use level_files::LevelFiles;
 pub use on_system::run_on_system;
-pub use running::{PAUSES_LIMIT, SCRIPT_FAILED, SHORT_USAGE, USAGE, run_names, run_words};
+pub use running::{MANUAL, PAUSES_LIMIT, SCRIPT_FAILED, run_names, run_words};

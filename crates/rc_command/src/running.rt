@@ -4,7 +4,7 @@ ghost use Rattle.std.specs.Prelude.{◌≡◌, ◌≢◌, ◌++◌, ◌⊎◌, �
 ghost use Rattle.host_calls.specs.Calls.{HostCall};
 ghost use Rattle.host_calls.specs.Record.{NewCallsSatisfy};
 ghost use Rattle.command_words.specs.CommandLines.{asks_version};
-ghost use Rattle.command_words.specs.Faults.{ReportsUsage};
+ghost use Rattle.command_words.specs.Rejections.{ReportsRejection};
 ghost use Rattle.program_io.specs.Reports.{AppendsReport, LastReportNonempty};
 ghost use Rattle.program_io.specs.Writing.{AppendsPrefix};
 ghost use Rattle.command_words.specs.VersionLine.{PrintsVersion};
@@ -18,7 +18,7 @@ ghost use Rattle.rc_command.specs.Endings.{IsSilent, RunsNames, RunsArguments, R
 use crate::command::{RunOptions, Words, entering, read_words};
 use crate::folders::{Folders, folder_of, previous_names};
 use crate::level_files::{LevelFiles, level_in};
-use command_words::{is_version, print_version, report_word_fault};
+use command_words::{is_version, print_version, report_rejected};
 use host_calls::Host;
 use init_words::{Level, Memory};
 use program_io::{
@@ -36,29 +36,8 @@ pub const PAUSES_LIMIT: u32 = 100_000;
 /// Exit status: all scripts were carried out, and one of them failed.
 pub const SCRIPT_FAILED: u8 = 2;
 
-/// The usage, printed when help is requested.
-pub const USAGE: &str = "usage: rc [-n] [-v] [--strict] [--direct] [--as-sysv] [--timeout SEC]
-          DIR PREV NEW
-       rc [OPTION..] --level-file F DIR NEW
-       rc --version
-  -n              print what would be run, and run nothing
-  -v              report each start
-  --strict        exit with status 2 if a script fails
-  --direct        execute each script by its own first line, not with sh
-  --as-sysv       run what sysv-rc runs, and in the same way; implies --direct
-  --timeout SEC   send TERM to a script that runs longer than SEC seconds, 1 to
-                  86400, and KILL 5 seconds later
-  --level-file F  read PREV from the file F, or use N if there is none; after
-                  the run F holds NEW
-  DIR   the folder that holds those of the runlevels, such as rc3.d; it may
-        contain only A-Z a-z 0-9 . _ - /
-  PREV  the previous runlevel, 0 to 9 or S, or N if there was none
-  NEW   the runlevel to enter, 0 to 9 or S
-";
-
-/// The usage for rejected arguments, which follows a line with the reason.
-pub const SHORT_USAGE: &str =
-    "usage: rc [OPTION].. DIR PREV NEW | [OPTION].. --level-file F DIR NEW | --help\n";
+/// The line that names the manual page. It follows the help, and each message about rejected arguments.
+pub const MANUAL: &str = "See the manual page rc(8).\n";
 
 /// Runs `rc` on a command line, without the program's name, and returns its exit status.
 ///
@@ -124,8 +103,7 @@ where
         ⊎ (AllScriptsEnded result → ⊥)
         → AreSame (L.file_at levels.old) (L.file_at levels.new) }
     ensures report { result ≡ REFUSED
-        → ReportsUsage (codes "rc") USAGE.now SHORT_USAGE.now
-        (E.reports err.old) (E.reports err.new) }
+        → ReportsRejection MANUAL.now (E.reports err.old) (E.reports err.new) }
     ensures spoken { result ≡ DEVICE_FAULT → LastReportNonempty (E.reports err.new) }
 {
     if is_version(words.as_slice()) {
@@ -133,7 +111,7 @@ where
     }
     match read_words(alloc, words.as_slice()) {
         Ok(arguments) => run_asked(host, folders, levels, alloc, &arguments, out, err),
-        Err(fault) => report_word_fault("rc", &fault, USAGE, SHORT_USAGE, err),
+        Err(fault) => report_rejected("rc", &fault, MANUAL, err),
     }
 }
 

@@ -24,7 +24,7 @@ returns-in-Ok-clause-parsed g c = λ _ _. let reads = rw c.as_slice-2.ensures.va
 pub returns-clause-refused : goal.returns-clause-refused
 returns-clause-refused g c = λ is.
     let usage = rw c.as_slice-2.ensures.value at c.in-Err.ensures.usage in
-    refused_by c.in-Err.fault c.report_word_fault.result usage c.report_word_fault.ensures.memory is
+    refused_by c.in-Err.fault c.report_rejected.result usage c.report_rejected.ensures.memory is
 
 pub returns-in-Ok-clause-kept : goal.returns-in-Ok-clause-kept
 returns-in-Ok-clause-kept g c = λ _ is. let reads = rw c.as_slice-2.ensures.value at c.in-Ok.ensures.ok in
