@@ -10,6 +10,7 @@ use Rattle.init_words.specs.Entries.{without_plus}
 use Rattle.init_words.specs.Levels.{letter_read, level_read}
 use Rattle.inittab_text.specs.Kept.{levels_meant}
 use Rattle.inittab_text.specs.Lines.{FieldBytes, fields_of, is_ignored}
+use Rattle.inittab_text.specs.Written.{is_empty}
 use Rattle.inittab_lint.specs.declared.shell.Operator.{Operator}
 use Rattle.inittab_lint.specs.declared.shell.Operator.TheVariants as operator
 use Rattle.inittab_lint.specs.declared.traps.LineWarning.{LineWarning}
@@ -63,19 +64,22 @@ holds_of _ process = false
 -- the warning applies to an entry with this action, these runlevels and this process
 abbrev pub holds : Act → List ℕ → List ℕ → Warning → Bool
 holds action levels process warning.Runlevel =
-    (needs_process action || same_act action act.Initdefault) && has_idle action levels
+    (needs_process action || same_act action act.Initdefault)
+    && (not (ignores_levels action) && has_idle action levels)
+holds action levels process warning.IgnoredLevels = ignores_levels action && not (is_empty levels)
 holds action levels process warning.NoLevel =
     needs_process action && (not (ignores_levels action) && (not (is_ondemand action) && counts_none action levels))
 holds action levels process warning.NoLetter = is_ondemand action && counts_none action levels
 holds action levels process warning.Boot = same_act action act.Boot
+holds action levels process warning.SignalOnly = same_act action act.Ctrlaltdel || same_act action act.Kbrequest
 holds action levels process kind = holds_of kind (run_by action process)
 
 -- the warnings that depend only on the line, in the order of the output
 abbrev pub all_warnings : List Warning
 all_warnings =
-    warning.Runlevel ∷ warning.NoLevel ∷ warning.NoLetter ∷ warning.Boot ∷ warning.Return ∷ warning.At
-    ∷ warning.ShellWord ∷ warning.Assignment ∷ warning.Chain ∷ warning.Pipe ∷ warning.Background
-    ∷ warning.Unclosed ∷ warning.Comment ∷ warning.Early ∷ []
+    warning.Runlevel ∷ warning.IgnoredLevels ∷ warning.NoLevel ∷ warning.NoLetter ∷ warning.Boot
+    ∷ warning.SignalOnly ∷ warning.Return ∷ warning.At ∷ warning.ShellWord ∷ warning.Assignment ∷ warning.Chain
+    ∷ warning.Pipe ∷ warning.Background ∷ warning.Unclosed ∷ warning.Comment ∷ warning.Early ∷ []
 
 -- the warnings that apply to an entry with this action and these fields
 abbrev pub warnings_by : Act → FieldBytes → List Warning

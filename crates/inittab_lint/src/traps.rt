@@ -20,12 +20,16 @@ use text_lines::without_blanks;
 pub enum Warning {
     /// A character of the runlevels is ignored.
     Runlevel,
+    /// The action ignores the runlevels, and the field is not empty.
+    IgnoredLevels,
     /// No character of the runlevels is a level.
     NoLevel,
     /// No character of an ondemand entry's runlevels is a letter.
     NoLetter,
     /// The child of a boot entry stays alive in every level.
     Boot,
+    /// The action is started only by a signal, which init does not handle.
+    SignalOnly,
     /// The line ends with a carriage return.
     Return,
     /// The process begins with `@`.
@@ -63,11 +67,13 @@ pub struct LineWarning {
 }
 
 /// The warnings that depend only on the line, in the order of the output.
-const WARNINGS: [Warning; 14] = [
+const WARNINGS: [Warning; 16] = [
     Warning::Runlevel,
+    Warning::IgnoredLevels,
     Warning::NoLevel,
     Warning::NoLetter,
     Warning::Boot,
+    Warning::SignalOnly,
     Warning::Return,
     Warning::At,
     Warning::ShellWord,
@@ -159,8 +165,10 @@ fn holds(act: Act, levels: &[u8], process: &[u8], kind: Warning) -> bool
 {
     match kind {
         Warning::Runlevel => {
-            (act.needs_process() || act == Act::Initdefault) && has_idle(act, levels)
+            (act.needs_process() || act == Act::Initdefault)
+                && (!act.ignores_levels() && has_idle(act, levels))
         }
+        Warning::IgnoredLevels => act.ignores_levels() && !levels.is_empty(),
         Warning::NoLevel => {
             act.needs_process()
                 && !act.ignores_levels()
@@ -169,6 +177,7 @@ fn holds(act: Act, levels: &[u8], process: &[u8], kind: Warning) -> bool
         }
         Warning::NoLetter => act.is_ondemand() && counts_none(act, levels),
         Warning::Boot => act == Act::Boot,
+        Warning::SignalOnly => act == Act::Ctrlaltdel || act == Act::Kbrequest,
         _ => holds_of(kind, run_by(act, process)),
     }
 }
@@ -250,10 +259,12 @@ impl Warning {
             Warning::Runlevel => {
                 b"a character of the runlevels has no meaning; name each level (2345)"
             }
+            Warning::IgnoredLevels => { b"its action ignores the runlevels; leave the field empty" }
             Warning::NoLevel => b"it is never started: its runlevels name no level",
             Warning::NoLetter => b"it is never started: its runlevels have no letter A, B or C",
             Warning::Boot =>
                 b"its child keeps running in every level; name its levels and use once",
+            Warning::SignalOnly => b"it is never started: initd handles no signals",
             Warning::Return => {
                 b"the line ends with a carriage return, which becomes part of its last word; remove it"
             }
