@@ -253,7 +253,8 @@ pub(crate) fn is_ignored(line: &[u8]) -> bool
 }
 
 impl Warning {
-    /// Returns the text of the warning: what is wrong, and what to do.
+    /// Returns the text of the warning: what is wrong, and what to do. The text of `Missing` follows the name of the
+    /// program.
     pub fn words(self) -> &'static [u8] {
         match self {
             Warning::Runlevel => {
@@ -288,9 +289,7 @@ impl Warning {
                 b"init's shell expands the $ in double quotes before the inner shell does; use '..' or \\$"
             }
             Warning::Marked => b"it begins with a byte order mark; save the file without it",
-            Warning::Missing => {
-                b"its program is in none of the folders; correct the line or the folders"
-            }
+            Warning::Missing => b"is in none of the folders; correct the line or the folders",
         }
     }
 }

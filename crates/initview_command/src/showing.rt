@@ -69,7 +69,7 @@ struct FileText<S: TraceObserver<Global> + Drop> {
 }
 
 /// Returns the program that unpacks a text whose first piece is this one, if the text is compressed.
-fn unpacker(piece: &[u8]) -> Option<&'static str> {
+pub(crate) fn unpacker(piece: &[u8]) -> Option<&'static str> {
     match piece {
         [0x1f, 0x8b, ..] => Some("zcat"),
         [0x28, 0xb5, 0x2f, 0xfd, ..] => Some("zstdcat"),

@@ -10,7 +10,7 @@ ghost use Rattle.initview_command.specs.Tables.{Answers, AreFiles, AreFilesAt, A
 use crate::asking::{Paths, TableQuestion};
 use crate::growing::LiveTraces;
 use crate::programs::missing;
-use crate::showing::{Answer, Remarks};
+use crate::showing::{Answer, Remarks, unpacker};
 use crate::telling::Refusal;
 use init_words::{Level, Memory, Part};
 use inittab_lint::LineWarning;
@@ -51,6 +51,18 @@ fn read_named<'a, T: Texts>(
     Ok(parts)
 }
 
+/// Refuses the first file that is compressed. The files are those at the paths.
+fn refuse_packed<'a>(paths: &[&'a str], parts: &[Part]) -> Result<(), Refusal<'a>>
+    ensures { IfErr result (λ refusal. refusal_status refusal ≡ DEVICE_FAULT) }
+{
+    for (index, part) in parts.iter().enumerate() {
+        if let (Some(unpacker), Some(path)) = (unpacker(&part.bytes), paths.get(index)) {
+            return Err(Refusal::PackedTable(*path, unpacker));
+        }
+    }
+    Ok(())
+}
+
 /// Reads the files at the paths, in order, and then the files of a folder, if one is given.
 pub(crate) fn read_files<'a, T: Texts, G: LiveTraces>(
     texts: &T,
@@ -63,6 +75,7 @@ pub(crate) fn read_files<'a, T: Texts, G: LiveTraces>(
     ensures refused { IfErr result (λ refusal. refusal_status refusal ≡ DEVICE_FAULT) }
 {
     let mut parts = read_named(texts, alloc, paths.files)?;
+    refuse_packed(paths.files, &parts)?;
     match paths.folder {
         None => Ok(parts),
         Some(folder) => match growing.add_folder(alloc, folder, &mut parts) {

@@ -22,6 +22,8 @@ pub(crate) enum Refusal<'a> {
     Folder(FolderFault),
     /// The trace at a path is compressed. The second value is the program that unpacks it.
     Packed(&'a str, &'static str),
+    /// The file of an inittab at a path is compressed. The second value is as above.
+    PackedTable(&'a str, &'static str),
     /// The trace begins in the middle of a run. A remark reports this.
     Within,
     /// The files are not an inittab.
@@ -66,6 +68,13 @@ pub(crate) fn report_no_answer<E: Reporter>(refusal: &Refusal, err: &mut E) -> u
             writeln!(
                 err,
                 "initview: {path} is compressed; use {unpacker} {path} | initview status -"
+            );
+            DEVICE_FAULT
+        }
+        Refusal::PackedTable(path, unpacker) => {
+            writeln!(
+                err,
+                "initview: {path} is compressed; use {unpacker} {path} | initview lint -"
             );
             DEVICE_FAULT
         }

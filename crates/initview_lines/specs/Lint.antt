@@ -15,7 +15,10 @@ use Rattle.inittab_text.specs.Parts.{faults_of_parts, table_of_texts}
 use Rattle.inittab_text.specs.Tables.{default_level_of}
 use Rattle.inittab_text.specs.Written.{is_empty}
 use Rattle.inittab_lint.specs.declared.traps.LineWarning.{LineWarning}
+use Rattle.inittab_lint.specs.declared.traps.Warning.{Warning}
+use Rattle.inittab_lint.specs.declared.traps.Warning.TheVariants as warning
 use Rattle.inittab_lint.specs.Meant.{meant}
+use Rattle.inittab_lint.specs.Programs.{program_of}
 use Rattle.inittab_lint.specs.Warnings.{warnings_of}
 use Rattle.initview_lines.specs.CommonWords.{Act, Entry}
 use Rattle.initview_lines.specs.declared.lines.FileLine.{FileLine}
@@ -99,9 +102,16 @@ is_nameless parts fault = lacks_id (line_at fault.line (text_of (slice_get parts
 abbrev pub has_nameless : List NamedText → List PartFault → Bool
 has_nameless parts faults = list_any (is_nameless parts) faults
 
+-- the message of a warning about the line with this number and text; it names the program that was not found
+abbrev pub warned : Warning → ℕ → List ℕ → FileLine
+warned warning.Missing number line = told.Missing number (program_of line)
+warned kind number line = told.Warning number kind
+
 -- the line for a warning
 abbrev pub warning_line : List NamedText → LineWarning → Line
-warning_line parts found = File (name_of (slice_get parts found.part)) (told.Warning found.line found.kind)
+warning_line parts found =
+    let part = slice_get parts found.part in
+    File (name_of part) (warned found.kind found.line (line_at found.line (text_of part)))
 
 -- a message about the whole inittab, under the name of its first file, if the condition holds
 abbrev pub note_if : Bool → List NamedText → FileLine → List Line

@@ -93,6 +93,8 @@ pub enum FileLine {
     LeftOut(u32, LineKind, Bytes, Option<Act>),
     /// The line does not do what it seems to do.
     Warning(usize, Warning),
+    /// The line's program, with this name, is in none of the folders that were searched.
+    Missing(usize, Bytes),
     /// The line itself, whose entry is in the table.
     Kept(usize, Bytes),
     /// Some lines have no id.

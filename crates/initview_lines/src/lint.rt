@@ -10,12 +10,12 @@ ghost use Rattle.inittab_text.specs.Lines.{fields_of};
 ghost use Rattle.inittab_text.specs.Parts.{AreTooLong, AreTooMany};
 ghost use Rattle.inittab_lint.specs.Warnings.{warnings_of};
 ghost use Rattle.initview_lines.specs.declared.lines.Line.TheVariants.{File};
-ghost use Rattle.initview_lines.specs.Lint.{IsCursor, fault_line, fault_line_of, field_in, found_by, has_nameless, is_nameless, lacks_id, line_at, lint_in, lint_lines, meant_for, name_of, note_if, serves, text_of, told_of, up_to, warning_line};
+ghost use Rattle.initview_lines.specs.Lint.{IsCursor, fault_line, fault_line_of, field_in, found_by, has_nameless, is_nameless, lacks_id, line_at, lint_in, lint_lines, meant_for, name_of, note_if, serves, text_of, told_of, up_to, warned, warning_line};
 
 use crate::lines::{FileLine, Line};
 use crate::texts::Bytes;
 use init_words::{Act, Entry, Level, Part, Stage, starts};
-use inittab_lint::{LineWarning, meant, warnings};
+use inittab_lint::{LineWarning, Warning, meant, program_of, warnings};
 use inittab_text::{Fields, LineKind, PartFault, Table, TableFault, read_parts};
 use std::alloc::{AllocError, Global};
 use text_lines::{after_lines, cut, without_blanks};
@@ -170,6 +170,17 @@ fn lacks_id(line: &[u8]) -> bool
     }
 }
 
+/// Returns the position at the beginning of the first file.
+fn first_cursor(parts: &[Part]) -> Cursor<'_>
+    ensures { IsCursor parts.now result }
+{
+    Cursor {
+        part: 0,
+        before: 0,
+        rest: text_of(part_at(parts, 0)),
+    }
+}
+
 /// A position in the files: the file, the number of lines before the position, and the text after it.
 #[derive(Clone, Copy)]
 struct Cursor<'a> {
@@ -213,14 +224,18 @@ fn cursor_after<'a>(
     Some(Cursor { part, before, rest })
 }
 
-/// Returns the line with a fault, and the position from which the next one is searched for.
-fn line_of<'a>(parts: &'a [Part], from: Cursor<'a>, fault: &PartFault) -> (&'a [u8], Cursor<'a>)
+/// Returns a line of a file, given the numbers of both, and the position from which the next line is searched for.
+fn line_of<'a>(
+    parts: &'a [Part],
+    from: Cursor<'a>,
+    part: usize,
+    number: usize,
+) -> (&'a [u8], Cursor<'a>)
     ensures line { IsCursor parts.now from.entry → result.0.now
-        ≡ line_at fault.now.line (text_of (slice_get parts.now fault.now.part)) }
+        ≡ line_at number (text_of (slice_get parts.now part)) }
     ensures cursor { IsCursor parts.now from.entry → IsCursor parts.now result.1 }
 {
-    let before = fault.line.saturating_sub(1) as usize;
-    match cursor_after(parts, from, fault.part as usize, before) {
+    match cursor_after(parts, from, part, number.saturating_sub(1)) {
         Some(cursor) => (first_of(cursor.rest), cursor),
         None => (b"", from),
     }
@@ -238,14 +253,10 @@ fn fault_lines(
 {
     let mut lines = Vec::new(alloc);
     let mut nameless = false;
-    let mut cursor = Cursor {
-        part: 0,
-        before: 0,
-        rest: text_of(part_at(parts, 0)),
-    };
+    let mut cursor = first_cursor(parts);
     let mut rest = faults;
     while let Some((fault, others)) = rest.split_first() {
-        let (line, next) = line_of(parts, cursor, fault);
+        let (line, next) = line_of(parts, cursor, fault.part as usize, fault.line as usize);
         if lacks_id(line) {
             nameless = true;
         } else {
@@ -258,11 +269,17 @@ fn fault_lines(
     Ok((lines, nameless))
 }
 
-fn warning_line(alloc: Global, parts: &[Part], found: &LineWarning) -> Result<Line, AllocError>
-    ensures { IfOk result (λ line. line ≡ warning_line parts.now found.now) }
+/// Returns the message of a warning about the line with this number and text.
+fn warned(alloc: Global, kind: Warning, number: usize, line: &[u8]) -> Result<FileLine, AllocError>
+    ensures { IfOk result (λ told. told ≡ warned kind number line.now) }
 {
-    let warned = FileLine::Warning(found.line, found.kind);
-    file_line(alloc, part_at(parts, found.part), warned)
+    match kind {
+        Warning::Missing => {
+            let program = Bytes::copy_of(alloc, program_of(line))?;
+            Ok(FileLine::Missing(number, program))
+        }
+        _ => Ok(FileLine::Warning(number, kind)),
+    }
 }
 
 fn warning_lines(
@@ -273,9 +290,13 @@ fn warning_lines(
     ensures { IfOk result (λ lines. lines.items ≡ map (warning_line parts.now) warnings.now) }
 {
     let mut lines = Vec::new(alloc);
+    let mut cursor = first_cursor(parts);
     let mut rest = warnings;
     while let Some((found, others)) = rest.split_first() {
-        lines.push(warning_line(alloc, parts, found)?)?;
+        let (line, next) = line_of(parts, cursor, found.part, found.line);
+        let told = warned(alloc, found.kind, found.line, line)?;
+        lines.push(file_line(alloc, part_at(parts, found.part), told)?)?;
+        cursor = next;
         rest = others;
     }
     Ok(lines)

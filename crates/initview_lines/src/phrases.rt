@@ -2,7 +2,9 @@
 
 use crate::clocks::{Zone, add_clock, add_time_of_day};
 use crate::json::add_quoted;
-use crate::words::{add_level, add_number, add_padded, add_shown, add_stage, add_status, put};
+use crate::words::{
+    add_level, add_marked, add_number, add_padded, add_shown, add_stage, add_status, put,
+};
 use init_words::{Id, Level, Stage, Status};
 use std::alloc::AllocError;
 use trace_view::Wish;
@@ -15,6 +17,8 @@ pub(crate) enum Value<'a> {
     Padded(usize, &'a [u8]),
     /// Text from a file, with its control characters escaped for terminals.
     Shown(&'a [u8]),
+    /// The beginning of a line of a file, as `Shown`, with a byte order mark escaped.
+    Line(&'a [u8]),
     Id(Id),
     /// The number of a child.
     Pid(u32),
@@ -54,6 +58,7 @@ fn add_value(text: &mut Vec<u8>, value: &Value) -> Result<(), AllocError> {
         Value::Text(bytes) => put(text, bytes),
         Value::Padded(width, bytes) => add_padded(text, *width, bytes),
         Value::Shown(bytes) => add_shown(text, bytes),
+        Value::Line(bytes) => add_marked(text, bytes),
         Value::Id(id) => put(text, id.as_bytes()),
         Value::Pid(number) => add_number(text, b"", u64::from(*number), b""),
         Value::Byte(byte) => put(text, &[*byte]),

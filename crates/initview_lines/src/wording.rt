@@ -12,6 +12,7 @@ use crate::times::TimeTaken;
 use crate::words::put;
 use init_words::{Act, ChildNumber, Id, Letter, Level, OrderKind, PowerKind, Stage};
 use initctl_frame::{Cause, HeardRequest};
+use inittab_lint::Warning;
 use inittab_text::LineKind;
 use respawn_limit::{HOLD, STARTS, WINDOW};
 use std::alloc::{AllocError, Global};
@@ -82,6 +83,15 @@ fn add_file_line(text: &mut Vec<u8>, alloc: Global, told: &FileLine) -> Result<(
             b":@: warning: @",
             &[Value::Number(*line as u64), Value::Text(kind.words())],
         ),
+        FileLine::Missing(line, program) => fill(
+            text,
+            b":@: warning: its program @ @",
+            &[
+                Value::Number(*line as u64),
+                Value::Shown(program.as_slice()),
+                Value::Text(Warning::Missing.words()),
+            ],
+        ),
         FileLine::Kept(line, bytes) => fill(
             text,
             b":@: @",
@@ -110,7 +120,7 @@ fn add_hint(
     field: &[u8],
     meant: Option<Act>,
 ) -> Result<(), AllocError> {
-    let field = Value::Shown(field);
+    let field = Value::Line(field);
     match (kind, meant) {
         (LineKind::Fields, _) => put(text, b": a line is id:runlevels:action:process"),
         (LineKind::Id, _) => fill(text, b" @: 1 to 8 characters, the first not #", &[field]),

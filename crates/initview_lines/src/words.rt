@@ -49,6 +49,17 @@ pub(crate) fn add_shown(text: &mut Vec<u8>, bytes: &[u8]) -> Result<(), AllocErr
     Ok(())
 }
 
+/// Adds a text as `add_shown`, with a byte order mark at its beginning escaped.
+pub(crate) fn add_marked(text: &mut Vec<u8>, bytes: &[u8]) -> Result<(), AllocError> {
+    match bytes {
+        [0xef, 0xbb, 0xbf, rest @ ..] => {
+            put(text, b"\\xef\\xbb\\xbf")?;
+            add_shown(text, rest)
+        }
+        _ => add_shown(text, bytes),
+    }
+}
+
 /// Adds the words for a level.
 pub(crate) fn add_level(text: &mut Vec<u8>, level: Level) -> Result<(), AllocError> {
     put(text, b"level ")?;
