@@ -1,7 +1,7 @@
 //! A timeline as lines of text.
 
 use crate::clocks::{Zone, add_hours, add_moment, add_zone, is_one_offset};
-use crate::dimensions::LEGEND_LINES;
+use crate::dimensions::{FEWER_LINE, LEGEND_LINES, MANY};
 use crate::lines::WhichRows;
 use crate::words::{add_number, add_padded, add_stage, add_status, put};
 use init_words::Stage;
@@ -119,6 +119,11 @@ pub(crate) fn is_drawn(which: WhichRows, row: &Row) -> bool {
     }
 }
 
+/// Returns the number of rows that are drawn.
+pub(crate) fn drawn(which: WhichRows, rows: &[Row]) -> usize {
+    rows.iter().filter(|row| is_drawn(which, row)).count()
+}
+
 /// Returns the number of rows with faults.
 pub(crate) fn ill(rows: &[Row]) -> u64 {
     rows.iter().filter(|row| is_ill(row)).count() as u64
@@ -203,6 +208,11 @@ pub(crate) fn add_chart(
     }
     for parts in LEGEND_LINES {
         add_wrapped(text, width, parts)?;
+    }
+    let rows = timeline.rows.as_slice();
+    let drawn = drawn(which, rows);
+    if drawn > MANY && drawn as u64 > ill(rows) {
+        add_wrapped(text, width, FEWER_LINE)?;
     }
     Ok(())
 }

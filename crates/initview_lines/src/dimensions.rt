@@ -156,6 +156,10 @@ pub const LEGEND: &[u8] = b" with faults</tspan></text>
 </g>
 ";
 
+/// A sentence above the rows, if there are more than `MANY`.
+pub const FEWER: &[u8] =
+    b"<text class=\"i q\" x=\"1122\" y=\"40\">--faults draws only the rows with faults</text>\n";
+
 /// The text before the height of the rows.
 pub const TALL_ROWS: &[u8] = b"<svg x=\"80\" y=\"104\" overflow=\"visible\" height=\"";
 
@@ -166,6 +170,9 @@ pub const LOW_ROWS: &[u8] =
 pub const AT_END: &[u8] =
     b"<text class=\"i z\" x=\"-8\" y=\"15\">level</text><text class=\"q\" x=\"912\" y=\"15\">at the end</text><text class=\"i q\" x=\"1042\" y=\"15\">faults</text>
 ";
+
+/// A sentence below the rows, if there are more than `MANY`.
+pub const FEWER_LINE: &[u8] = b"--faults draws only\nthe rows with faults";
 
 /// The legend of the characters: three lines if they fit. Each line consists of parts, given one per line here.
 pub const LEGEND_LINES: [&[u8]; 3] = [

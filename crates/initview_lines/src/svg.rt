@@ -1,12 +1,12 @@
 //! A timeline as a picture: one SVG document.
 
-use crate::chart::{add_facts, add_state, add_times, ill, is_drawn, stage_letter};
+use crate::chart::{add_facts, add_state, add_times, drawn, ill, is_drawn, stage_letter};
 use crate::clocks::{Zone, add_day, add_hours, add_moment, local_seconds};
 use crate::dimensions::{
-    AT_END, BAND, DAY, DRAWING, DUE, FAILED, FAULTS, HEAD, HELD, HOUR, KILLED, LEGEND, LETTER_ROOM,
-    LEVEL, LIVES, LOW, LOW_HOURS, LOW_ROWS, LOW_SECONDS, MANY, MARGINS, NAME, NAME_AT, SETTLED,
-    STAGE, STATE, STEPS, STOPS, STYLE, TALL, TALL_ROWS, TICK, TICKS, TOP_HOURS, TOP_SECONDS,
-    UNBORN, WAITED, WORDS_ROOM,
+    AT_END, BAND, DAY, DRAWING, DUE, FAILED, FAULTS, FEWER, HEAD, HELD, HOUR, KILLED, LEGEND,
+    LETTER_ROOM, LEVEL, LIVES, LOW, LOW_HOURS, LOW_ROWS, LOW_SECONDS, MANY, MARGINS, NAME, NAME_AT,
+    SETTLED, STAGE, STATE, STEPS, STOPS, STYLE, TALL, TALL_ROWS, TICK, TICKS, TOP_HOURS,
+    TOP_SECONDS, UNBORN, WAITED, WORDS_ROOM,
 };
 use crate::lines::WhichRows;
 use crate::words::{add_number, add_stage, add_status, put};
@@ -247,13 +247,11 @@ fn add_front(
     put(text, loud_if(faulty > 0))?;
     add_number(text, b"", faulty, b" of ")?;
     add_number(text, b"", rows.len() as u64, LEGEND)?;
+    if drawn > MANY && drawn as u64 > faulty {
+        put(text, FEWER)?;
+    }
     put(text, if drawn > MANY { LOW_ROWS } else { TALL_ROWS })?;
     add_number(text, b"", bottom, b"\">\n")
-}
-
-/// Returns the number of rows that are drawn.
-fn drawn(which: WhichRows, rows: &[Row]) -> usize {
-    rows.iter().filter(|row| is_drawn(which, row)).count()
 }
 
 /// Adds rows of a timeline as an SVG document: its times, the state at the end and the legend; an axis with the times
