@@ -190,6 +190,6 @@ w init waits for it,
     b"x failed,
 ! start failed,
 K KILL sent;
-behind: how it is at the end,
+right: the state at the end,
 and faults",
 ];
