@@ -13,6 +13,7 @@ mod printing;
 mod programs;
 mod refusals;
 mod reloading;
+mod reporting;
 mod showing;
 mod tables;
 mod telling;
