@@ -170,12 +170,15 @@ fn add_log<T: Texts>(
     let name = log_name(&id);
     let path = format!(in alloc; "{folder}/{name}.log")?;
     match log_end(texts, alloc, path.as_str()) {
-        Ok(log) => logs.push(Line::Log(id, Bytes::of(log)))?,
+        Ok(log) => {
+            logs.push(Line::Log(id, Bytes::of(log)))?;
+            Ok(())
+        }
         Err(error) => {
             report_unread(path.as_str(), &error, remarks);
+            Ok(())
         }
     }
-    Ok(())
 }
 
 /// Returns the ids with faults on a page.

@@ -83,8 +83,8 @@ fn has_failed(status: Status) -> bool
 }
 
 /// Reports whether the happening that a message is about can be a fault.
-fn is_trouble(news: News) -> bool
-    ensures { result ≡ is_trouble news }
+fn is_trouble(news: &News) -> bool
+    ensures { result ≡ is_trouble news.now }
 {
     match news {
         News::NotRead => true,
@@ -92,8 +92,8 @@ fn is_trouble(news: News) -> bool
         News::Held(_) => true,
         News::NotSeen(_) => true,
         News::NotSent(_, _, _) => true,
-        News::Sent(_, order, _) => is_kill(order),
-        News::Ended(_, _, status) => has_failed(status),
+        News::Sent(_, order, _) => is_kill(*order),
+        News::Ended(_, _, status) => has_failed(*status),
         _ => false,
     }
 }
@@ -103,14 +103,18 @@ fn add_trouble(
     troubles: &mut Vec<Trouble>,
     line: u64,
     time: u64,
-    news: Option<News>,
+    news: &Option<News>,
 ) -> Result<(), AllocError>
     ensures { OnOk result (troubles.new.items
-        ≡ troubles.old.items ++ trouble_at line time news) }
+        ≡ troubles.old.items ++ trouble_at line time news.now) }
 {
     if let Some(news) = news {
         if is_trouble(news) {
-            troubles.push(Trouble { line, time, news })?;
+            troubles.push(Trouble {
+                line,
+                time,
+                news: *news,
+            })?;
         }
     }
     Ok(())
@@ -128,7 +132,7 @@ fn take_trouble(
         → troubles.new ≡ troubles.old ++ trouble_in happening.now past) }
 {
     let news = news_of(view, happening);
-    add_trouble(&mut troubles.list, line, view.time(), news)?;
+    add_trouble(&mut troubles.list, line, view.time(), &news)?;
     Ok(())
 }
 
