@@ -22,7 +22,7 @@ use Rattle.initview_command.specs.declared.asking.Paths.{Paths}
 use Rattle.initview_command.specs.declared.asking.TheConstants.{LAST_LIMIT, OPTIONS}
 use Rattle.initview_command.specs.declared.asking.Command.{Command}
 use Rattle.initview_command.specs.declared.asking.Command.TheVariants.{Show, Draw, Follow, Explain, Reload, Timing}
-use Rattle.initview_command.specs.declared.asking.Command.TheVariants.{Report, Tables}
+use Rattle.initview_command.specs.declared.asking.Command.TheVariants.{Tables}
 use Rattle.initview_command.specs.declared.charting.Form.{Form}
 use Rattle.initview_command.specs.declared.charting.Form.TheVariants.{Lines, Svg}
 use Rattle.initview_command.specs.declared.charting.TheConstants.{WIDTH}
@@ -149,12 +149,11 @@ tables_of rows verb words =
     else if bytes_eq verb (codes "lint") then lint_of rows words
     else None
 
--- the command `left [--json] TRACE`, `follow [-n N] [--local] TRACE` or `report [--logs DIR] [--local] TRACE`
+-- the command `left [--json] TRACE` or `follow [-n N] [--local] TRACE`
 abbrev pub plain_of : List Row → Text → List Text → Option Command
 plain_of rows verb (trace ∷ []) =
     if bytes_eq verb (codes "left") then Some (Show (question.Left (shape_said rows)))
     else if bytes_eq verb (codes "follow") then option_map Follow (last_said rows)
-    else if bytes_eq verb (codes "report") then Some Report
     else None
 plain_of rows verb _ = None
 
@@ -204,7 +203,6 @@ abbrev pub takes : Command → Text → Bool
 takes (Show question) option = trace_takes question option
 takes (Draw form) option = draw_takes option
 takes (Follow last) option = bytes_eq option (codes "-n") || bytes_eq option (codes "--local")
-takes Report option = bytes_eq option (codes "--logs") || bytes_eq option (codes "--local")
 takes (Explain id) option = bytes_eq option (codes "--inittab-dir")
 takes (Reload level) option = goes_by_level option
 takes (Timing level) option = goes_by_level option
@@ -260,13 +258,8 @@ abbrev pub files_of : Command → List Text → List Text
 files_of (Explain id) words = after_third words
 files_of _ words = after_first words
 
--- the folder with additional files of inittabs, or with logs
-abbrev pub folder_of : Command → List Row → Option Text
-folder_of Report rows = first_of (codes "--logs") rows
-folder_of _ rows = first_of (codes "--inittab-dir") rows
-
 -- the path of the trace or the folders with programs, the paths of the inittab files, and the folder with additional
--- files of an inittab or with logs
+-- files of an inittab
 pub record PathTexts : Type 0 where
   pub path : Text
   pub files : List Text
@@ -277,7 +270,7 @@ abbrev pub paths_of : Command → List Row → List Text → PathTexts
 paths_of what rows words = record {
   path = path_of what rows words;
   files = files_of what words;
-  folder = folder_of what rows;
+  folder = first_of (codes "--inittab-dir") rows;
 }
 
 -- the paths that the program passes on, as lists

@@ -6,14 +6,13 @@ use Rattle.clap.specs.Words.{Row}
 use Rattle.initview_lines.specs.declared.lines.Line.TheVariants as line
 use Rattle.initview_command.specs.declared.asking.Command.{Command}
 use Rattle.initview_command.specs.declared.asking.Command.TheVariants.{Show, Draw, Follow, Explain, Reload, Timing}
-use Rattle.initview_command.specs.declared.asking.Command.TheVariants.{Report, Tables}
+use Rattle.initview_command.specs.declared.asking.Command.TheVariants.{Tables}
 use Rattle.initview_command.specs.Asking.{PathTexts, command_line, local_said, paths_of, what_of, words_said}
 use Rattle.initview_command.specs.Charting.{drawing_by}
 use Rattle.initview_command.specs.Explaining.{explained_with}
 use Rattle.initview_command.specs.Following.{Follows}
 use Rattle.initview_command.specs.Planning.{timing_with}
 use Rattle.initview_command.specs.Reloading.{reload_with}
-use Rattle.initview_command.specs.Reporting.{Reports}
 use Rattle.initview_command.specs.Showing.{Shows, Writes, WritesOne, answer_by}
 use Rattle.initview_command.specs.Tables.{Answers, AreNone, NoneOf}
 use Rattle.initview_command.specs.WithFiles.{ShowsWithFiles}
@@ -34,8 +33,6 @@ Does text_at growing_at writers paths (Reload level) status old new =
     WritesOne (ShowsWithFiles text_at writers paths (λ parts writer. reload_with level parts) NoneOf) status old new
 Does text_at growing_at writers paths (Timing level) status old new =
     WritesOne (ShowsWithFiles text_at writers paths (λ parts writer. timing_with level parts) AreNone) status old new
-Does text_at growing_at writers paths Report status old new =
-    WritesOne (Reports text_at writers paths) status old new
 Does text_at growing_at writers paths (Tables question) status old new =
     WritesOne (Answers text_at paths question) status old new
 

@@ -6,7 +6,6 @@ pub mod Following
 pub mod Planning
 pub mod Refusals
 pub mod Reloading
-pub mod Reporting
 pub mod Showing
 pub mod Tables
 pub mod Taking

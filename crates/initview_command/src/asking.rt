@@ -1,9 +1,9 @@
 //! The command line of `initview`. Options can be anywhere; the first other argument is the command.
 
-ghost use Rattle.std.specs.Prelude.{◌≡◌, map, string_bytes, IfErr, IfOk, IsSome, None, Some, option_map};
+ghost use Rattle.std.specs.Prelude.{◌≡◌, map, string_bytes, IfErr, IfOk, IsSome, None, Some};
 ghost use Rattle.std.specs.List.{list_all};
 ghost use Rattle.initview_command.specs.Words.{found_of, rows_of, given_by, text_of, reason_of};
-ghost use Rattle.initview_command.specs.Asking.{asked, asked_by, belongs, command_line, diff_of, draw_of, draw_takes, explain_of, explained, files_of, folder_of, form_said, is_given, last_of, last_said, level_in, level_said, lint_of, path_of, path_texts, paths_of, plain_of, plan_of, shape_said, show_of, table_takes, tables_of, takes, trace_takes, what_of, which_said};
+ghost use Rattle.initview_command.specs.Asking.{asked, asked_by, belongs, command_line, diff_of, draw_of, draw_takes, explain_of, explained, files_of, form_said, is_given, last_of, last_said, level_in, level_said, lint_of, path_of, path_texts, paths_of, plain_of, plan_of, shape_said, show_of, table_takes, tables_of, takes, trace_takes, what_of, which_said};
 
 use crate::charting::{Form, WIDTH, width_of};
 use clap::ArgMatches;
@@ -54,8 +54,6 @@ pub enum Command {
     /// The entries that init starts on the way to the level, and the times that those on the critical path took in the
     /// trace.
     Timing(Option<Level>),
-    /// A page about the trace, with the ends of logs in a folder, if one is given.
-    Report,
     Tables(TableQuestion),
 }
 
@@ -66,7 +64,7 @@ pub(crate) struct Paths<'m, 'a> {
     pub(crate) path: &'a str,
     /// The paths of the files of inittabs.
     pub(crate) files: &'m [&'a str],
-    /// The folder with additional files of inittabs, or with logs.
+    /// The folder with additional files of inittabs.
     pub(crate) folder: Option<&'a str>,
 }
 
@@ -82,7 +80,6 @@ pub(crate) const OPTIONS: &[Row] = &[
     ("--trace", "T", ""),
     ("--level", "L", ""),
     ("--inittab-dir", "DIR", ""),
-    ("--logs", "DIR", ""),
     ("WORD", "..", ""),
 ];
 
@@ -143,7 +140,6 @@ fn takes(what: &Command, option: &str) -> bool
         Command::Show(question) => trace_takes(question, option),
         Command::Draw(_) => draw_takes(option),
         Command::Follow(_) => option == "-n" || option == "--local",
-        Command::Report => option == "--logs" || option == "--local",
         Command::Explain(_) => option == "--inittab-dir",
         Command::Reload(_) | Command::Timing(_) => {
             option == "--inittab-dir" || option == "--trace" || option == "--level"
@@ -340,7 +336,6 @@ fn plain_of(matches: &ArgMatches, verb: &str, words: &[&str]) -> Option<Command>
         [_] => match verb {
             "left" => Some(Command::Show(TraceQuery::Left(shape_said(matches)))),
             "follow" => Some(Command::Follow(last_said(matches)?)),
-            "report" => Some(Command::Report),
             _ => None,
         },
         _ => None,
@@ -420,17 +415,6 @@ fn files_of<'m, 'a>(what: &Command, words: &'m [&'a str]) -> &'m [&'a str]
     }
 }
 
-/// Returns the folder with additional files of inittabs, or with logs.
-fn folder_of<'a>(what: &Command, matches: &ArgMatches<'a>) -> Option<&'a str>
-    ensures { option_map (λ folder. folder.now) result
-        ≡ folder_of what.now (rows_of (found_of matches.now)) }
-{
-    match what {
-        Command::Report => word_of(matches, "--logs"),
-        _ => word_of(matches, "--inittab-dir"),
-    }
-}
-
 /// Returns the paths in the options and arguments of a command.
 pub(crate) fn paths_of<'m, 'a>(
     what: &Command,
@@ -443,6 +427,6 @@ pub(crate) fn paths_of<'m, 'a>(
     Paths {
         path: path_of(what, matches, words),
         files: files_of(what, words),
-        folder: folder_of(what, matches),
+        folder: word_of(matches, "--inittab-dir"),
     }
 }

@@ -41,7 +41,7 @@ pub(crate) fn width_of(word: &str) -> Option<u64>
 }
 
 /// Returns the input of a timeline.
-pub(crate) fn seen_by<'a>(marks: &'a Marks, view: &'a TraceView) -> Seen<'a>
+fn seen_by<'a>(marks: &'a Marks, view: &'a TraceView) -> Seen<'a>
     ensures { (past : List Event) → Viewed view.now past
         → marks.now ≡ seen_of past → scene_of result ≡ drawn_of past }
 {

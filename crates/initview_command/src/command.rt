@@ -15,7 +15,6 @@ use crate::growing::LiveTraces;
 use crate::planning::timing_answer;
 use crate::refusals::{report_fault, report_refusal};
 use crate::reloading::reload_answer;
-use crate::reporting::report_answer;
 use crate::showing::{say_lines, trace_answer, write};
 use crate::tables::tables_answer;
 use crate::telling::{report_memory, report_zone};
@@ -32,7 +31,6 @@ pub const USAGE: &str = "usage: initview why [--inittab-dir DIR] ID TRACE [TABLE
        initview left [--json] TRACE
        initview timeline [--svg | --width N] [--faults] [--local] TRACE
        initview follow [-n N] [--local] TRACE
-       initview report [--logs DIR] [--local] TRACE
        initview lint [--programs FOLDERS] [--inittab-dir DIR] TABLE [FILE..]
        initview diff [--trace T] [--level L] [--inittab-dir DIR] OLD NEW
        initview plan [--trace T] [--level L] [--inittab-dir DIR] TABLE [FILE..]
@@ -55,9 +53,6 @@ pub const USAGE: &str = "usage: initview why [--inittab-dir DIR] ID TRACE [TABLE
           while the trace is being written, until it is interrupted; with -n
           begin with the last N lines, even if TRACE begins in the middle of a
           run and what came before is gone: then it is not judged
-  report  print an HTML page for a browser: the verdict, the timeline, what went
-          wrong, and the state at the end; with --logs also the ends of the
-          logs DIR/ID.log of the entries with faults
   lint    list the faults of an inittab's lines, with what was probably meant,
           and warnings; the exit status is 1 with faults, 2 with warnings only;
           with --programs also warn of programs that are not in FOLDERS, a list
@@ -189,10 +184,6 @@ fn run_asked<T: Texts, G: LiveTraces, S: LineSink, E: Reporter>(
         }
         Command::Timing(level) => {
             let answer = timing_answer(texts, growing, alloc, paths, level, &mut remarks);
-            write(alloc, answer, &remarks, out, err)
-        }
-        Command::Report => {
-            let answer = report_answer(texts, growing, alloc, paths, &mut remarks);
             write(alloc, answer, &remarks, out, err)
         }
         Command::Tables(question) => {

@@ -13,7 +13,6 @@ mod printing;
 mod programs;
 mod refusals;
 mod reloading;
-mod reporting;
 mod showing;
 mod tables;
 mod telling;

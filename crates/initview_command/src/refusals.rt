@@ -24,7 +24,6 @@ const COMMANDS: &[CommandRow] = &[
     ("left", 1, 1),
     ("timeline", 1, 1),
     ("follow", 1, 1),
-    ("report", 1, 1),
     ("lint", 1, usize::MAX),
     ("diff", 2, 2),
     ("plan", 1, usize::MAX),
@@ -59,7 +58,7 @@ fn usage_of(name: &str) -> &'static str {
             }
         }
     }
-    "initview why|status|left|timeline|follow|report|lint|diff|plan ..; see initview --help"
+    "initview why|status|left|timeline|follow|lint|diff|plan ..; see initview --help"
 }
 
 fn usage_line(alloc: Global, usage: &str) -> Result<String, AllocError>

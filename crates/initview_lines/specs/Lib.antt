@@ -2,7 +2,6 @@ pub mod Changes
 pub mod CommonWords
 pub mod Following
 pub mod Happenings
-pub mod Html
 pub mod IdLines
 pub mod Json
 pub mod Left
@@ -14,4 +13,3 @@ pub mod Reloads
 pub mod Rows
 pub mod Outputs
 pub mod Times
-pub mod Troubles

@@ -59,7 +59,7 @@ pub(crate) fn news_alone(happening: &HappeningIn<Global>) -> Option<News>
 }
 
 /// Returns the message for the last happening that the view has seen, if it has one.
-pub(crate) fn news_of(view: &TraceView, happening: &HappeningIn<Global>) -> Option<News>
+fn news_of(view: &TraceView, happening: &HappeningIn<Global>) -> Option<News>
     ensures { (past : List Event) → Viewed view.now (happening.now ∷ past)
         → result ≡ news_of happening.now past }
 {

@@ -9,7 +9,6 @@ mod chart;
 mod clocks;
 mod dimensions;
 mod happenings;
-mod html;
 mod json;
 mod left;
 mod line_sinks;
@@ -26,7 +25,6 @@ mod rows;
 mod svg;
 mod texts;
 mod times;
-mod troubles;
 mod wording;
 mod words;
 
@@ -35,9 +33,7 @@ pub use clocks::Zone;
 pub use happenings::{News, add_happening};
 pub use left::{is_starting, left_lines};
 pub use line_sinks::{LineSink, SinkFault};
-pub use lines::{
-    FileLine, Head, IdRow, Line, Page, Reason, RowFormat, Stopping, WhichRows, text_line,
-};
+pub use lines::{FileLine, Head, IdRow, Line, Reason, RowFormat, Stopping, WhichRows, text_line};
 pub use lint::{Findings, lint_parts};
 pub use own_lines::id_lines;
 pub use part_views::PartView;
@@ -48,5 +44,4 @@ pub use reloads::{law_of_reloads, reload_lines};
 pub use rows::{row_line, status_lines};
 pub use texts::Bytes;
 pub use times::{TimeTaken, add_path_times};
-pub use troubles::{RunReport, Trouble, Troubles};
 pub use wording::words_of;

@@ -7,13 +7,12 @@ use crate::changes::Change;
 use crate::happenings::News;
 use crate::texts::Bytes;
 use crate::times::TimeTaken;
-use crate::troubles::Troubles;
 use init_words::{Act, ChildNumber, Id, Level, Stage};
 use inittab_lint::Warning;
 use inittab_text::LineKind;
 use initview_timeline::Timeline;
 use std::alloc::{AllocError, Global};
-use trace_view::{Row, ViewEnd, Why, Wish};
+use trace_view::{Row, Why, Wish};
 
 /// The format for the states of init and its entries.
 #[derive(Clone, Copy)]
@@ -22,8 +21,6 @@ pub enum RowFormat {
     Lines,
     /// A JSON object per line.
     Json,
-    /// Lines in columns, on the page of a report.
-    Html,
 }
 
 /// The rows of a timeline that are drawn.
@@ -108,16 +105,6 @@ pub enum FileLine {
     NoLine(Id),
 }
 
-/// The content of a report up to the states of init and its entries: the name of the trace, the reason why the view of
-/// it ended, if it did, the happenings that can be faults, and the timeline.
-#[derive(Drop)]
-pub struct Page {
-    pub trace: Bytes,
-    pub stop: Option<ViewEnd>,
-    pub troubles: Troubles,
-    pub timeline: Timeline,
-}
-
 /// A line of an answer, or any other text.
 #[derive(Drop)]
 pub enum Line {
@@ -157,12 +144,6 @@ pub enum Line {
     Chart(u64, WhichRows, Timeline),
     /// Rows of a timeline, as a picture.
     Svg(WhichRows, Timeline),
-    /// The page of a report, up to the states of init and its entries.
-    Page(Page),
-    /// The name of the trace and the version of the program, after the states on a page.
-    PageFoot(Bytes, Bytes),
-    /// The end of the log of an id, on a page.
-    Log(Id, Bytes),
     /// Any text.
     Text(Bytes),
 }

@@ -4,12 +4,12 @@ use crate::changes::Change;
 use crate::chart::add_chart;
 use crate::clocks::Zone;
 use crate::happenings::News;
+use crate::json;
 use crate::lines::{FileLine, Head, IdRow, Line, Reason, RowFormat};
 use crate::phrases::{Value, fill};
 use crate::svg::add_svg;
 use crate::times::TimeTaken;
 use crate::words::put;
-use crate::{html, json};
 use init_words::{Act, ChildNumber, Id, Letter, Level, OrderKind, PowerKind, Stage};
 use initctl_frame::{Cause, HeardRequest};
 use inittab_lint::Warning;
@@ -34,18 +34,7 @@ fn add_line(text: &mut Vec<u8>, alloc: Global, zone: Zone, line: &Line) -> Resul
         Line::Head(RowFormat::Json, head) => json::add_head(text, head),
         Line::Row(RowFormat::Lines, at) => add_row(text, at),
         Line::Row(RowFormat::Json, at) => json::add_row(text, at),
-        Line::Head(RowFormat::Html, head) => {
-            let mut plain = Vec::new(alloc);
-            add_head(&mut plain, zone, head)?;
-            put(text, html::STATUS)?;
-            html::add_html(text, &plain)
-        }
-        Line::Row(RowFormat::Html, at) => {
-            let mut plain = Vec::new(alloc);
-            add_row(&mut plain, at)?;
-            html::add_html(text, &plain)
-        }
-        Line::Left(RowFormat::Lines | RowFormat::Html, id, number) => add_left(text, id, *number),
+        Line::Left(RowFormat::Lines, id, number) => add_left(text, id, *number),
         Line::Left(RowFormat::Json, id, number) => json::add_left(text, id, *number),
         Line::Why(reason) => add_reason(text, reason),
         Line::Advice(stage, act, why) => {
@@ -75,11 +64,6 @@ fn add_line(text: &mut Vec<u8>, alloc: Global, zone: Zone, line: &Line) -> Resul
             add_chart(text, alloc, zone, *width, *which, timeline)
         }
         Line::Svg(which, timeline) => add_svg(text, zone, *which, timeline),
-        Line::Page(page) => html::add_page(text, alloc, zone, page),
-        Line::PageFoot(trace, version) => {
-            html::add_foot(text, trace.as_slice(), version.as_slice())
-        }
-        Line::Log(id, log) => html::add_log(text, id, log.as_slice()),
         Line::Text(bytes) => put(text, bytes.as_slice()),
     }
 }
@@ -544,7 +528,7 @@ fn add_happened(text: &mut Vec<u8>, zone: Zone, time: u64, news: &News) -> Resul
     put(text, b"\n")
 }
 
-pub(crate) fn add_news(text: &mut Vec<u8>, news: &News) -> Result<(), AllocError> {
+fn add_news(text: &mut Vec<u8>, news: &News) -> Result<(), AllocError> {
     match news {
         News::Table(count) => {
             let entries: &[u8] = if *count == 1 { b"entry" } else { b"entries" };

@@ -1,15 +1,11 @@
 //! The words that lines consist of.
 
-ghost use Rattle.std.specs.Prelude.{◌≡◌, ◌++◌, OnOk};
-
 use init_words::{Level, Stage, Status};
 use itoa::Buffer;
 use std::alloc::AllocError;
 
 /// Adds a text.
-pub(crate) fn put(text: &mut Vec<u8>, bytes: &[u8]) -> Result<(), AllocError>
-    ensures { OnOk result (text.new.items ≡ text.old.items ++ bytes.now) }
-{
+pub(crate) fn put(text: &mut Vec<u8>, bytes: &[u8]) -> Result<(), AllocError> {
     text.extend_from_slice(bytes)
 }
 

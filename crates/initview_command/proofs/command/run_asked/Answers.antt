@@ -24,8 +24,3 @@ pub returns-in-Timing : goal.returns-in-Timing
 returns-in-Timing g c =
     rw c.in-Timing.is
     (answer_value c.timing_answer-answer.result, c.timing_answer-answer.ensures, c.write-in-Timing.ensures)
-
-pub returns-in-Report : goal.returns-in-Report
-returns-in-Report g c =
-    rw c.in-Report.is
-    (answer_value c.report_answer-answer.result, c.report_answer-answer.ensures, c.write-in-Report.ensures)
