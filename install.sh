@@ -2,7 +2,7 @@
 # Installs initd, telinit, rclinks, rc and initview, each proved before it is built, with their pages, the completion of
 # bash and fish, the scripts of contrib and the facility files.
 #
-#     ./install.sh [PREFIX]               under PREFIX; /opt/initd where it is left out
+#     ./install.sh [PREFIX]               under PREFIX; default: /opt/initd
 #     ./install.sh --uninstall [PREFIX]   removes what was installed there
 #
 # A program that the gate (.ci/run, by tools/pages) or this script has built from these sources is installed without

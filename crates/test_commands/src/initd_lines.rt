@@ -3,7 +3,7 @@
 
 ghost use Rattle.std.specs.Prelude.{⊤, None, option_and_then};
 
-use crate::rows::{given_host, writer_of};
+use crate::rows::{given_host, or_difference, writer_of};
 use host_calls::Host;
 use host_scripted::MemoryHost;
 use init_words::Memory;
@@ -12,7 +12,7 @@ use initd_options::RunWords;
 use program_io::{ChannelLock, KeptTexts, Reports};
 use std::alloc::{AllocError, Global};
 use std::fs;
-use test_support::{Slow, boxed, calls_of, difference, line_words};
+use test_support::{Slow, boxed, calls_of, line_words};
 use trace_files::OsTraces;
 
 /// A source of one host, which is available again after the turns.
@@ -122,13 +122,18 @@ fn run_difference(rt: &HostRuntime, row: &[&str], out: &mut Slow) -> Option<Stri
     let trace = left_trace(rt);
     let (printed, out) = (out.front_of(printed), out.taken.as_slice());
     let err = err.writer().as_slice();
-    let texts = [
-        ("standard output", out, wanted(out, printed)),
-        ("standard error", err, wanted(err, reported.as_bytes())),
-        ("its end", ended.as_bytes(), end.as_bytes()),
-        ("its trace", trace.as_slice(), traced.as_bytes()),
-    ];
-    difference(alloc, &texts).ok()
+    let told = String::new(alloc);
+    let told = or_difference(alloc, told, "standard output", out, wanted(out, printed))?;
+    let reported = wanted(err, reported.as_bytes());
+    let told = or_difference(alloc, told, "standard error", err, reported)?;
+    let told = or_difference(alloc, told, "its end", ended.as_bytes(), end.as_bytes())?;
+    or_difference(
+        alloc,
+        told,
+        "its trace",
+        trace.as_slice(),
+        traced.as_bytes(),
+    )
 }
 
 /// Returns the first difference between the runs of a row, one with each of its writers, and the row.

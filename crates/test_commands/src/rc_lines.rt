@@ -1,13 +1,13 @@
 //! Command lines of rc, with a scripted host and the folders of a row: the calls that a run makes to its host, and
 //! output that can't be written.
 
-use crate::rows::{given_host, output_of, writer_of};
+use crate::rows::{given_host, or_difference, output_of, writer_of};
 use program_io::Reports;
 use rc_command::{Folders, LevelFiles, run_words};
 use std::alloc::Global;
 use std::io;
 use std::io::ErrorKind;
-use test_support::{calls_of, difference, line_words};
+use test_support::{calls_of, line_words};
 
 /// The scripts in the folders `k/rc3.d` and so on, each after its level. The contracts do not know them.
 #[derive(Drop)]
@@ -79,25 +79,38 @@ pub(crate) fn difference_of(alloc: Global, row: &[&str]) -> Option<String> {
     let folders = RowFolders { scripts };
     let words = line_words(alloc, line.trim_ascii_end()).ok()?;
     let mut lines = writer_of(alloc, writer)?;
-    let mut told = Reports::to(Vec::<u8>::new(alloc));
+    let mut reports = Reports::to(Vec::<u8>::new(alloc));
     let ended = run_words(
-        &mut *host, &folders, &mut level, alloc, words, &mut lines, &mut told,
+        &mut *host,
+        &folders,
+        &mut level,
+        alloc,
+        words,
+        &mut lines,
+        &mut reports,
     );
     let ended = format!(in alloc; "status {ended}\n").ok()?;
     let made = calls_of(alloc, &host)?;
     let held = level.text.unwrap_or(Vec::new(alloc));
     let out = output_of(alloc, "rc", out).ok()?;
-    let (err, reported) = asked_of(told.writer(), err);
-    let texts = [
-        (
-            "standard output",
-            lines.taken.as_slice(),
-            lines.front_of(&out),
-        ),
-        ("standard error", err, reported),
-        ("its end", ended.as_bytes(), status.as_bytes()),
-        ("its calls", made.as_bytes(), calls.as_bytes()),
-        ("the file of the level", held.as_slice(), file.as_bytes()),
-    ];
-    difference(alloc, &texts).ok()
+    let (err, reported) = asked_of(reports.writer(), err);
+    let told = String::new(alloc);
+    let printed = lines.taken.as_slice();
+    let told = or_difference(
+        alloc,
+        told,
+        "standard output",
+        printed,
+        lines.front_of(&out),
+    )?;
+    let told = or_difference(alloc, told, "standard error", err, reported)?;
+    let told = or_difference(alloc, told, "its end", ended.as_bytes(), status.as_bytes())?;
+    let told = or_difference(alloc, told, "its calls", made.as_bytes(), calls.as_bytes())?;
+    or_difference(
+        alloc,
+        told,
+        "the file of the level",
+        held.as_slice(),
+        file.as_bytes(),
+    )
 }

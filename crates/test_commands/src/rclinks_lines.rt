@@ -1,7 +1,7 @@
 //! Command lines of rclinks, with texts and folders in memory, and with writers that fail. Other command lines, and
 //! command lines with real folders, are in tools/pages.d/rclinks-lines and rclinks.
 
-use crate::rows::{output_of, writer_of};
+use crate::rows::{or_difference, output_of, writer_of};
 use init_words::Level;
 use program_io::{KeptTexts, Reports};
 use rc_links::{FolderEntry, LinkAction, LinkChange, is_same};
@@ -9,7 +9,7 @@ use rclinks_command::{LinkFolders, run_words};
 use std::alloc::{AllocError, Global};
 use std::fmt::Write;
 use std::io;
-use test_support::{difference, line_words};
+use test_support::line_words;
 
 pub(crate) const NET: &[u8] =
     b"### BEGIN INIT INFO\n# Provides: net\n# Required-Start: \n# Default-Start: 3\n### END INIT INFO\n";
@@ -162,7 +162,7 @@ pub(crate) fn difference_of(alloc: Global, row: &[&str]) -> Option<String> {
     let mut links = links_of(alloc, before)?;
     let words = line_words(alloc, line.trim_ascii_end()).ok()?;
     let mut lines = writer_of(alloc, writer)?;
-    let mut told = Reports::to(Vec::<u8>::new(alloc));
+    let mut reports = Reports::to(Vec::<u8>::new(alloc));
     let ended = run_words(
         &texts,
         &mut links,
@@ -170,20 +170,27 @@ pub(crate) fn difference_of(alloc: Global, row: &[&str]) -> Option<String> {
         &[],
         words.as_slice(),
         &mut lines,
-        &mut told,
+        &mut reports,
     );
     let ended = format!(in alloc; "status {ended}\n").ok()?;
     let held = held_text(alloc, &links)?;
     let out = output_of(alloc, "rclinks", out).ok()?;
-    let texts = [
-        (
-            "standard output",
-            lines.taken.as_slice(),
-            lines.front_of(&out),
-        ),
-        ("standard error", told.writer().as_slice(), err.as_bytes()),
-        ("its end", ended.as_bytes(), status.as_bytes()),
-        ("the folders", held.as_bytes(), after.as_bytes()),
-    ];
-    difference(alloc, &texts).ok()
+    let told = String::new(alloc);
+    let (printed, reported) = (lines.taken.as_slice(), reports.writer().as_slice());
+    let told = or_difference(
+        alloc,
+        told,
+        "standard output",
+        printed,
+        lines.front_of(&out),
+    )?;
+    let told = or_difference(alloc, told, "standard error", reported, err.as_bytes())?;
+    let told = or_difference(alloc, told, "its end", ended.as_bytes(), status.as_bytes())?;
+    or_difference(
+        alloc,
+        told,
+        "the folders",
+        held.as_bytes(),
+        after.as_bytes(),
+    )
 }

@@ -4,7 +4,7 @@ use command_words::{KIT, VERSION};
 use host_scripted::MemoryHost;
 use std::alloc::{AllocError, Global};
 use std::str;
-use test_support::{Slow, host_of};
+use test_support::{Slow, difference, host_of};
 
 /// Returns the fields of a row as texts.
 pub(crate) fn texts_of<'r>(alloc: Global, fields: &[&'r [u8]]) -> Option<Vec<&'r str>> {
@@ -46,6 +46,20 @@ fn replies_of(alloc: Global, answers: &str) -> Result<String, AllocError> {
         replies.push_str(reply)?;
     }
     Ok(replies)
+}
+
+/// Returns `told`, or if it is empty, the difference between a text and the expected one.
+pub(crate) fn or_difference<'x>(
+    alloc: Global,
+    told: String,
+    what: &'x str,
+    got: &'x [u8],
+    want: &'x [u8],
+) -> Option<String> {
+    if !told.is_empty() {
+        return Some(told);
+    }
+    difference(alloc, &[(what, got, want)]).ok()
 }
 
 /// Returns a host with these answers, one per line.
